@@ -1,0 +1,153 @@
+-- Document 01, "Bus": events, the address counter, stores and fetches.
+-- Assumes nothing.
+use Prim.Native.Nat.{ℕ, _+_, _-_, _*_, _%_}
+use mathlib.Core.Path.{_≡_}
+use mathlib.Core.Bool.{Bool, true, false, cond}
+use mathlib.Core.List.{List}
+use lib.Dec.{eqb, leb, ltb}
+use lib.ListN.{length, getD, set, replicate}
+use Rattle.refusals.specs.declared.Refusal.the-variants.{RamLength, NotAcknowledged}
+use Rattle.refusals.specs.Refusals.{Paper, accepted, refused}
+use Rattle.registers.specs.declared.Registers.{Registers}
+use Rattle.registers.specs.Registers.{stored, fetched}
+use Rattle.bus.specs.declared.Event.{Event}
+use Rattle.bus.specs.declared.Event.the-variants.{Start, Byte, Fetch, Stop}
+use Rattle.bus.specs.declared.State.{State}
+use Rattle.bus.specs.declared.State.the-variants.{Idle, Deaf, Slave, High, Low, Write, Read}
+use Rattle.bus.specs.declared.Bus.{Bus}
+use Rattle.bus.specs.declared.Effect.{Effect}
+use Rattle.bus.specs.declared.Effect.the-variants.{Acknowledge, Ignore, Store, Load}
+use Rattle.bus.specs.declared.Step.{Step}
+use Rattle.bus.specs.declared.BusAnswer.{BusAnswer}
+use Rattle.bus.specs.declared.BusAnswer.the-variants.{Acknowledged, Refused}
+use Rattle.bus.specs.declared.Heard.{Heard}
+
+-- a reset sets the bus to idle and the counter to 0
+abbrev pub freshBus : Bus
+freshBus = record { state = Idle; counter = 0 }
+
+-- a fresh device has 1,024 RAM cells, all zero
+abbrev pub freshRam : List ℕ
+freshRam = replicate 1024 0
+
+-- ---- the state and the counter
+
+-- the address that the counter holds, 0000 to 3FFF
+abbrev pub address : Bus → ℕ
+address b = b .counter % 0x4000
+
+-- the bus waits for something else, and the event is answered so; the counter stays
+abbrev pub goes : Bus → State → Effect → Step
+goes b s e = record { bus = record { state = s; counter = b .counter }; effect = e }
+
+-- the counter goes up by 1, after 3FFF to 0000 (H); the state stays
+abbrev pub steps : Bus → Effect → Step
+steps b e = record { bus = record { state = b .state; counter = (address b + 1) % 0x4000 }; effect = e }
+
+-- only the low byte sets the address counter, to high mod 64 times 256 plus low
+abbrev pub counts : ℕ → ℕ → Step
+counts high low = record { bus = record { state = Write; counter = high % 64 * 256 + low }; effect = Acknowledge }
+
+-- nothing changes, and the event is not acknowledged
+abbrev pub ignores : Bus → Step
+ignores b = goes b (b .state) Ignore
+
+-- a slave address: BA writes, BB reads; any other is not acknowledged, and the device is deaf until start or stop
+abbrev pub slave : Bus → ℕ → Step
+slave b x = cond (eqb x 0xBA) (goes b High Acknowledge) (cond (eqb x 0xBB) (goes b Read Acknowledge) (goes b Deaf Ignore))
+
+-- a byte from the host
+abbrev pub byteAt : State → Bus → ℕ → Step
+byteAt Idle b x = ignores b
+byteAt Deaf b x = ignores b
+byteAt Slave b x = slave b x
+-- next the high then the low byte of the internal address (H)
+byteAt High b x = goes b (Low x) Acknowledge
+byteAt (Low high) b x = counts high x
+-- then each host byte is stored at the counter and acknowledged
+byteAt Write b x = steps b (Store (address b) x)
+byteAt Read b x = ignores b
+
+-- each fetch answers the byte at the counter, and the counter goes up likewise; a fetch while not reading changes nothing
+abbrev pub fetchAt : State → Bus → Step
+fetchAt Idle b = ignores b
+fetchAt Deaf b = ignores b
+fetchAt Slave b = ignores b
+fetchAt High b = ignores b
+fetchAt (Low high) b = ignores b
+fetchAt Write b = ignores b
+fetchAt Read b = steps b (Load (address b))
+
+-- start, in any state: the next host byte is the slave address. Stop: idle
+unfoldable pub step : Bus → Event → Step
+step b Start = goes b Slave Acknowledge
+step b (Byte x) = byteAt (b .state) b x
+step b Fetch = fetchAt (b .state) b
+step b Stop = goes b Idle Acknowledge
+
+-- ---- the address space: cells 0000 to 03FF are RAM, 3FF0 to 3FFF registers
+
+abbrev pub isRam : ℕ → Bool
+isRam a = ltb a 0x400
+
+abbrev pub isRegister : ℕ → Bool
+isRegister a = leb 0x3FF0 a
+
+-- elsewhere (H) a store is acknowledged and dropped
+unfoldable pub ramWith : Effect → List ℕ → List ℕ
+ramWith Acknowledge ram = ram
+ramWith Ignore ram = ram
+ramWith (Store a x) ram = cond (isRam a) (set ram a x) ram
+ramWith (Load a) ram = ram
+
+unfoldable pub registersWith : Effect → Registers → Registers
+registersWith Acknowledge r = r
+registersWith Ignore r = r
+registersWith (Store a x) r = cond (isRegister a) (stored r (a - 0x3FF0) x) r
+registersWith (Load a) r = r
+
+-- elsewhere (H) a fetch answers 0
+abbrev pub byteIn : ℕ → Registers → List ℕ → ℕ
+byteIn a r ram = cond (isRam a) (getD ram a 0) (cond (isRegister a) (fetched r (a - 0x3FF0)) 0)
+
+-- what a store leaves of registers and RAM
+pub record Stores (a x : ℕ) (r : Registers) (m : List ℕ) (r′ : Registers) (m′ : List ℕ) : Type 0 where
+  pub registers : r′ ≡ registersWith (Store a x) r
+  pub ram : m′ ≡ ramWith (Store a x) m
+
+-- the byte given with every acknowledged event but a fetch is 0
+unfoldable pub answerTo : Effect → Registers → List ℕ → BusAnswer
+answerTo Acknowledge r ram = Acknowledged 0
+answerTo Ignore r ram = Refused NotAcknowledged
+answerTo (Store a x) r ram = Acknowledged 0
+answerTo (Load a) r ram = Acknowledged (byteIn a r ram)
+
+-- the paper's numbers for an answer: the refusal and the byte
+abbrev pub busPaper : BusAnswer → Paper
+busPaper (Acknowledged x) = accepted x
+busPaper (Refused r) = refused r
+
+-- ---- a whole event
+
+-- what an event leaves and says
+pub record Hearing : Type 0 where
+  pub bus : Bus
+  pub registers : Registers
+  pub ram : List ℕ
+  pub says : Paper
+
+-- order of refusals: 1, 5
+unfoldable pub hearing : Bus → Registers → List ℕ → Event → Hearing
+hearing b r ram e =
+    cond (eqb (length ram) 1024)
+    (record {
+      bus = step b e .bus;
+      registers = registersWith (step b e .effect) r;
+      ram = ramWith (step b e .effect) ram;
+      says = busPaper (answerTo (step b e .effect) r ram);
+    })
+    (record { bus = b; registers = r; ram = ram; says = refused RamLength })
+
+-- what a call returned and left, in the same form
+abbrev pub heard : Heard → List ℕ → Hearing
+heard h ram = record { bus = h .bus; registers = h .registers; ram = ram; says = busPaper (h .answer) }

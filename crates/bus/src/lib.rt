@@ -1,0 +1,264 @@
+// The two-wire bus: what an event does to the bus, the registers and the lent RAM, and how it is answered.
+ghost use mathlib.Core.Path.{_≡_};
+ghost use lib.ListN.{length};
+ghost use Rattle.bus.specs.Bus.{freshBus, freshRam, goes, steps, slave, byteAt, fetchAt, step, Stores, byteIn, hearing, heard, busPaper};
+use refusals::Refusal;
+use registers::Registers;
+
+const RAM_LENGTH: usize = 1024;
+
+pub enum Event {
+    Start,
+    Byte(u8),
+    Fetch,
+    Stop,
+}
+
+// What the bus waits for.
+pub enum State {
+    // a start
+    Idle,
+    // a start or a stop: the slave address was another's
+    Deaf,
+    // the slave address
+    Slave,
+    // the high byte of the internal address
+    High,
+    // the low byte; the high byte is held
+    Low(u8),
+    // data to store
+    Write,
+    // fetches
+    Read,
+}
+
+pub struct Bus {
+    pub state: State,
+    pub counter: u16,
+}
+
+// What an event asks of the cells.
+pub enum Effect {
+    // acknowledged, and no cell is asked for
+    Acknowledge,
+    // not acknowledged
+    Ignore,
+    // a byte goes to an address
+    Store(u16, u8),
+    // the byte at an address is the answer
+    Load(u16),
+}
+
+pub struct Step {
+    pub bus: Bus,
+    pub effect: Effect,
+}
+
+pub enum BusAnswer {
+    Acknowledged(u8),
+    Refused(Refusal),
+}
+
+pub struct Heard {
+    pub bus: Bus,
+    pub registers: Registers,
+    pub answer: BusAnswer,
+}
+
+// The RAM of a fresh device, to be lent to bus and drawing.
+pub fn fresh_ram() -> [u8; 1024]
+    ensures { λ r. ⌜ r ≡ freshRam ⌝ }
+{
+    [0; 1024]
+}
+
+impl Bus {
+    pub fn fresh() -> Bus
+        ensures { λ r. ⌜ r ≡ freshBus ⌝ }
+    {
+        Bus {
+            state: State::Idle,
+            counter: 0,
+        }
+    }
+
+    // The bus part of an event, apart from registers and RAM, so that only these few bytes go in and out by value.
+    pub fn take(self, event: Event) -> Step
+        ensures { λ r. ⌜ r ≡ step self event ⌝ }
+    {
+        match event {
+            Event::Start => self.goes_to(State::Slave, Effect::Acknowledge),
+            Event::Byte(x) => self.take_byte(x),
+            Event::Fetch => self.take_fetch(),
+            Event::Stop => self.goes_to(State::Idle, Effect::Acknowledge),
+        }
+    }
+
+    fn goes_to(self, state: State, effect: Effect) -> Step
+        ensures { λ r. ⌜ r ≡ goes self state effect ⌝ }
+    {
+        Step {
+            bus: Bus {
+                state: state,
+                counter: self.counter,
+            },
+            effect: effect,
+        }
+    }
+
+    fn steps_on(self, effect: Effect) -> Step
+        ensures { λ r. ⌜ r ≡ steps self effect ⌝ }
+    {
+        let state = self.state;
+        Step {
+            bus: Bus {
+                state: state,
+                counter: (self.counter % 0x4000 + 1) % 0x4000,
+            },
+            effect: effect,
+        }
+    }
+
+    fn take_byte(self, x: u8) -> Step
+        ensures { λ r. ⌜ r ≡ byteAt (self .state) self x ⌝ }
+    {
+        let state = self.state;
+        match state {
+            State::Idle => self.goes_to(state, Effect::Ignore),
+            State::Deaf => self.goes_to(state, Effect::Ignore),
+            State::Slave => self.take_slave(x),
+            State::High => self.goes_to(State::Low(x), Effect::Acknowledge),
+            State::Low(high) => Step {
+                bus: Bus {
+                    state: State::Write,
+                    counter: (high % 64) as u16 * 256 + x as u16,
+                },
+                effect: Effect::Acknowledge,
+            },
+            State::Write => self.steps_on(Effect::Store(self.counter % 0x4000, x)),
+            State::Read => self.goes_to(state, Effect::Ignore),
+        }
+    }
+
+    fn take_slave(self, x: u8) -> Step
+        ensures { λ r. ⌜ r ≡ slave self x ⌝ }
+    {
+        if x == 0xBA {
+            return self.goes_to(State::High, Effect::Acknowledge);
+        }
+        if x == 0xBB {
+            return self.goes_to(State::Read, Effect::Acknowledge);
+        }
+        self.goes_to(State::Deaf, Effect::Ignore)
+    }
+
+    fn take_fetch(self) -> Step
+        ensures { λ r. ⌜ r ≡ fetchAt (self .state) self ⌝ }
+    {
+        let state = self.state;
+        match state {
+            State::Idle => self.goes_to(state, Effect::Ignore),
+            State::Deaf => self.goes_to(state, Effect::Ignore),
+            State::Slave => self.goes_to(state, Effect::Ignore),
+            State::High => self.goes_to(state, Effect::Ignore),
+            State::Low(_) => self.goes_to(state, Effect::Ignore),
+            State::Write => self.goes_to(state, Effect::Ignore),
+            State::Read => self.steps_on(Effect::Load(self.counter % 0x4000)),
+        }
+    }
+}
+
+// One bus event, on the whole of what it can touch. Refusals in the order 1, 5.
+pub fn hear(bus: Bus, registers: Registers, ram: &mut [u8], event: Event) -> Heard
+    ensures { λ r. ⌜ heard r (now (ram .exit)) ≡ hearing bus registers (now (ram .entry)) event ⌝ }
+{
+    if ram.len() != RAM_LENGTH {
+        return Heard {
+            bus: bus,
+            registers: registers,
+            answer: BusAnswer::Refused(Refusal::RamLength),
+        };
+    }
+    let step = bus.take(event);
+    let next = step.bus;
+    let effect = step.effect;
+    match effect {
+        Effect::Acknowledge => Heard {
+            bus: next,
+            registers: registers,
+            answer: BusAnswer::Acknowledged(0),
+        },
+        Effect::Ignore => Heard {
+            bus: next,
+            registers: registers,
+            answer: BusAnswer::Refused(Refusal::NotAcknowledged),
+        },
+        Effect::Store(a, x) => {
+            let kept = store(registers, ram, a, x);
+            Heard {
+                bus: next,
+                registers: kept,
+                answer: BusAnswer::Acknowledged(0),
+            }
+        }
+        Effect::Load(a) => {
+            let byte = load(registers, ram, a);
+            Heard {
+                bus: next,
+                registers: registers,
+                answer: BusAnswer::Acknowledged(byte),
+            }
+        }
+    }
+}
+
+// A byte to an address: a RAM cell, a register, or nothing.
+fn store(registers: Registers, ram: &mut [u8], address: u16, x: u8) -> Registers
+    requires { ⌜ length (now ram) ≡ 1024 ⌝ }
+    ensures { λ r. ⌜ Stores address x registers (now (ram .entry)) r (now (ram .exit)) ⌝ }
+{
+    if address < 0x400 {
+        ram[address as usize] = x;
+        return registers;
+    }
+    if address >= 0x3FF0 {
+        return registers.store((address - 0x3FF0) as usize, x);
+    }
+    registers
+}
+
+// The byte at an address: a RAM cell's, a register's, or 0.
+fn load(registers: Registers, ram: &[u8], address: u16) -> u8
+    requires { ⌜ length (now ram) ≡ 1024 ⌝ }
+    ensures { λ r. ⌜ r ≡ byteIn address registers (now (ram .entry)) ⌝ }
+{
+    if address < 0x400 {
+        return ram[address as usize];
+    }
+    if address >= 0x3FF0 {
+        return registers.fetch((address - 0x3FF0) as usize);
+    }
+    0
+}
+
+impl BusAnswer {
+    // The refusal's number; 0 where the event is acknowledged.
+    pub fn refusal(self) -> u8
+        ensures { λ r. ⌜ r ≡ busPaper self .refusal ⌝ }
+    {
+        match self {
+            BusAnswer::Acknowledged(_) => 0,
+            BusAnswer::Refused(r) => r.number(),
+        }
+    }
+
+    // The byte on the bus.
+    pub fn byte(self) -> u8
+        ensures { λ r. ⌜ r ≡ busPaper self .value ⌝ }
+    {
+        match self {
+            BusAnswer::Acknowledged(x) => x,
+            BusAnswer::Refused(r) => r.value(),
+        }
+    }
+}

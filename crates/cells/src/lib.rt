@@ -1,0 +1,1 @@
+// Programs that read cells of the RAM. This crate has definitions only: see specs/Reading.antt.

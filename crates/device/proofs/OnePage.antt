@@ -1,0 +1,272 @@
+-- The proof of condition 3 (specs/OnePage.antt): a quiet event is pushed past each later draw and question, one at a time.
+-- Assumes nothing.
+use Prim.Native.Nat.{ℕ, zero, suc, _+_, _-_, _<_}
+use mathlib.Core.Path.{_≡_, refl, sym, ap, ap₂, _∙_, subst}
+use mathlib.Core.Bool.{Bool, true, false, not, cond, true≢false}
+use mathlib.Core.List.{List, [], _∷_, _++_}
+use native.Mathlib.Numerals.{sub-one}
+use lib.Dec.{T, eqb, leb, ltb}
+use lib.ListN.{length, drop}
+use Rattle.cells.specs.Reading.{Reading, done, bind, value, cells, among, Alike}
+use Rattle.cells.proofs.Laws.{cells-bind, value-alike, cells-alike, alike-left, alike-right}
+use Rattle.refusals.specs.declared.Refusal.{Refusal}
+use Rattle.refusals.specs.declared.Refusal.the-variants.{RamLength, FontLength, LineLength, NoLine, CellRange}
+use Rattle.refusals.specs.Refusals.{accepted, refused}
+use Rattle.registers.specs.declared.Settings.{Settings}
+use Rattle.registers.specs.Registers.{settingsOf}
+use Rattle.raster.specs.Raster.{widthOf}
+use Rattle.bus.specs.declared.Event.{Event}
+use Rattle.bus.proofs.Laws.{hearing-length}
+use Rattle.walk.specs.declared.Walk.{Walk}
+use Rattle.line.specs.Line.{Scanned, scan, paint}
+use Rattle.device.specs.declared.Device.{Device}
+use Rattle.device.specs.declared.Frame.{Frame}
+use Rattle.device.specs.Device.{Hears, hears, Draws, draws, nextScan, pixelsOf, lineOn, lineWidth, notDrawn, remaining, cellsLeft, asks}
+use Rattle.device.specs.OnePage.{Call, draw, ask, event, State, Answer, drawn, asked, heard, answer, after, Entry, log, end, isEvent, keep, eventsOf, othersOf, Quiet, QuietCall, QuietRun, SameRuns, OnePage}
+
+-- ---- the remaining lines: the next one, then the others
+
+remaining-more : (s : Settings) (n : ℕ) (w : Walk) → T (not (eqb n 0))
+    → remaining s n w ≡ bind (scan s w) (λ x. remaining s (n - 1) (x .walk))
+unfolding remaining
+remaining-more s zero w t = absurd t
+remaining-more s (suc n) w t =
+    ap (λ (m : ℕ). bind (scan s w) (λ x. remaining s m (x .walk))) (sym (sub-one (suc n)))
+
+-- the cells of the remaining lines are those of the next line, and then those of the lines after it
+cellsLeft-more : (d : Device) (ram : List ℕ) → T (not (eqb (d .frame .left) 0))
+    → cellsLeft d ram ≡ cells ram (nextScan d) ++ cellsLeft (lineOn d ram) ram
+unfolding cellsLeft lineOn
+cellsLeft-more d ram t =
+    ap (cells ram) (remaining-more (settingsOf (d .registers)) (d .frame .left) (d .frame .walk) t)
+    ∙ cells-bind ram (nextScan d) (λ x. remaining (settingsOf (d .registers)) (d .frame .left - 1) (x .walk))
+
+-- ---- a draw after a quiet event
+
+-- the order of a draw's refusals
+order : Bool → Bool → Bool → Bool → Device → List ℕ → Draws → Draws
+order ramOk fontOk noLine lineOk d line ok =
+    cond ramOk
+    (cond fontOk (cond noLine (notDrawn d line NoLine) (cond lineOk ok (notDrawn d line LineLength))) (notDrawn d line FontLength))
+    (notDrawn d line RamLength)
+
+accept : Device → List ℕ → List ℕ → List ℕ → Draws
+accept d ram font line =
+    record {
+      device = lineOn d ram;
+      line = pixelsOf d ram font ++ drop (lineWidth d) line;
+      says = accepted (length (cells ram (nextScan d)));
+    }
+
+-- a draw, with the event made after it
+late : List ℕ → Event → Draws → Draws
+late ram e x = record { device = hears (x .device) ram e .device; line = x .line; says = x .says }
+
+module _ (d : Device) (ram : List ℕ) (e : Event)
+    (same : settingsOf (hears d ram e .device .registers) ≡ settingsOf (d .registers))
+    (alike : Alike (cellsLeft d ram) ram (hears d ram e .ram)) where
+  -- the next line is the same program, and reads and finds the same
+  same-scan : nextScan (hears d ram e .device) ≡ nextScan d
+  unfolding hears
+  same-scan = ap (λ (x : Settings). scan x (d .frame .walk)) same
+
+  alike-line : T (not (eqb (d .frame .left) 0)) → Alike (cells ram (nextScan d)) ram (hears d ram e .ram)
+  alike-line t =
+      alike-left (cells ram (nextScan d)) (cellsLeft (lineOn d ram) ram) ram (hears d ram e .ram)
+      (subst (λ (l : List ℕ). Alike l ram (hears d ram e .ram)) (cellsLeft-more d ram t) alike)
+
+  alike-later : T (not (eqb (d .frame .left) 0)) → Alike (cellsLeft (lineOn d ram) ram) ram (hears d ram e .ram)
+  alike-later t =
+      alike-right (cells ram (nextScan d)) (cellsLeft (lineOn d ram) ram) ram (hears d ram e .ram)
+      (subst (λ (l : List ℕ). Alike l ram (hears d ram e .ram)) (cellsLeft-more d ram t) alike)
+
+  same-value : T (not (eqb (d .frame .left) 0)) → value (hears d ram e .ram) (nextScan (hears d ram e .device)) ≡ value ram (nextScan d)
+  same-value t =
+      ap (value (hears d ram e .ram)) same-scan ∙ value-alike ram (hears d ram e .ram) (nextScan d) (alike-line t)
+
+  same-cells : T (not (eqb (d .frame .left) 0)) → cells (hears d ram e .ram) (nextScan (hears d ram e .device)) ≡ cells ram (nextScan d)
+  same-cells t =
+      ap (cells (hears d ram e .ram)) same-scan ∙ cells-alike ram (hears d ram e .ram) (nextScan d) (alike-line t)
+
+  same-accept : (font line : List ℕ) → T (not (eqb (d .frame .left) 0))
+      → accept (hears d ram e .device) (hears d ram e .ram) font line ≡ late ram e (accept d ram font line)
+  unfolding accept late lineOn pixelsOf hears
+  same-accept font line t =
+      λ i.
+      record {
+        device =
+            record {
+              bus = hears d ram e .device .bus;
+              registers = hears d ram e .device .registers;
+              frame = record { left = d .frame .left - 1; number = d .frame .number; walk = same-value t i .walk };
+              next = d .next;
+            };
+        line = paint (same i) font (d .frame .number) (same-value t i .row) ++ drop (widthOf (same i .ld)) line;
+        says = accepted (length (same-cells t i));
+      }
+
+  -- whatever the draw's tests find, the draw after the event is the draw before it, with the event made after
+  same-order : (font line : List ℕ) (ramOk fontOk noLine lineOk : Bool) → (T (not noLine) → T (not (eqb (d .frame .left) 0)))
+      → order ramOk fontOk noLine lineOk (hears d ram e .device) line (accept (hears d ram e .device) (hears d ram e .ram) font line)
+      ≡ late ram e (order ramOk fontOk noLine lineOk d line (accept d ram font line))
+  unfolding order late
+  same-order font line false fontOk noLine lineOk h = refl
+  same-order font line true false noLine lineOk h = refl
+  same-order font line true true true lineOk h = refl
+  same-order font line true true false false h = refl
+  same-order font line true true false true h = same-accept font line (h tt)
+
+  same-draw : (font line : List ℕ) → draws (hears d ram e .device) (hears d ram e .ram) font line ≡ late ram e (draws d ram font line)
+  unfolding draws order accept hears
+  same-draw font line =
+      ap₂ (λ (n w : ℕ).
+      order (eqb n 1024) (eqb (length font) 4608) (eqb (d .frame .left) 0) (leb w (length line)) (hears d ram e .device) line
+      (accept (hears d ram e .device) (hears d ram e .ram) font line))
+      (hearing-length (d .bus) (d .registers) ram e) (ap (λ (x : Settings). widthOf (x .ld)) same)
+      ∙ same-order font line (eqb (length ram) 1024) (eqb (length font) 4608) (eqb (d .frame .left) 0) (leb (lineWidth d) (length line)) (λ t. t)
+
+  -- the remaining lines read the same cells, so the cell question is answered alike
+  same-left : cellsLeft (hears d ram e .device) (hears d ram e .ram) ≡ cellsLeft d ram
+  unfolding cellsLeft hears
+  same-left =
+      ap (λ (x : Settings). cells (hears d ram e .ram) (remaining x (d .frame .left) (d .frame .walk))) same
+      ∙ cells-alike ram (hears d ram e .ram) (remaining (settingsOf (d .registers)) (d .frame .left) (d .frame .walk)) alike
+
+  same-ask : (c : ℕ) → asks (hears d ram e .device) (hears d ram e .ram) c ≡ asks d ram c
+  unfolding asks hears
+  same-ask c =
+      ap₂ (λ (n : ℕ) (l : List ℕ).
+      cond (eqb n 1024) (cond (ltb c 1024) (accepted (cond (among c l) 1 0)) (refused CellRange)) (refused RamLength))
+      (hearing-length (d .bus) (d .registers) ram e) same-left
+
+-- what holds of a refused draw and of an accepted one holds of a draw
+module _ (d : Device) (ram font line : List ℕ) (P : Draws → Type 0) (no-draw : (r : Refusal) → P (notDrawn d line r)) where
+  by-order : (ramOk fontOk noLine lineOk : Bool) → (T (not noLine) → P (accept d ram font line))
+      → P (order ramOk fontOk noLine lineOk d line (accept d ram font line))
+  unfolding order
+  by-order false fontOk noLine lineOk h = no-draw RamLength
+  by-order true false noLine lineOk h = no-draw FontLength
+  by-order true true true lineOk h = no-draw NoLine
+  by-order true true false false h = no-draw LineLength
+  by-order true true false true h = h tt
+
+  by-draw : (T (not (eqb (d .frame .left) 0)) → P (accept d ram font line)) → P (draws d ram font line)
+  unfolding draws order accept
+  by-draw h = by-order (eqb (length ram) 1024) (eqb (length font) 4608) (eqb (d .frame .left) 0) (leb (lineWidth d) (length line)) h
+
+-- ---- a quiet event and a later draw or question
+
+-- the event stays quiet
+quiet-on : (font : List ℕ) (s : State) (e : Event) (c : Call) → isEvent c ≡ false → Quiet s e → Quiet (after font s c) e
+unfolding after isEvent
+quiet-on font s e (draw line) o q =
+    by-draw (s .device) (s .ram) font line (λ (x : Draws). Quiet (record { device = x .device; ram = s .ram }) e)
+    (λ r. q)
+    (unfold accept hears lineOn in λ t. record { cells = alike-later (s .device) (s .ram) e (q .settings) (q .cells) t; settings = q .settings })
+quiet-on font s e (ask cell) o q = q
+quiet-on font s e (event x) o q = absurd (true≢false o)
+
+-- the event is answered as before, and leaves the same RAM
+same-hears : (font : List ℕ) (s : State) (e : Event) (line : List ℕ)
+    → (hears (draws (s .device) (s .ram) font line .device) (s .ram) e .says ≡ hears (s .device) (s .ram) e .says)
+    × (hears (draws (s .device) (s .ram) font line .device) (s .ram) e .ram ≡ hears (s .device) (s .ram) e .ram)
+same-hears font s e line =
+    by-draw (s .device) (s .ram) font line
+    (λ (x : Draws).
+    (hears (x .device) (s .ram) e .says ≡ hears (s .device) (s .ram) e .says)
+    × (hears (x .device) (s .ram) e .ram ≡ hears (s .device) (s .ram) e .ram))
+    (λ r. (refl, refl))
+    (unfold accept hears lineOn in λ t. (refl, refl))
+
+event-answer : (font : List ℕ) (s : State) (e : Event) (c : Call) → isEvent c ≡ false
+    → answer font (after font s c) (event e) ≡ answer font s (event e)
+unfolding answer after isEvent
+event-answer font s e (draw line) o = ap heard (same-hears font s e line .0)
+event-answer font s e (ask cell) o = refl
+event-answer font s e (event x) o = absurd (true≢false o)
+
+-- the draw or question is answered as before the event
+other-answer : (font : List ℕ) (s : State) (e : Event) (c : Call) → isEvent c ≡ false → Quiet s e
+    → answer font (after font s (event e)) c ≡ answer font s c
+unfolding answer after isEvent late
+other-answer font s e (draw line) o q =
+    ap (λ (x : Draws). drawn (x .says) (x .line)) (same-draw (s .device) (s .ram) e (q .settings) (q .cells) font line)
+other-answer font s e (ask cell) o q = ap asked (same-ask (s .device) (s .ram) e (q .settings) (q .cells) cell)
+other-answer font s e (event x) o q = absurd (true≢false o)
+
+-- and the two calls leave the same state in either order
+either-way : (font : List ℕ) (s : State) (e : Event) (c : Call) → isEvent c ≡ false → Quiet s e
+    → after font (after font s (event e)) c ≡ after font (after font s c) (event e)
+unfolding after isEvent late
+either-way font s e (draw line) o q =
+    λ i.
+    record {
+      device = same-draw (s .device) (s .ram) e (q .settings) (q .cells) font line i .device;
+      ram = sym (same-hears font s e line .1) i;
+    }
+either-way font s e (ask cell) o q = refl
+either-way font s e (event x) o q = absurd (true≢false o)
+
+-- ---- a quiet event and all later draws and questions
+
+-- a list with no event in it
+data Others : List Call → Type 0 where
+  none : Others []
+  more : {c : Call} {os : List Call} → isEvent c ≡ false → Others os → Others (c ∷ os)
+
+others-of : (cs : List Call) → Others (othersOf cs)
+unfolding keep isEvent
+others-of [] = none
+others-of (draw line ∷ cs) = more refl (others-of cs)
+others-of (ask cell ∷ cs) = more refl (others-of cs)
+others-of (event e ∷ cs) = others-of cs
+
+-- the event made before them or after them: the same answers, the same end, and the event's own answer
+record Late (font : List ℕ) (s : State) (e : Event) (os : List Call) : Type 0 where
+  answers : log font (after font s (event e)) os ≡ log font s os
+  ends : end font (after font s (event e)) os ≡ after font (end font s os) (event e)
+  own : answer font (end font s os) (event e) ≡ answer font s (event e)
+
+made-late : (font : List ℕ) (s : State) (e : Event) {os : List Call} → Others os → Quiet s e → Late font s e os
+unfolding log end
+made-late font s e none q = record { answers = refl; ends = refl; own = refl }
+made-late font s e (more {c = c} {os = os} o rest) q =
+    let ih : Late font (after font s c) e os = made-late font (after font s c) e rest (quiet-on font s e c o q) in
+    record {
+      answers =
+          ap₂ (λ (a : Answer) (t : State). (record { call = c; answer = a }) ∷ log font t os)
+          (other-answer font s e c o q) (either-way font s e c o q)
+          ∙ ap (λ (l : List Entry). (record { call = c; answer = answer font s c }) ∷ l) (ih .answers);
+      ends = ap (λ (t : State). end font t os) (either-way font s e c o q) ∙ ih .ends;
+      own = ih .own ∙ event-answer font s e c o;
+    }
+
+-- ---- condition 3
+
+pub one-page : OnePage
+unfolding QuietRun QuietCall log end keep isEvent
+one-page font s [] q = record { others = refl; events = refl; state = refl }
+one-page font s (draw line ∷ cs) q =
+    let ih : SameRuns font (after font s (draw line)) cs = one-page font (after font s (draw line)) cs (q .1) in
+    record {
+      others = ap (λ (l : List Entry). (record { call = draw line; answer = answer font s (draw line) }) ∷ l) (ih .others);
+      events = ih .events;
+      state = ih .state;
+    }
+one-page font s (ask cell ∷ cs) q =
+    let ih : SameRuns font (after font s (ask cell)) cs = one-page font (after font s (ask cell)) cs (q .1) in
+    record {
+      others = ap (λ (l : List Entry). (record { call = ask cell; answer = answer font s (ask cell) }) ∷ l) (ih .others);
+      events = ih .events;
+      state = ih .state;
+    }
+one-page font s (event e ∷ cs) q =
+    let ih : SameRuns font (after font s (event e)) cs = one-page font (after font s (event e)) cs (q .1) in
+    let l : Late font s e (othersOf cs) = made-late font s e (others-of cs) (q .0) in
+    record {
+      others = ih .others ∙ l .answers;
+      events =
+          ap₂ (λ (a : Answer) (es : List Entry). (record { call = event e; answer = a }) ∷ es)
+          (sym (l .own)) (ih .events ∙ ap (λ (t : State). log font t (eventsOf cs)) (l .ends));
+      state = ih .state ∙ ap (λ (t : State). end font t (eventsOf cs)) (l .ends);
+    }

@@ -1,0 +1,1 @@
+// Character codes and glyphs: which two bytes a code shows in a slice.

@@ -1,0 +1,1 @@
+// One scan line: what it reads, and its pixels.

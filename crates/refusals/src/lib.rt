@@ -1,0 +1,55 @@
+// The refusals of document 01's table, each with its number.
+ghost use mathlib.Core.Path.{_≡_};
+ghost use Rattle.refusals.specs.Refusals.{numberOf, valueIn};
+
+pub enum Refusal {
+    // 1: the lent RAM is not 1,024 bytes
+    RamLength,
+    // 2: the font is not 4,608 bytes
+    FontLength,
+    // 3: the line buffer is shorter than the line
+    LineLength,
+    // 4: no frame, or all its lines drawn
+    NoLine,
+    // 5: the event is not acknowledged
+    NotAcknowledged,
+    // 6: frame lines 0 or above 2,048
+    FrameLines,
+    // 7: bench input not 5,650 bytes
+    BenchLength,
+    // 8: the cell asked about is 1,024 or above
+    CellRange,
+}
+
+impl Refusal {
+    pub fn number(self) -> u8
+        ensures { λ r. ⌜ r ≡ numberOf self ⌝ }
+    {
+        match self {
+            Refusal::RamLength => 1,
+            Refusal::FontLength => 2,
+            Refusal::LineLength => 3,
+            Refusal::NoLine => 4,
+            Refusal::NotAcknowledged => 5,
+            Refusal::FrameLines => 6,
+            Refusal::BenchLength => 7,
+            Refusal::CellRange => 8,
+        }
+    }
+
+    // The number beside a refusal: 255 for the byte of 5, else 0.
+    pub fn value(self) -> u8
+        ensures { λ r. ⌜ r ≡ valueIn self ⌝ }
+    {
+        match self {
+            Refusal::RamLength => 0,
+            Refusal::FontLength => 0,
+            Refusal::LineLength => 0,
+            Refusal::NoLine => 0,
+            Refusal::NotAcknowledged => 255,
+            Refusal::FrameLines => 0,
+            Refusal::BenchLength => 0,
+            Refusal::CellRange => 0,
+        }
+    }
+}

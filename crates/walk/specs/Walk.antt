@@ -1,0 +1,57 @@
+-- Document 01, "Walk of a frame": descriptors and strips, line by line.
+-- Assumes nothing.
+use Prim.Native.Nat.{ℕ, _+_, _-_, _*_, _/_, _%_, max}
+use mathlib.Core.Bool.{Bool, true, false, cond}
+use lib.Dec.{eqb, leb}
+use Rattle.cells.specs.Reading.{Reading, done, read, bind, then}
+use Rattle.raster.specs.Raster.{stripLines}
+use Rattle.walk.specs.declared.Strip.{Strip}
+use Rattle.walk.specs.declared.Strip.the-variants.{Spacing, Characters}
+use Rattle.walk.specs.declared.Walk.{Walk}
+
+-- two bytes at an even address; addresses wrap at 1,024 (H)
+abbrev pub even : ℕ → ℕ
+even a = a / 2 % 512 * 2
+
+-- the address goes up by 2 and wraps at 1,024 (H)
+abbrev pub next : ℕ → ℕ
+next a = even (a + 2)
+
+-- a frame start sets the descriptor address to P times 64; the first line reads the first descriptor
+unfoldable pub walkFrom : ℕ → Walk
+walkFrom p = record { descriptor = p * 64; strip = Spacing 0 }
+
+-- SL or CH of 0 is taken as 1 (H)
+abbrev pub atLeastOne : ℕ → ℕ
+atLeastOne n = max 1 n
+
+-- a descriptor, low byte first. High bit 7 clear: spacing, the low byte is SL. High bit 7 set: characters, bit 6 is DE,
+-- bit 5 ZY, bits 1 and 0 with the low byte give the code address, its lowest bit taken as 0 (H). CH is the one given
+unfoldable pub stripOf : ℕ → ℕ → ℕ → Strip
+stripOf ch low high =
+    cond (eqb (high / 128 % 2) 0)
+    (Spacing (atLeastOne low))
+    (Characters (even (high % 4 * 256 + low)) (atLeastOne ch) (eqb (high / 32 % 2) 1) (eqb (high / 64 % 2) 1) (record { 0 = 0 }))
+
+-- a strip that has no line left
+unfoldable pub over : Strip → Bool
+over (Spacing left) = eqb left 0
+over (Characters address height zoom enabled line) = leb (stripLines height zoom) (line .0)
+
+-- a descriptor is read at the first line of its strip, and CH is taken there
+unfoldable pub begun : ℕ → Walk → Reading Walk
+begun ch w =
+    cond (over (w .strip))
+    (read (even (w .descriptor)) λ low.
+    read (even (w .descriptor) + 1) λ high.
+    done (record { descriptor = next (even (w .descriptor)); strip = stripOf ch low high }))
+    (done w)
+
+-- the strip at its next line
+unfoldable pub advanced : Strip → Strip
+advanced (Spacing left) = Spacing (left - 1)
+advanced (Characters address height zoom enabled line) = Characters address height zoom enabled (record { 0 = line .0 + 1 })
+
+-- the walk at the frame's next line: the strip on screen, and its line
+unfoldable pub nextLine : ℕ → Walk → Reading Walk
+nextLine ch w = then (λ b. record { descriptor = b .descriptor; strip = advanced (b .strip) }) (begun ch w)
