@@ -1,0 +1,124 @@
+-- What a reading program can do over any RAM: the answers that it can give, the cells that it can read, and how many.
+-- Assumes nothing.
+use Prim.Native.Nat.{ℕ, zero, suc, _+_, _≤_, _<_, zero-le, suc-le-suc}
+use mathlib.Core.Path.{_≡_, refl, sym, subst}
+use mathlib.Core.Bool.{Bool, true, false, cond, _||_}
+use mathlib.Core.List.{List, [], _∷_}
+use native.Mathlib.Nat.{suc-add, le-of-suc-le-suc, not-suc-le-zero}
+use native.Mathlib.Omega.{arith}
+use lib.Dec.{T, eqb, eqb→eq}
+use lib.ListN.{getD, length}
+use Rattle.cells.specs.Reading.{Reading, done, read, bind, then, value, cells, among}
+
+-- every answer has P
+unfoldable pub Gives : {A : Type 0} → (A → Type 0) → Reading A → Type 0
+Gives P (done a) = P a
+Gives P (read c k) = (x : ℕ) → Gives P (k x)
+
+-- every cell read is below n
+unfoldable pub Within : {A : Type 0} → ℕ → Reading A → Type 0
+Within n (done a) = Unit
+Within n (read c k) = (c < n) × ((x : ℕ) → Within n (k x))
+
+-- at most n cells are read
+unfoldable pub AtMost : {A : Type 0} → ℕ → Reading A → Type 0
+AtMost n (done a) = Unit
+AtMost zero (read c k) = ⊥
+AtMost (suc n) (read c k) = (x : ℕ) → AtMost n (k x)
+
+-- ---- over one RAM
+
+pub gives-value : {A : Type 0} (P : A → Type 0) (ram : List ℕ) (p : Reading A) → Gives P p → P (value ram p)
+unfolding Gives value
+gives-value P ram (done a) g = g
+gives-value P ram (read c k) g = gives-value P ram (k (getD ram c 0)) (g (getD ram c 0))
+
+among-first : (n c x : ℕ) (xs : List ℕ) → x < n → (T (among c xs) → c < n) → T (among c (x ∷ xs)) → c < n
+unfolding among
+among-first n c x xs h f t = by (eqb c x) refl t
+  where
+    by : (b : Bool) → eqb c x ≡ b → T (b || among c xs) → c < n
+    by true e t = subst (λ (m : ℕ). m < n) (sym (eqb→eq c x (subst T (sym e) tt))) h
+    by false e t = f t
+
+pub within-cells : {A : Type 0} (n : ℕ) (ram : List ℕ) (p : Reading A) → Within n p → (c : ℕ) → T (among c (cells ram p)) → c < n
+unfolding Within cells
+within-cells n ram (done a) w c t = absurd (unfold among in t)
+within-cells n ram (read x k) w c t = among-first n c x (cells ram (k (getD ram x 0))) (w .0) (within-cells n ram (k (getD ram x 0)) (w .1 (getD ram x 0)) c) t
+
+pub atMost-length : {A : Type 0} (n : ℕ) (ram : List ℕ) (p : Reading A) → AtMost n p → length (cells ram p) ≤ n
+unfolding AtMost cells
+atMost-length n ram (done a) m = zero-le
+atMost-length zero ram (read c k) m = absurd m
+atMost-length (suc n) ram (read c k) m = suc-le-suc (atMost-length n ram (k (getD ram c 0)) (m (getD ram c 0)))
+
+-- ---- a program that reads nothing
+
+pub within-done : {A : Type 0} (n : ℕ) (a : A) → Within n (done a)
+unfolding Within
+within-done n a = tt
+
+pub atMost-done : {A : Type 0} (n : ℕ) (a : A) → AtMost n (done a)
+unfolding AtMost
+atMost-done n a = tt
+
+-- ---- one program after another
+
+pub gives-bind : {A B : Type 0} (P : A → Type 0) (Q : B → Type 0) (p : Reading A) (f : A → Reading B)
+    → Gives P p → ((a : A) → P a → Gives Q (f a)) → Gives Q (bind p f)
+unfolding Gives bind
+gives-bind P Q (done a) f g h = h a g
+gives-bind P Q (read c k) f g h = λ x. gives-bind P Q (k x) f (g x) h
+
+pub gives-then : {A B : Type 0} (P : A → Type 0) (Q : B → Type 0) (f : A → B) (p : Reading A)
+    → Gives P p → ((a : A) → P a → Q (f a)) → Gives Q (then f p)
+unfolding Gives then
+gives-then P Q f (done a) g h = h a g
+gives-then P Q f (read c k) g h = λ x. gives-then P Q f (k x) (g x) h
+
+pub gives-all : {A : Type 0} (P : A → Type 0) → ((a : A) → P a) → (p : Reading A) → Gives P p
+unfolding Gives
+gives-all P h (done a) = h a
+gives-all P h (read c k) = λ x. gives-all P h (k x)
+
+pub within-bind : {A B : Type 0} (P : A → Type 0) (n : ℕ) (p : Reading A) (f : A → Reading B)
+    → Gives P p → Within n p → ((a : A) → P a → Within n (f a)) → Within n (bind p f)
+unfolding Gives Within bind
+within-bind P n (done a) f g w h = h a g
+within-bind P n (read c k) f g w h = (w .0, λ x. within-bind P n (k x) f (g x) (w .1 x) h)
+
+pub within-then : {A B : Type 0} (n : ℕ) (f : A → B) (p : Reading A) → Within n p → Within n (then f p)
+unfolding Within then
+within-then n f (done a) w = tt
+within-then n f (read c k) w = (w .0, λ x. within-then n f (k x) (w .1 x))
+
+pub atMost-more : {A : Type 0} (n m : ℕ) (p : Reading A) → n ≤ m → AtMost n p → AtMost m p
+unfolding AtMost
+atMost-more n m (done a) h w = tt
+atMost-more zero m (read c k) h w = absurd w
+atMost-more (suc n) zero (read c k) h w = absurd (not-suc-le-zero h)
+atMost-more (suc n) (suc m) (read c k) h w = λ x. atMost-more n m (k x) (le-of-suc-le-suc h) (w x)
+
+pub atMost-bind : {A B : Type 0} (n m : ℕ) (p : Reading A) (f : A → Reading B)
+    → AtMost n p → ((a : A) → AtMost m (f a)) → AtMost (n + m) (bind p f)
+unfolding AtMost bind
+atMost-bind n m (done a) f w h = atMost-more m (n + m) (f a) (omega arith) (h a)
+atMost-bind zero m (read c k) f w h = absurd w
+atMost-bind (suc n) m (read c k) f w h =
+    rw (suc-add n m) (λ x. atMost-bind n m (k x) f (w x) h)
+
+pub atMost-then : {A B : Type 0} (n : ℕ) (f : A → B) (p : Reading A) → AtMost n p → AtMost n (then f p)
+unfolding AtMost then
+atMost-then n f (done a) w = tt
+atMost-then zero f (read c k) w = absurd w
+atMost-then (suc n) f (read c k) w = λ x. atMost-then n f (k x) (w x)
+
+-- ---- one of two programs, by a test
+
+pub atMost-cond : {A : Type 0} (n : ℕ) (t : Bool) (p q : Reading A) → AtMost n p → AtMost n q → AtMost n (cond t p q)
+atMost-cond n true p q w v = w
+atMost-cond n false p q w v = v
+
+pub within-cond : {A : Type 0} (n : ℕ) (t : Bool) (p q : Reading A) → Within n p → Within n q → Within n (cond t p q)
+within-cond n true p q w v = w
+within-cond n false p q w v = v

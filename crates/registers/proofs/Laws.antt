@@ -1,0 +1,100 @@
+-- The laws of the registers: the ranges of the settings, and that unused bits read 0.
+-- Assumes nothing.
+use Prim.Native.Nat.{ℕ, zero, suc, _+_, _*_, _/_, _%_, _≤_, _<_, min}
+use mathlib.Core.Path.{_≡_, sym, ap, _∙_, subst}
+use mathlib.Core.Bool.{Bool, true, false, _&&_}
+use mathlib.Core.List.{List, [], _∷_}
+use native.Mathlib.Nat.{le-refl}
+use native.Mathlib.Decide.{decLt, ℕ-discrete}
+use native.Mathlib.Omega.{arith}
+use lib.Dec.{T, eqb, eqb→eq}
+use lib.ListN.{getD, set, length}
+use lib.Seq.{getD-set-same, getD-set-other, set-out}
+use lib.Bits.{bitAnd, and-step, and-zero-l}
+use Rattle.registers.specs.declared.Registers.{Registers}
+use Rattle.registers.specs.Registers.{kept, freshRegisters, stored, fetched, settingsOf, pageOf}
+
+-- ---- ranges
+
+pub ld-bound : (r : Registers) → settingsOf r .ld < 64
+unfolding settingsOf
+ld-bound r = omega arith
+
+pub ch-bound : (r : Registers) → settingsOf r .ch < 64
+unfolding settingsOf
+ch-bound r = omega arith
+
+pub fbk-bound : (r : Registers) → settingsOf r .fbk < 2
+unfolding settingsOf
+fbk-bound r = omega arith
+
+pub fl-bound : (r : Registers) → settingsOf r .fl < 4
+unfolding settingsOf
+fl-bound r = omega arith
+
+pub page-bound : (r : Registers) → pageOf r < 8
+page-bound r = omega arith
+
+-- ---- unused bits read 0
+
+half : (x y a m : ℕ) → x ≡ y * 2 + min (a % 2) (m % 2) → x / 2 ≡ y
+half x y a m e = omega arith
+
+whole : (x y y′ a m : ℕ) → x ≡ y * 2 + min (a % 2) (m % 2) → y′ ≡ y → y′ * 2 + min (x % 2) (m % 2) ≡ x
+whole x y y′ a m e q = omega arith
+
+-- a mask twice is a mask once
+and-twice : (k a m : ℕ) → a ≤ k → bitAnd (bitAnd a m) m ≡ bitAnd a m
+and-twice zero a m h =
+    let z : a ≡ 0 = omega arith in
+    subst (λ (n : ℕ). bitAnd (bitAnd n m) m ≡ bitAnd n m) (sym z) (ap (λ (n : ℕ). bitAnd n m) (and-zero-l m))
+and-twice (suc k) a m h =
+    let e : bitAnd a m ≡ bitAnd (a / 2) (m / 2) * 2 + min (a % 2) (m % 2) = and-step a m in
+    and-step (bitAnd a m) m
+    ∙ ap (λ (q : ℕ). bitAnd q (m / 2) * 2 + min (bitAnd a m % 2) (m % 2)) (half (bitAnd a m) (bitAnd (a / 2) (m / 2)) a m e)
+    ∙ whole (bitAnd a m) (bitAnd (a / 2) (m / 2)) (bitAnd (bitAnd (a / 2) (m / 2)) (m / 2)) a m e (and-twice k (a / 2) (m / 2) (omega arith))
+
+-- each register holds kept bits only, so its unused bits read 0
+unfoldable pub Masked : Registers → Type 0
+Masked r = (i : ℕ) → bitAnd (fetched r i) (getD kept (i % 16) 0) ≡ fetched r i
+
+stored-at : (l : List ℕ) (j b i : ℕ) → bitAnd (getD l i 0) (getD kept i 0) ≡ getD l i 0
+    → bitAnd (getD (set l j (bitAnd b (getD kept j 0))) i 0) (getD kept i 0) ≡ getD (set l j (bitAnd b (getD kept j 0))) i 0
+stored-at l j b i h = by (ℕ-discrete i j) (decLt j (length l))
+  where
+    after : List ℕ
+    after = set l j (bitAnd b (getD kept j 0))
+    same : (x y : ℕ) → x ≡ y → bitAnd y (getD kept i 0) ≡ y → bitAnd x (getD kept i 0) ≡ x
+    same x y e q = subst (λ (z : ℕ). bitAnd z (getD kept i 0) ≡ z) (sym e) q
+    by : Dec (i ≡ j) → Dec (j < length l) → bitAnd (getD after i 0) (getD kept i 0) ≡ getD after i 0
+    by (no n) d = same (getD after i 0) (getD l i 0) (getD-set-other l j i _ 0 n) h
+    by (yes e) (no n) = same (getD after i 0) (getD l i 0) (ap (λ (x : List ℕ). getD x i 0) (set-out l j _ (omega arith))) h
+    by (yes e) (yes k) =
+        same (getD after i 0) (bitAnd b (getD kept i 0))
+        (subst (λ (n : ℕ). getD after n 0 ≡ bitAnd b (getD kept n 0)) (sym e) (getD-set-same l j (bitAnd b (getD kept j 0)) 0 k))
+        (and-twice b b (getD kept i 0) (le-refl b))
+
+pub stored-masked : (r : Registers) (n b : ℕ) → Masked r → Masked (stored r n b)
+unfolding Masked
+stored-masked r n b h i = stored-at (r .bytes) (n % 16) b (i % 16) (h i)
+
+-- a test over two lists, computed, and what it says at each index
+within : List ℕ → List ℕ → Bool
+within [] ks = true
+within (x ∷ xs) [] = false
+within (x ∷ xs) (k ∷ ks) = eqb (bitAnd x k) x && within xs ks
+
+both : (a b : Bool) → T (a && b) → T a × T b
+both true b t = (tt, t)
+both false b t = absurd t
+
+within-at : (xs ks : List ℕ) → T (within xs ks) → (i : ℕ) → bitAnd (getD xs i 0) (getD ks i 0) ≡ getD xs i 0
+unfolding within
+within-at [] ks t i = and-zero-l (getD ks i 0)
+within-at (x ∷ xs) [] t i = absurd t
+within-at (x ∷ xs) (k ∷ ks) t zero = eqb→eq (bitAnd x k) x (both (eqb (bitAnd x k) x) (within xs ks) t .0)
+within-at (x ∷ xs) (k ∷ ks) t (suc i) = within-at xs ks (both (eqb (bitAnd x k) x) (within xs ks) t .1) i
+
+pub fresh-masked : Masked freshRegisters
+unfolding Masked within
+fresh-masked i = within-at (freshRegisters .bytes) kept tt (i % 16)
