@@ -2,7 +2,7 @@
 -- Assumes nothing.
 use Prim.Native.Nat.{ℕ}
 use mathlib.Core.Path.{_≡_, refl, sym, ap, _∙_}
-use mathlib.Core.Bool.{Bool, true, false, cond}
+use mathlib.Core.Bool.{Bool, true, false, not, cond}
 use mathlib.Core.List.{List}
 use lib.Dec.{eqb}
 use borrow.Author.Tests.{eq-eqb, ne-eqb}
@@ -16,27 +16,60 @@ use Rattle.bus.specs.declared.Step.{Step}
 use Rattle.bus.specs.declared.Event.{Event}
 use Rattle.bus.specs.declared.Effect.{Effect}
 use Rattle.bus.specs.declared.Effect.the-variants.{Acknowledge, Ignore, Store, Load}
-use Rattle.bus.specs.Bus.{Hearing, hearing, step, byteAt, fetchAt, ramWith, registersWith, answerTo, busPaper, isRam}
+use Rattle.bus.specs.Bus.{BusOutcome, busEvent, step, byteAt, fetchAt, ramWith, registersWith, taken, isRam}
 
-either-length : (t : Bool) (x y : List ℕ) {n : ℕ} → length x ≡ n → length y ≡ n → length (cond t x y) ≡ n
-either-length true x y h k = h
-either-length false x y h k = k
+-- what holds of both holds of the one that a test picks
+either : {A : Type 0} (P : A → Type 0) (t : Bool) (x y : A) → P x → P y → P (cond t x y)
+either P true x y h k = h
+either P false x y h k = k
 
 with-length : (f : Effect) (ram : List ℕ) → length (ramWith f ram) ≡ length ram
 unfolding ramWith
 with-length Acknowledge ram = refl
 with-length Ignore ram = refl
-with-length (Store a x) ram = either-length (isRam a) _ ram (length-set ram a x) refl
+with-length (Store a x) ram = either (λ (l : List ℕ). length l ≡ length ram) (isRam a) _ ram (length-set ram a x) refl
 with-length (Load a) ram = refl
 
-either-ram : (t : Bool) (x y : Hearing) {n : ℕ} → length (x .ram) ≡ n → length (y .ram) ≡ n → length (cond t x y .ram) ≡ n
-either-ram true x y h k = h
-either-ram false x y h k = k
+-- ---- an event that stores nothing leaves registers and RAM
+
+-- the effect is no store
+unfoldable pub NoStore : Effect → Type 0
+NoStore Acknowledge = Unit
+NoStore Ignore = Unit
+NoStore (Store a x) = ⊥
+NoStore (Load a) = Unit
+
+with-ram : (f : Effect) (ram : List ℕ) → NoStore f → ramWith f ram ≡ ram
+unfolding ramWith NoStore
+with-ram Acknowledge ram n = refl
+with-ram Ignore ram n = refl
+with-ram (Store a x) ram n = absurd n
+with-ram (Load a) ram n = refl
+
+with-registers : (f : Effect) (r : Registers) → NoStore f → registersWith f r ≡ r
+unfolding registersWith NoStore
+with-registers Acknowledge r n = refl
+with-registers Ignore r n = refl
+with-registers (Store a x) r n = absurd n
+with-registers (Load a) r n = refl
+
+-- what holds of a refused event and of a taken one holds of an event
+by-event : (P : BusOutcome → Type 0) (b : Bus) (r : Registers) (ram : List ℕ) (e : Event)
+    → P (record { bus = b; registers = r; ram = ram; reply = refused RamLength }) → P (taken (step b e) r ram) → P (busEvent b r ram e)
+unfolding busEvent
+by-event P b r ram e h k = either P (not (eqb (length ram) 1024)) _ _ h k
+
+pub busEvent-ram : (b : Bus) (r : Registers) (ram : List ℕ) (e : Event) → NoStore (step b e .effect) → busEvent b r ram e .ram ≡ ram
+busEvent-ram b r ram e n = by-event (λ (o : BusOutcome). o .ram ≡ ram) b r ram e refl (unfold taken in with-ram (step b e .effect) ram n)
+
+pub busEvent-registers : (b : Bus) (r : Registers) (ram : List ℕ) (e : Event) → NoStore (step b e .effect) → busEvent b r ram e .registers ≡ r
+busEvent-registers b r ram e n =
+    by-event (λ (o : BusOutcome). o .registers ≡ r) b r ram e refl (unfold taken in with-registers (step b e .effect) r n)
 
 -- an event keeps the RAM's length
-pub hearing-length : (b : Bus) (r : Registers) (ram : List ℕ) (e : Event) → length (hearing b r ram e .ram) ≡ length ram
-unfolding hearing
-hearing-length b r ram e = either-ram (eqb (length ram) 1024) _ _ (with-length (step b e .effect) ram) refl
+pub busEvent-length : (b : Bus) (r : Registers) (ram : List ℕ) (e : Event) → length (busEvent b r ram e .ram) ≡ length ram
+busEvent-length b r ram e =
+    by-event (λ (o : BusOutcome). length (o .ram) ≡ length ram) b r ram e refl (unfold taken in with-length (step b e .effect) ram)
 
 -- a state that is known to be s does what s does
 pub byte-at : (b : Bus) (x : ℕ) {s : State} → b .state ≡ s → byteAt s b x ≡ byteAt (b .state) b x
@@ -48,22 +81,14 @@ fetch-at b e = ap (λ (s : State). fetchAt s b) (sym e)
 -- ---- a whole event
 
 -- refused for the RAM's length
-pub hearing-refused : (b : Bus) (r : Registers) (ram : List ℕ) (e : Event) → (length ram ≡ 1024 → ⊥)
-    → _≡_ {A = Hearing} (record { bus = b; registers = r; ram = ram; says = refused RamLength }) (hearing b r ram e)
-unfolding hearing
-hearing-refused b r ram e h = rw (ne-eqb _ _ h)
+pub busEvent-refused : (b : Bus) (r : Registers) (ram : List ℕ) (e : Event) → (length ram ≡ 1024 → ⊥)
+    → _≡_ {A = BusOutcome} (record { bus = b; registers = r; ram = ram; reply = refused RamLength }) (busEvent b r ram e)
+unfolding busEvent
+busEvent-refused b r ram e h = rw (ne-eqb _ _ h)
 
--- heard: the bus's step, with its effect on registers and RAM
-pub hearing-heard : (b : Bus) (r : Registers) (ram : List ℕ) (e : Event) → length ram ≡ 1024 → (s : Step) → s ≡ step b e
-    → {f : Effect} → s .effect ≡ f
-    → _≡_ {A = Hearing} (record { bus = s .bus; registers = registersWith f r; ram = ramWith f ram; says = busPaper (answerTo f r ram) }) (hearing b r ram e)
-unfolding hearing
-hearing-heard b r ram e h s p q =
-    rw (eq-eqb _ _ h)
-    (λ i.
-    record {
-      bus = p i .bus;
-      registers = registersWith ((sym q ∙ ap (λ (t : Step). t .effect) p) i) r;
-      ram = ramWith ((sym q ∙ ap (λ (t : Step). t .effect) p) i) ram;
-      says = busPaper (answerTo ((sym q ∙ ap (λ (t : Step). t .effect) p) i) r ram);
-    })
+-- heard: the bus's step, and its effect f on registers and RAM
+pub busEvent-heard : (b : Bus) (r : Registers) (ram : List ℕ) (e : Event) → length ram ≡ 1024 → (s : Step) → s ≡ step b e
+    → {f : Effect} → s .effect ≡ f → taken (record { bus = s .bus; effect = f }) r ram ≡ busEvent b r ram e
+unfolding busEvent
+busEvent-heard b r ram e h s p q =
+    rw (eq-eqb _ _ h) (ap (λ (f : Effect). taken (record { bus = s .bus; effect = f }) r ram) (sym q) ∙ ap (λ (t : Step). taken t r ram) p)

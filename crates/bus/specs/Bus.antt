@@ -1,13 +1,12 @@
 -- Document 01, "Bus": events, the address counter, stores and fetches.
 -- Assumes nothing.
 use Prim.Native.Nat.{ℕ, _+_, _-_, _*_, _%_}
-use mathlib.Core.Path.{_≡_}
-use mathlib.Core.Bool.{Bool, true, false, cond}
+use mathlib.Core.Bool.{Bool, true, false, not, cond}
 use mathlib.Core.List.{List}
 use lib.Dec.{eqb, leb, ltb}
 use lib.ListN.{length, getD, set, replicate}
 use Rattle.refusals.specs.declared.Refusal.the-variants.{RamLength, NotAcknowledged}
-use Rattle.refusals.specs.Refusals.{Paper, accepted, refused}
+use Rattle.refusals.specs.Refusals.{Reply, accepted, refused}
 use Rattle.registers.specs.declared.Registers.{Registers}
 use Rattle.registers.specs.Registers.{stored, fetched}
 use Rattle.bus.specs.declared.Event.{Event}
@@ -26,7 +25,7 @@ use Rattle.bus.specs.declared.Heard.{Heard}
 abbrev pub freshBus : Bus
 freshBus = record { state = Idle; counter = 0 }
 
--- a fresh device has 1,024 RAM cells, all zero
+-- a fresh device has 1,024 RAM cells, all zero; for the rest of it see the device's freshDevice
 abbrev pub freshRam : List ℕ
 freshRam = replicate 1024 0
 
@@ -45,8 +44,8 @@ abbrev pub steps : Bus → Effect → Step
 steps b e = record { bus = record { state = b .state; counter = (address b + 1) % 0x4000 }; effect = e }
 
 -- only the low byte sets the address counter, to high mod 64 times 256 plus low
-abbrev pub counts : ℕ → ℕ → Step
-counts high low = record { bus = record { state = Write; counter = high % 64 * 256 + low }; effect = Acknowledge }
+abbrev pub setsCounter : ℕ → ℕ → Step
+setsCounter high low = record { bus = record { state = Write; counter = high % 64 * 256 + low }; effect = Acknowledge }
 
 -- nothing changes, and the event is not acknowledged
 abbrev pub ignores : Bus → Step
@@ -63,7 +62,7 @@ byteAt Deaf b x = ignores b
 byteAt Slave b x = slave b x
 -- next the high then the low byte of the internal address (H)
 byteAt High b x = goes b (Low x) Acknowledge
-byteAt (Low high) b x = counts high x
+byteAt (Low high) b x = setsCounter high x
 -- then each host byte is stored at the counter and acknowledged
 byteAt Write b x = steps b (Store (address b) x)
 byteAt Read b x = ignores b
@@ -85,7 +84,7 @@ step b (Byte x) = byteAt (b .state) b x
 step b Fetch = fetchAt (b .state) b
 step b Stop = goes b Idle Acknowledge
 
--- ---- the address space: cells 0000 to 03FF are RAM, 3FF0 to 3FFF registers
+-- ---- the address space: cells 0000 to 03FF are RAM, 3FF0 to 3FFF registers. An address is at most 3FFF
 
 abbrev pub isRam : ℕ → Bool
 isRam a = ltb a 0x400
@@ -110,11 +109,6 @@ registersWith (Load a) r = r
 abbrev pub byteIn : ℕ → Registers → List ℕ → ℕ
 byteIn a r ram = cond (isRam a) (getD ram a 0) (cond (isRegister a) (fetched r (a - 0x3FF0)) 0)
 
--- what a store leaves of registers and RAM
-pub record Stores (a x : ℕ) (r : Registers) (m : List ℕ) (r′ : Registers) (m′ : List ℕ) : Type 0 where
-  pub registers : r′ ≡ registersWith (Store a x) r
-  pub ram : m′ ≡ ramWith (Store a x) m
-
 -- the byte given with every acknowledged event but a fetch is 0
 unfoldable pub answerTo : Effect → Registers → List ℕ → BusAnswer
 answerTo Acknowledge r ram = Acknowledged 0
@@ -123,31 +117,35 @@ answerTo (Store a x) r ram = Acknowledged 0
 answerTo (Load a) r ram = Acknowledged (byteIn a r ram)
 
 -- the paper's numbers for an answer: the refusal and the byte
-abbrev pub busPaper : BusAnswer → Paper
-busPaper (Acknowledged x) = accepted x
-busPaper (Refused r) = refused r
+abbrev pub busReply : BusAnswer → Reply
+busReply (Acknowledged x) = accepted x
+busReply (Refused r) = refused r
 
 -- ---- a whole event
 
 -- what an event leaves and says
-pub record Hearing : Type 0 where
+pub record BusOutcome : Type 0 where
   pub bus : Bus
   pub registers : Registers
   pub ram : List ℕ
-  pub says : Paper
+  pub reply : Reply
+
+unfoldable pub taken : Step → Registers → List ℕ → BusOutcome
+taken s r ram =
+    record {
+      bus = s .bus;
+      registers = registersWith (s .effect) r;
+      ram = ramWith (s .effect) ram;
+      reply = busReply (answerTo (s .effect) r ram);
+    }
 
 -- order of refusals: 1, 5
-unfoldable pub hearing : Bus → Registers → List ℕ → Event → Hearing
-hearing b r ram e =
-    cond (eqb (length ram) 1024)
-    (record {
-      bus = step b e .bus;
-      registers = registersWith (step b e .effect) r;
-      ram = ramWith (step b e .effect) ram;
-      says = busPaper (answerTo (step b e .effect) r ram);
-    })
-    (record { bus = b; registers = r; ram = ram; says = refused RamLength })
+unfoldable pub busEvent : Bus → Registers → List ℕ → Event → BusOutcome
+busEvent b r ram e =
+    cond (not (eqb (length ram) 1024))
+    (record { bus = b; registers = r; ram = ram; reply = refused RamLength })
+    (taken (step b e) r ram)
 
 -- what a call returned and left, in the same form
-abbrev pub heard : Heard → List ℕ → Hearing
-heard h ram = record { bus = h .bus; registers = h .registers; ram = ram; says = busPaper (h .answer) }
+abbrev pub outcomeOf : Heard → List ℕ → BusOutcome
+outcomeOf h ram = record { bus = h .bus; registers = h .registers; ram = ram; reply = busReply (h .answer) }

@@ -1,7 +1,7 @@
 // The two-wire bus: what an event does to the bus, the registers and the lent RAM, and how it is answered.
 ghost use mathlib.Core.Path.{_≡_};
 ghost use lib.ListN.{length};
-ghost use Rattle.bus.specs.Bus.{freshBus, freshRam, goes, steps, slave, byteAt, fetchAt, step, Stores, byteIn, hearing, heard, busPaper};
+ghost use Rattle.bus.specs.Bus.{freshBus, freshRam, goes, steps, slave, byteAt, fetchAt, step, registersWith, ramWith, byteIn, busEvent, outcomeOf, busReply};
 use refusals::Refusal;
 use registers::Registers;
 
@@ -170,7 +170,7 @@ impl Bus {
 
 // One bus event, on the whole of what it can touch. Refusals in the order 1, 5.
 pub fn hear(bus: Bus, registers: Registers, ram: &mut [u8], event: Event) -> Heard
-    ensures { λ r. ⌜ heard r (now (ram .exit)) ≡ hearing bus registers (now (ram .entry)) event ⌝ }
+    ensures { λ r. ⌜ outcomeOf r (now (ram .exit)) ≡ busEvent bus registers (now (ram .entry)) event ⌝ }
 {
     if ram.len() != RAM_LENGTH {
         return Heard {
@@ -215,7 +215,8 @@ pub fn hear(bus: Bus, registers: Registers, ram: &mut [u8], event: Event) -> Hea
 // A byte to an address: a RAM cell, a register, or nothing.
 fn store(registers: Registers, ram: &mut [u8], address: u16, x: u8) -> Registers
     requires { ⌜ length (now ram) ≡ 1024 ⌝ }
-    ensures { λ r. ⌜ Stores address x registers (now (ram .entry)) r (now (ram .exit)) ⌝ }
+    ensures registers { λ r. ⌜ r ≡ registersWith (Effect.Store address x) registers ⌝ }
+    ensures ram { λ _. ⌜ now (ram .exit) ≡ ramWith (Effect.Store address x) (now (ram .entry)) ⌝ }
 {
     if address < 0x400 {
         ram[address as usize] = x;
@@ -244,7 +245,7 @@ fn load(registers: Registers, ram: &[u8], address: u16) -> u8
 impl BusAnswer {
     // The refusal's number; 0 where the event is acknowledged.
     pub fn refusal(self) -> u8
-        ensures { λ r. ⌜ r ≡ busPaper self .refusal ⌝ }
+        ensures { λ r. ⌜ r ≡ busReply self .refusal ⌝ }
     {
         match self {
             BusAnswer::Acknowledged(_) => 0,
@@ -254,7 +255,7 @@ impl BusAnswer {
 
     // The byte on the bus.
     pub fn byte(self) -> u8
-        ensures { λ r. ⌜ r ≡ busPaper self .value ⌝ }
+        ensures { λ r. ⌜ r ≡ busReply self .value ⌝ }
     {
         match self {
             BusAnswer::Acknowledged(x) => x,

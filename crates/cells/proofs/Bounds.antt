@@ -8,7 +8,7 @@ use native.Mathlib.Nat.{suc-add, le-of-suc-le-suc, not-suc-le-zero}
 use native.Mathlib.Omega.{arith}
 use lib.Dec.{T, eqb, eqb→eq}
 use lib.ListN.{getD, length}
-use Rattle.cells.specs.Reading.{Reading, done, read, bind, then, value, cells, among}
+use Rattle.cells.specs.Reading.{Reading, done, read, bind, fmap, value, cells, among}
 
 -- every answer has P
 unfoldable pub Gives : {A : Type 0} → (A → Type 0) → Reading A → Type 0
@@ -70,11 +70,11 @@ unfolding Gives bind
 gives-bind P Q (done a) f g h = h a g
 gives-bind P Q (read c k) f g h = λ x. gives-bind P Q (k x) f (g x) h
 
-pub gives-then : {A B : Type 0} (P : A → Type 0) (Q : B → Type 0) (f : A → B) (p : Reading A)
-    → Gives P p → ((a : A) → P a → Q (f a)) → Gives Q (then f p)
-unfolding Gives then
-gives-then P Q f (done a) g h = h a g
-gives-then P Q f (read c k) g h = λ x. gives-then P Q f (k x) (g x) h
+pub gives-fmap : {A B : Type 0} (P : A → Type 0) (Q : B → Type 0) (f : A → B) (p : Reading A)
+    → Gives P p → ((a : A) → P a → Q (f a)) → Gives Q (fmap f p)
+unfolding Gives fmap
+gives-fmap P Q f (done a) g h = h a g
+gives-fmap P Q f (read c k) g h = λ x. gives-fmap P Q f (k x) (g x) h
 
 pub gives-all : {A : Type 0} (P : A → Type 0) → ((a : A) → P a) → (p : Reading A) → Gives P p
 unfolding Gives
@@ -87,10 +87,10 @@ unfolding Gives Within bind
 within-bind P n (done a) f g w h = h a g
 within-bind P n (read c k) f g w h = (w .0, λ x. within-bind P n (k x) f (g x) (w .1 x) h)
 
-pub within-then : {A B : Type 0} (n : ℕ) (f : A → B) (p : Reading A) → Within n p → Within n (then f p)
-unfolding Within then
-within-then n f (done a) w = tt
-within-then n f (read c k) w = (w .0, λ x. within-then n f (k x) (w .1 x))
+pub within-fmap : {A B : Type 0} (n : ℕ) (f : A → B) (p : Reading A) → Within n p → Within n (fmap f p)
+unfolding Within fmap
+within-fmap n f (done a) w = tt
+within-fmap n f (read c k) w = (w .0, λ x. within-fmap n f (k x) (w .1 x))
 
 pub atMost-more : {A : Type 0} (n m : ℕ) (p : Reading A) → n ≤ m → AtMost n p → AtMost m p
 unfolding AtMost
@@ -107,11 +107,11 @@ atMost-bind zero m (read c k) f w h = absurd w
 atMost-bind (suc n) m (read c k) f w h =
     rw (suc-add n m) (λ x. atMost-bind n m (k x) f (w x) h)
 
-pub atMost-then : {A B : Type 0} (n : ℕ) (f : A → B) (p : Reading A) → AtMost n p → AtMost n (then f p)
-unfolding AtMost then
-atMost-then n f (done a) w = tt
-atMost-then zero f (read c k) w = absurd w
-atMost-then (suc n) f (read c k) w = λ x. atMost-then n f (k x) (w x)
+pub atMost-fmap : {A B : Type 0} (n : ℕ) (f : A → B) (p : Reading A) → AtMost n p → AtMost n (fmap f p)
+unfolding AtMost fmap
+atMost-fmap n f (done a) w = tt
+atMost-fmap zero f (read c k) w = absurd w
+atMost-fmap (suc n) f (read c k) w = λ x. atMost-fmap n f (k x) (w x)
 
 -- ---- one of two programs, by a test
 

@@ -7,7 +7,7 @@ use mathlib.Core.Bool.{Bool, true, false, _||_}
 use mathlib.Core.List.{List, [], _∷_, _++_}
 use lib.Dec.{T, eqb, eqb-refl}
 use lib.ListN.{getD, length, length-append}
-use Rattle.cells.specs.Reading.{Reading, done, read, bind, then, value, cells, among, Alike}
+use Rattle.cells.specs.Reading.{Reading, done, read, bind, fmap, value, cells, among, Alike}
 
 -- ---- one program after another
 
@@ -22,15 +22,15 @@ unfolding bind value cells
 cells-bind ram (done a) f = refl
 cells-bind ram (read c k) f = ap (λ (l : List ℕ). c ∷ l) (cells-bind ram (k (getD ram c 0)) f)
 
-pub value-then : {A B : Type 0} (ram : List ℕ) (f : A → B) (p : Reading A) → value ram (then f p) ≡ f (value ram p)
-unfolding then value
-value-then ram f (done a) = refl
-value-then ram f (read c k) = value-then ram f (k (getD ram c 0))
+pub value-fmap : {A B : Type 0} (ram : List ℕ) (f : A → B) (p : Reading A) → value ram (fmap f p) ≡ f (value ram p)
+unfolding fmap value
+value-fmap ram f (done a) = refl
+value-fmap ram f (read c k) = value-fmap ram f (k (getD ram c 0))
 
-pub cells-then : {A B : Type 0} (ram : List ℕ) (f : A → B) (p : Reading A) → cells ram (then f p) ≡ cells ram p
-unfolding then cells
-cells-then ram f (done a) = refl
-cells-then ram f (read c k) = ap (λ (l : List ℕ). c ∷ l) (cells-then ram f (k (getD ram c 0)))
+pub cells-fmap : {A B : Type 0} (ram : List ℕ) (f : A → B) (p : Reading A) → cells ram (fmap f p) ≡ cells ram p
+unfolding fmap cells
+cells-fmap ram f (done a) = refl
+cells-fmap ram f (read c k) = ap (λ (l : List ℕ). c ∷ l) (cells-fmap ram f (k (getD ram c 0)))
 
 -- ---- membership
 

@@ -22,9 +22,9 @@ bind (done a) f = f a
 bind (read c k) f = read c (λ x. bind (k x) f)
 
 -- the program with its answer changed by f: the same reads
-unfoldable pub then : {A B : Type 0} → (A → B) → Reading A → Reading B
-then f (done a) = done (f a)
-then f (read c k) = read c (λ x. then f (k x))
+unfoldable pub fmap : {A B : Type 0} → (A → B) → Reading A → Reading B
+fmap f (done a) = done (f a)
+fmap f (read c k) = read c (λ x. fmap f (k x))
 
 -- what the program answers over a RAM
 unfoldable pub value : {A : Type 0} → List ℕ → Reading A → A

@@ -1,1 +1,2 @@
 pub mod OnePage
+pub mod Quiet

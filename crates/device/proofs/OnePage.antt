@@ -16,13 +16,13 @@ use Rattle.registers.specs.declared.Settings.{Settings}
 use Rattle.registers.specs.Registers.{settingsOf}
 use Rattle.raster.specs.Raster.{widthOf}
 use Rattle.bus.specs.declared.Event.{Event}
-use Rattle.bus.proofs.Laws.{hearing-length}
+use Rattle.bus.proofs.Laws.{busEvent-length}
 use Rattle.walk.specs.declared.Walk.{Walk}
 use Rattle.line.specs.Line.{Scanned, scan, paint}
 use Rattle.device.specs.declared.Device.{Device}
 use Rattle.device.specs.declared.Frame.{Frame}
-use Rattle.device.specs.Device.{Hears, hears, Draws, draws, nextScan, pixelsOf, lineOn, lineWidth, notDrawn, remaining, cellsLeft, asks}
-use Rattle.device.specs.OnePage.{Call, draw, ask, event, State, Answer, drawn, asked, heard, answer, after, Entry, log, end, isEvent, keep, eventsOf, othersOf, Quiet, QuietCall, QuietRun, SameRuns, OnePage}
+use Rattle.device.specs.Device.{EventOutcome, hearEvent, DrawOutcome, drawLine, nextScan, pixelsOf, lineOn, lineDrawn, lineWidth, notDrawn, remaining, cellsLeft, askCell}
+use Rattle.device.specs.OnePage.{Call, draw, ask, event, State, Answer, drawn, asked, heard, answer, after, Entry, log, end, isEvent, select, eventsOf, othersOf, Quiet, QuietCall, QuietRun, SameRuns, OnePage}
 
 -- ---- the remaining lines: the next one, then the others
 
@@ -44,115 +44,108 @@ cellsLeft-more d ram t =
 -- ---- a draw after a quiet event
 
 -- the order of a draw's refusals
-order : Bool → Bool → Bool → Bool → Device → List ℕ → Draws → Draws
-order ramOk fontOk noLine lineOk d line ok =
-    cond ramOk
-    (cond fontOk (cond noLine (notDrawn d line NoLine) (cond lineOk ok (notDrawn d line LineLength))) (notDrawn d line FontLength))
-    (notDrawn d line RamLength)
-
-accept : Device → List ℕ → List ℕ → List ℕ → Draws
-accept d ram font line =
-    record {
-      device = lineOn d ram;
-      line = pixelsOf d ram font ++ drop (lineWidth d) line;
-      says = accepted (length (cells ram (nextScan d)));
-    }
+order : Bool → Bool → Bool → Bool → Device → List ℕ → DrawOutcome → DrawOutcome
+order badRam badFont noLine short d line ok =
+    cond badRam (notDrawn d line RamLength)
+    (cond badFont (notDrawn d line FontLength) (cond noLine (notDrawn d line NoLine) (cond short (notDrawn d line LineLength) ok)))
 
 -- a draw, with the event made after it
-late : List ℕ → Event → Draws → Draws
-late ram e x = record { device = hears (x .device) ram e .device; line = x .line; says = x .says }
+late : List ℕ → Event → DrawOutcome → DrawOutcome
+late ram e x = record { device = hearEvent (x .device) ram e .device; line = x .line; reply = x .reply }
 
 module _ (d : Device) (ram : List ℕ) (e : Event)
-    (same : settingsOf (hears d ram e .device .registers) ≡ settingsOf (d .registers))
-    (alike : Alike (cellsLeft d ram) ram (hears d ram e .ram)) where
+    (same : settingsOf (hearEvent d ram e .device .registers) ≡ settingsOf (d .registers))
+    (alike : Alike (cellsLeft d ram) ram (hearEvent d ram e .ram)) where
   -- the next line is the same program, and reads and finds the same
-  same-scan : nextScan (hears d ram e .device) ≡ nextScan d
-  unfolding hears
+  same-scan : nextScan (hearEvent d ram e .device) ≡ nextScan d
+  unfolding hearEvent
   same-scan = ap (λ (x : Settings). scan x (d .frame .walk)) same
 
-  alike-line : T (not (eqb (d .frame .left) 0)) → Alike (cells ram (nextScan d)) ram (hears d ram e .ram)
+  alike-line : T (not (eqb (d .frame .left) 0)) → Alike (cells ram (nextScan d)) ram (hearEvent d ram e .ram)
   alike-line t =
-      alike-left (cells ram (nextScan d)) (cellsLeft (lineOn d ram) ram) ram (hears d ram e .ram)
-      (subst (λ (l : List ℕ). Alike l ram (hears d ram e .ram)) (cellsLeft-more d ram t) alike)
+      alike-left (cells ram (nextScan d)) (cellsLeft (lineOn d ram) ram) ram (hearEvent d ram e .ram)
+      (subst (λ (l : List ℕ). Alike l ram (hearEvent d ram e .ram)) (cellsLeft-more d ram t) alike)
 
-  alike-later : T (not (eqb (d .frame .left) 0)) → Alike (cellsLeft (lineOn d ram) ram) ram (hears d ram e .ram)
+  alike-later : T (not (eqb (d .frame .left) 0)) → Alike (cellsLeft (lineOn d ram) ram) ram (hearEvent d ram e .ram)
   alike-later t =
-      alike-right (cells ram (nextScan d)) (cellsLeft (lineOn d ram) ram) ram (hears d ram e .ram)
-      (subst (λ (l : List ℕ). Alike l ram (hears d ram e .ram)) (cellsLeft-more d ram t) alike)
+      alike-right (cells ram (nextScan d)) (cellsLeft (lineOn d ram) ram) ram (hearEvent d ram e .ram)
+      (subst (λ (l : List ℕ). Alike l ram (hearEvent d ram e .ram)) (cellsLeft-more d ram t) alike)
 
-  same-value : T (not (eqb (d .frame .left) 0)) → value (hears d ram e .ram) (nextScan (hears d ram e .device)) ≡ value ram (nextScan d)
+  same-value : T (not (eqb (d .frame .left) 0)) → value (hearEvent d ram e .ram) (nextScan (hearEvent d ram e .device)) ≡ value ram (nextScan d)
   same-value t =
-      ap (value (hears d ram e .ram)) same-scan ∙ value-alike ram (hears d ram e .ram) (nextScan d) (alike-line t)
+      ap (value (hearEvent d ram e .ram)) same-scan ∙ value-alike ram (hearEvent d ram e .ram) (nextScan d) (alike-line t)
 
-  same-cells : T (not (eqb (d .frame .left) 0)) → cells (hears d ram e .ram) (nextScan (hears d ram e .device)) ≡ cells ram (nextScan d)
+  same-cells : T (not (eqb (d .frame .left) 0)) → cells (hearEvent d ram e .ram) (nextScan (hearEvent d ram e .device)) ≡ cells ram (nextScan d)
   same-cells t =
-      ap (cells (hears d ram e .ram)) same-scan ∙ cells-alike ram (hears d ram e .ram) (nextScan d) (alike-line t)
+      ap (cells (hearEvent d ram e .ram)) same-scan ∙ cells-alike ram (hearEvent d ram e .ram) (nextScan d) (alike-line t)
 
-  same-accept : (font line : List ℕ) → T (not (eqb (d .frame .left) 0))
-      → accept (hears d ram e .device) (hears d ram e .ram) font line ≡ late ram e (accept d ram font line)
-  unfolding accept late lineOn pixelsOf hears
-  same-accept font line t =
+  same-drawn : (font line : List ℕ) → T (not (eqb (d .frame .left) 0))
+      → lineDrawn (hearEvent d ram e .device) (hearEvent d ram e .ram) font line ≡ late ram e (lineDrawn d ram font line)
+  unfolding lineDrawn late lineOn pixelsOf hearEvent
+  same-drawn font line t =
       λ i.
       record {
         device =
             record {
-              bus = hears d ram e .device .bus;
-              registers = hears d ram e .device .registers;
+              bus = hearEvent d ram e .device .bus;
+              registers = hearEvent d ram e .device .registers;
               frame = record { left = d .frame .left - 1; number = d .frame .number; walk = same-value t i .walk };
               next = d .next;
             };
         line = paint (same i) font (d .frame .number) (same-value t i .row) ++ drop (widthOf (same i .ld)) line;
-        says = accepted (length (same-cells t i));
+        reply = accepted (length (same-cells t i));
       }
 
   -- whatever the draw's tests find, the draw after the event is the draw before it, with the event made after
-  same-order : (font line : List ℕ) (ramOk fontOk noLine lineOk : Bool) → (T (not noLine) → T (not (eqb (d .frame .left) 0)))
-      → order ramOk fontOk noLine lineOk (hears d ram e .device) line (accept (hears d ram e .device) (hears d ram e .ram) font line)
-      ≡ late ram e (order ramOk fontOk noLine lineOk d line (accept d ram font line))
+  same-order : (font line : List ℕ) (badRam badFont noLine short : Bool) → (T (not noLine) → T (not (eqb (d .frame .left) 0)))
+      → order badRam badFont noLine short (hearEvent d ram e .device) line (lineDrawn (hearEvent d ram e .device) (hearEvent d ram e .ram) font line)
+      ≡ late ram e (order badRam badFont noLine short d line (lineDrawn d ram font line))
   unfolding order late
-  same-order font line false fontOk noLine lineOk h = refl
-  same-order font line true false noLine lineOk h = refl
-  same-order font line true true true lineOk h = refl
-  same-order font line true true false false h = refl
-  same-order font line true true false true h = same-accept font line (h tt)
+  same-order font line true badFont noLine short h = refl
+  same-order font line false true noLine short h = refl
+  same-order font line false false true short h = refl
+  same-order font line false false false true h = refl
+  same-order font line false false false false h = same-drawn font line (h tt)
 
-  same-draw : (font line : List ℕ) → draws (hears d ram e .device) (hears d ram e .ram) font line ≡ late ram e (draws d ram font line)
-  unfolding draws order accept hears
+  same-draw : (font line : List ℕ) → drawLine (hearEvent d ram e .device) (hearEvent d ram e .ram) font line ≡ late ram e (drawLine d ram font line)
+  unfolding drawLine order hearEvent
   same-draw font line =
       ap₂ (λ (n w : ℕ).
-      order (eqb n 1024) (eqb (length font) 4608) (eqb (d .frame .left) 0) (leb w (length line)) (hears d ram e .device) line
-      (accept (hears d ram e .device) (hears d ram e .ram) font line))
-      (hearing-length (d .bus) (d .registers) ram e) (ap (λ (x : Settings). widthOf (x .ld)) same)
-      ∙ same-order font line (eqb (length ram) 1024) (eqb (length font) 4608) (eqb (d .frame .left) 0) (leb (lineWidth d) (length line)) (λ t. t)
+      order (not (eqb n 1024)) (not (eqb (length font) 4608)) (eqb (d .frame .left) 0) (ltb (length line) w) (hearEvent d ram e .device) line
+      (lineDrawn (hearEvent d ram e .device) (hearEvent d ram e .ram) font line))
+      (busEvent-length (d .bus) (d .registers) ram e) (ap (λ (x : Settings). widthOf (x .ld)) same)
+      ∙ same-order font line (not (eqb (length ram) 1024)) (not (eqb (length font) 4608)) (eqb (d .frame .left) 0)
+      (ltb (length line) (lineWidth d)) (λ t. t)
 
   -- the remaining lines read the same cells, so the cell question is answered alike
-  same-left : cellsLeft (hears d ram e .device) (hears d ram e .ram) ≡ cellsLeft d ram
-  unfolding cellsLeft hears
+  same-left : cellsLeft (hearEvent d ram e .device) (hearEvent d ram e .ram) ≡ cellsLeft d ram
+  unfolding cellsLeft hearEvent
   same-left =
-      ap (λ (x : Settings). cells (hears d ram e .ram) (remaining x (d .frame .left) (d .frame .walk))) same
-      ∙ cells-alike ram (hears d ram e .ram) (remaining (settingsOf (d .registers)) (d .frame .left) (d .frame .walk)) alike
+      ap (λ (x : Settings). cells (hearEvent d ram e .ram) (remaining x (d .frame .left) (d .frame .walk))) same
+      ∙ cells-alike ram (hearEvent d ram e .ram) (remaining (settingsOf (d .registers)) (d .frame .left) (d .frame .walk)) alike
 
-  same-ask : (c : ℕ) → asks (hears d ram e .device) (hears d ram e .ram) c ≡ asks d ram c
-  unfolding asks hears
+  same-ask : (c : ℕ) → askCell (hearEvent d ram e .device) (hearEvent d ram e .ram) c ≡ askCell d ram c
+  unfolding askCell hearEvent
   same-ask c =
       ap₂ (λ (n : ℕ) (l : List ℕ).
-      cond (eqb n 1024) (cond (ltb c 1024) (accepted (cond (among c l) 1 0)) (refused CellRange)) (refused RamLength))
-      (hearing-length (d .bus) (d .registers) ram e) same-left
+      cond (not (eqb n 1024)) (refused RamLength) (cond (leb 1024 c) (refused CellRange) (accepted (cond (among c l) 1 0))))
+      (busEvent-length (d .bus) (d .registers) ram e) same-left
 
 -- what holds of a refused draw and of an accepted one holds of a draw
-module _ (d : Device) (ram font line : List ℕ) (P : Draws → Type 0) (no-draw : (r : Refusal) → P (notDrawn d line r)) where
-  by-order : (ramOk fontOk noLine lineOk : Bool) → (T (not noLine) → P (accept d ram font line))
-      → P (order ramOk fontOk noLine lineOk d line (accept d ram font line))
+module _ (d : Device) (ram font line : List ℕ) (P : DrawOutcome → Type 0) (no-draw : (r : Refusal) → P (notDrawn d line r)) where
+  by-order : (badRam badFont noLine short : Bool) → (T (not noLine) → P (lineDrawn d ram font line))
+      → P (order badRam badFont noLine short d line (lineDrawn d ram font line))
   unfolding order
-  by-order false fontOk noLine lineOk h = no-draw RamLength
-  by-order true false noLine lineOk h = no-draw FontLength
-  by-order true true true lineOk h = no-draw NoLine
-  by-order true true false false h = no-draw LineLength
-  by-order true true false true h = h tt
+  by-order true badFont noLine short h = no-draw RamLength
+  by-order false true noLine short h = no-draw FontLength
+  by-order false false true short h = no-draw NoLine
+  by-order false false false true h = no-draw LineLength
+  by-order false false false false h = h tt
 
-  by-draw : (T (not (eqb (d .frame .left) 0)) → P (accept d ram font line)) → P (draws d ram font line)
-  unfolding draws order accept
-  by-draw h = by-order (eqb (length ram) 1024) (eqb (length font) 4608) (eqb (d .frame .left) 0) (leb (lineWidth d) (length line)) h
+  by-draw : (T (not (eqb (d .frame .left) 0)) → P (lineDrawn d ram font line)) → P (drawLine d ram font line)
+  unfolding drawLine order
+  by-draw h =
+      by-order (not (eqb (length ram) 1024)) (not (eqb (length font) 4608)) (eqb (d .frame .left) 0) (ltb (length line) (lineWidth d)) h
 
 -- ---- a quiet event and a later draw or question
 
@@ -160,23 +153,23 @@ module _ (d : Device) (ram font line : List ℕ) (P : Draws → Type 0) (no-draw
 quiet-on : (font : List ℕ) (s : State) (e : Event) (c : Call) → isEvent c ≡ false → Quiet s e → Quiet (after font s c) e
 unfolding after isEvent
 quiet-on font s e (draw line) o q =
-    by-draw (s .device) (s .ram) font line (λ (x : Draws). Quiet (record { device = x .device; ram = s .ram }) e)
+    by-draw (s .device) (s .ram) font line (λ (x : DrawOutcome). Quiet (record { device = x .device; ram = s .ram }) e)
     (λ r. q)
-    (unfold accept hears lineOn in λ t. record { cells = alike-later (s .device) (s .ram) e (q .settings) (q .cells) t; settings = q .settings })
+    (unfold lineDrawn hearEvent lineOn in λ t. record { cells = alike-later (s .device) (s .ram) e (q .settings) (q .cells) t; settings = q .settings })
 quiet-on font s e (ask cell) o q = q
 quiet-on font s e (event x) o q = absurd (true≢false o)
 
 -- the event is answered as before, and leaves the same RAM
 same-hears : (font : List ℕ) (s : State) (e : Event) (line : List ℕ)
-    → (hears (draws (s .device) (s .ram) font line .device) (s .ram) e .says ≡ hears (s .device) (s .ram) e .says)
-    × (hears (draws (s .device) (s .ram) font line .device) (s .ram) e .ram ≡ hears (s .device) (s .ram) e .ram)
+    → (hearEvent (drawLine (s .device) (s .ram) font line .device) (s .ram) e .reply ≡ hearEvent (s .device) (s .ram) e .reply)
+    × (hearEvent (drawLine (s .device) (s .ram) font line .device) (s .ram) e .ram ≡ hearEvent (s .device) (s .ram) e .ram)
 same-hears font s e line =
     by-draw (s .device) (s .ram) font line
-    (λ (x : Draws).
-    (hears (x .device) (s .ram) e .says ≡ hears (s .device) (s .ram) e .says)
-    × (hears (x .device) (s .ram) e .ram ≡ hears (s .device) (s .ram) e .ram))
+    (λ (x : DrawOutcome).
+    (hearEvent (x .device) (s .ram) e .reply ≡ hearEvent (s .device) (s .ram) e .reply)
+    × (hearEvent (x .device) (s .ram) e .ram ≡ hearEvent (s .device) (s .ram) e .ram))
     (λ r. (refl, refl))
-    (unfold accept hears lineOn in λ t. (refl, refl))
+    (unfold lineDrawn hearEvent lineOn in λ t. (refl, refl))
 
 event-answer : (font : List ℕ) (s : State) (e : Event) (c : Call) → isEvent c ≡ false
     → answer font (after font s c) (event e) ≡ answer font s (event e)
@@ -190,7 +183,7 @@ other-answer : (font : List ℕ) (s : State) (e : Event) (c : Call) → isEvent 
     → answer font (after font s (event e)) c ≡ answer font s c
 unfolding answer after isEvent late
 other-answer font s e (draw line) o q =
-    ap (λ (x : Draws). drawn (x .says) (x .line)) (same-draw (s .device) (s .ram) e (q .settings) (q .cells) font line)
+    ap (λ (x : DrawOutcome). drawn (x .reply) (x .line)) (same-draw (s .device) (s .ram) e (q .settings) (q .cells) font line)
 other-answer font s e (ask cell) o q = ap asked (same-ask (s .device) (s .ram) e (q .settings) (q .cells) cell)
 other-answer font s e (event x) o q = absurd (true≢false o)
 
@@ -215,7 +208,7 @@ data Others : List Call → Type 0 where
   more : {c : Call} {os : List Call} → isEvent c ≡ false → Others os → Others (c ∷ os)
 
 others-of : (cs : List Call) → Others (othersOf cs)
-unfolding keep isEvent
+unfolding select isEvent
 others-of [] = none
 others-of (draw line ∷ cs) = more refl (others-of cs)
 others-of (ask cell ∷ cs) = more refl (others-of cs)
@@ -244,7 +237,7 @@ made-late font s e (more {c = c} {os = os} o rest) q =
 -- ---- condition 3
 
 pub one-page : OnePage
-unfolding QuietRun QuietCall log end keep isEvent
+unfolding QuietRun QuietCall log end select isEvent
 one-page font s [] q = record { others = refl; events = refl; state = refl }
 one-page font s (draw line ∷ cs) q =
     let ih : SameRuns font (after font s (draw line)) cs = one-page font (after font s (draw line)) cs (q .1) in

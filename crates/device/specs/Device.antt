@@ -1,19 +1,20 @@
--- The calls that a host makes: what each returns and leaves, refused calls too.
+-- The calls that a host makes: what each returns and leaves, refused calls too. Of document 01: the reset of "Registers", the frame
+-- start of "Walk of a frame", "Refusal numbers" with their order, and the cell question.
 -- Assumes nothing.
 use Prim.Native.Nat.{ℕ, zero, suc, _+_, _-_, _*_, _%_}
-use mathlib.Core.Bool.{Bool, true, false, cond, _&&_}
+use mathlib.Core.Bool.{Bool, true, false, not, cond, _||_}
 use mathlib.Core.List.{List, [], _∷_, _++_}
 use lib.Dec.{eqb, leb, ltb}
 use lib.ListN.{length, drop}
 use Rattle.cells.specs.Reading.{Reading, done, bind, value, cells, among}
 use Rattle.refusals.specs.declared.Refusal.{Refusal}
 use Rattle.refusals.specs.declared.Refusal.the-variants.{RamLength, FontLength, LineLength, NoLine, FrameLines, CellRange}
-use Rattle.refusals.specs.Refusals.{Paper, accepted, refused}
+use Rattle.refusals.specs.Refusals.{Reply, accepted, refused}
 use Rattle.registers.specs.declared.Settings.{Settings}
 use Rattle.registers.specs.Registers.{freshRegisters, settingsOf, pageOf}
 use Rattle.raster.specs.Raster.{widthOf}
 use Rattle.bus.specs.declared.Event.{Event}
-use Rattle.bus.specs.Bus.{freshBus, hearing}
+use Rattle.bus.specs.Bus.{freshBus, BusOutcome, busEvent}
 use Rattle.walk.specs.declared.Walk.{Walk}
 use Rattle.walk.specs.Walk.{walkFrom}
 use Rattle.line.specs.Line.{Scanned, scan, paint}
@@ -29,24 +30,25 @@ use Rattle.device.specs.declared.CellAnswer.the-variants as cell
 -- ---- the paper's numbers for each answer
 
 -- an accepted frame start has no number of its own
-abbrev pub startPaper : StartAnswer → Paper
-startPaper start.Started = accepted 0
-startPaper (start.Refused r) = refused r
+abbrev pub startReply : StartAnswer → Reply
+startReply start.Started = accepted 0
+startReply (start.Refused r) = refused r
 
 -- the value of a drawn line is its read count
-abbrev pub drawPaper : DrawAnswer → Paper
-drawPaper (draw.Drawn n) = accepted n
-drawPaper (draw.Refused r) = refused r
+abbrev pub drawReply : DrawAnswer → Reply
+drawReply (draw.Drawn n) = accepted n
+drawReply (draw.Refused r) = refused r
 
 -- yes is 1, no is 0
-abbrev pub cellPaper : CellAnswer → Paper
-cellPaper cell.Yes = accepted 1
-cellPaper cell.No = accepted 0
-cellPaper (cell.Refused r) = refused r
+abbrev pub cellReply : CellAnswer → Reply
+cellReply cell.Yes = accepted 1
+cellReply cell.No = accepted 0
+cellReply (cell.Refused r) = refused r
 
 -- ---- reset
 
--- a reset stops the frame and makes the next frame number 0; a fresh device is as after a reset
+-- a reset stops the frame and makes the next frame number 0; it takes no RAM, so none is touched. A fresh device is as after a reset.
+-- With no line left, the frame's number and walk are our choice: the next frame start sets both before any call reads them
 unfoldable pub freshDevice : Device
 freshDevice =
     record {
@@ -58,54 +60,50 @@ freshDevice =
 
 -- ---- bus event
 
-pub record Hears : Type 0 where
+pub record EventOutcome : Type 0 where
   pub device : Device
   pub ram : List ℕ
-  pub says : Paper
+  pub reply : Reply
 
 -- an event touches the bus, the registers and the RAM, and nothing else of the device
-unfoldable pub hears : Device → List ℕ → Event → Hears
-hears d ram e =
+unfoldable pub hearEvent : Device → List ℕ → Event → EventOutcome
+hearEvent d ram e =
+    let o : BusOutcome = busEvent (d .bus) (d .registers) ram e in
     record {
-      device =
-          record {
-            bus = hearing (d .bus) (d .registers) ram e .bus;
-            registers = hearing (d .bus) (d .registers) ram e .registers;
-            frame = d .frame;
-            next = d .next;
-          };
-      ram = hearing (d .bus) (d .registers) ram e .ram;
-      says = hearing (d .bus) (d .registers) ram e .says;
+      device = record { bus = o .bus; registers = o .registers; frame = d .frame; next = d .next };
+      ram = o .ram;
+      reply = o .reply;
     }
 
 -- ---- frame start
 
-pub record Starts : Type 0 where
+pub record StartOutcome : Type 0 where
   pub device : Device
-  pub says : Paper
+  pub reply : Reply
 
--- a frame start names its lines, 1 to 2,048. It takes P now, and takes the next frame number, 0 to 63 and round again
-unfoldable pub starts : Device → ℕ → Starts
-starts d lines =
-    cond (leb 1 lines && leb lines 2048)
-    (record {
-      device =
-          record {
-            bus = d .bus;
-            registers = d .registers;
-            frame = record { left = lines; number = d .next % 64; walk = walkFrom (pageOf (d .registers)) };
-            next = (d .next % 64 + 1) % 64;
-          };
-      says = accepted 0;
-    })
-    (record { device = d; says = refused FrameLines })
+-- it takes P now, and takes the next frame number, 0 to 63 and round again; a start during a frame begins anew
+unfoldable pub inFrame : Device → ℕ → Device
+inFrame d lines =
+    record {
+      bus = d .bus;
+      registers = d .registers;
+      frame = record { left = lines; number = d .next % 64; walk = walkFrom (pageOf (d .registers)) };
+      next = (d .next % 64 + 1) % 64;
+    }
+
+-- a frame start names its lines, 1 to 2,048; else refusal 6
+unfoldable pub startFrame : Device → ℕ → StartOutcome
+startFrame d lines =
+    cond (eqb lines 0 || ltb 2048 lines)
+    (record { device = d; reply = refused FrameLines })
+    (record { device = inFrame d lines; reply = accepted 0 })
 
 -- ---- draw
 
-pub record Draws : Type 0 where
+pub record DrawOutcome : Type 0 where
   pub device : Device
   pub line : List ℕ
-  pub says : Paper
+  pub reply : Reply
 
 -- the program that the frame's next line is
 abbrev pub nextScan : Device → Reading Scanned
@@ -130,25 +128,28 @@ abbrev pub lineWidth : Device → ℕ
 lineWidth d = widthOf (settingsOf (d .registers) .ld)
 
 -- a refused draw leaves device and line buffer unchanged
-abbrev pub notDrawn : Device → List ℕ → Refusal → Draws
-notDrawn d line r = record { device = d; line = line; says = refused r }
+abbrev pub notDrawn : Device → List ℕ → Refusal → DrawOutcome
+notDrawn d line r = record { device = d; line = line; reply = refused r }
 
--- order of refusals: 1, 2, 4, 3. A draw writes W bytes; later bytes stay. A line reports how many RAM cells it read
-unfoldable pub draws : Device → List ℕ → List ℕ → List ℕ → Draws
-draws d ram font line =
-    cond (eqb (length ram) 1024)
-    (cond (eqb (length font) 4608)
-    (cond (eqb (d .frame .left) 0)
-    (notDrawn d line NoLine)
-    (cond (leb (lineWidth d) (length line))
-    (record {
+-- a draw writes W bytes; later bytes stay. It reports how many RAM cells the line read
+unfoldable pub lineDrawn : Device → List ℕ → List ℕ → List ℕ → DrawOutcome
+lineDrawn d ram font line =
+    record {
       device = lineOn d ram;
       line = pixelsOf d ram font ++ drop (lineWidth d) line;
-      says = accepted (length (cells ram (nextScan d)));
-    })
-    (notDrawn d line LineLength)))
-    (notDrawn d line FontLength))
+      reply = accepted (length (cells ram (nextScan d)));
+    }
+
+-- order of refusals: 1, 2, 4, 3
+unfoldable pub drawLine : Device → List ℕ → List ℕ → List ℕ → DrawOutcome
+drawLine d ram font line =
+    cond (not (eqb (length ram) 1024))
     (notDrawn d line RamLength)
+    (cond (not (eqb (length font) 4608))
+    (notDrawn d line FontLength)
+    (cond (eqb (d .frame .left) 0)
+    (notDrawn d line NoLine)
+    (cond (ltb (length line) (lineWidth d)) (notDrawn d line LineLength) (lineDrawn d ram font line))))
 
 -- ---- cell question
 
@@ -161,9 +162,9 @@ remaining s (suc n) w = bind (scan s w) λ x. remaining s n (x .walk)
 unfoldable pub cellsLeft : Device → List ℕ → List ℕ
 cellsLeft d ram = cells ram (remaining (settingsOf (d .registers)) (d .frame .left) (d .frame .walk))
 
--- order of refusals: 1, 8. Without a running frame the cell question answers no
-unfoldable pub asks : Device → List ℕ → ℕ → Paper
-asks d ram c =
-    cond (eqb (length ram) 1024)
-    (cond (ltb c 1024) (accepted (cond (among c (cellsLeft d ram)) 1 0)) (refused CellRange))
+-- the cell question (document 01's term). Order of refusals: 1, 8. Without a running frame the cell question answers no
+unfoldable pub askCell : Device → List ℕ → ℕ → Reply
+askCell d ram c =
+    cond (not (eqb (length ram) 1024))
     (refused RamLength)
+    (cond (leb 1024 c) (refused CellRange) (accepted (cond (among c (cellsLeft d ram)) 1 0)))

@@ -8,11 +8,11 @@ use mathlib.Core.Path.{_≡_}
 use mathlib.Core.Bool.{Bool, true, false, not, cond}
 use mathlib.Core.List.{List, [], _∷_}
 use Rattle.cells.specs.Reading.{Alike}
-use Rattle.refusals.specs.Refusals.{Paper}
+use Rattle.refusals.specs.Refusals.{Reply}
 use Rattle.registers.specs.Registers.{settingsOf}
 use Rattle.bus.specs.declared.Event.{Event}
 use Rattle.device.specs.declared.Device.{Device}
-use Rattle.device.specs.Device.{hears, draws, asks, cellsLeft}
+use Rattle.device.specs.Device.{hearEvent, drawLine, askCell, cellsLeft}
 
 -- a call of the list: a draw with any bytes, in any number, in its line buffer at entry; a cell question; a bus event
 pub data Call : Type 0 where
@@ -27,20 +27,20 @@ pub record State : Type 0 where
 
 -- what a call answers: the refusal's number and the value, and of a draw all bytes of its line buffer after it
 pub data Answer : Type 0 where
-  drawn : Paper → (line : List ℕ) → Answer
-  asked : Paper → Answer
-  heard : Paper → Answer
+  drawn : Reply → (line : List ℕ) → Answer
+  asked : Reply → Answer
+  heard : Reply → Answer
 
 -- each call by the definition that the promise of the device's function cites
 unfoldable pub answer : List ℕ → State → Call → Answer
-answer font s (draw line) = drawn (draws (s .device) (s .ram) font line .says) (draws (s .device) (s .ram) font line .line)
-answer font s (ask cell) = asked (asks (s .device) (s .ram) cell)
-answer font s (event e) = heard (hears (s .device) (s .ram) e .says)
+answer font s (draw line) = drawn (drawLine (s .device) (s .ram) font line .reply) (drawLine (s .device) (s .ram) font line .line)
+answer font s (ask cell) = asked (askCell (s .device) (s .ram) cell)
+answer font s (event e) = heard (hearEvent (s .device) (s .ram) e .reply)
 
 unfoldable pub after : List ℕ → State → Call → State
-after font s (draw line) = record { device = draws (s .device) (s .ram) font line .device; ram = s .ram }
+after font s (draw line) = record { device = drawLine (s .device) (s .ram) font line .device; ram = s .ram }
 after font s (ask cell) = s
-after font s (event e) = record { device = hears (s .device) (s .ram) e .device; ram = hears (s .device) (s .ram) e .ram }
+after font s (event e) = record { device = hearEvent (s .device) (s .ram) e .device; ram = hearEvent (s .device) (s .ram) e .ram }
 
 -- ---- a run of a list of calls: each call with its answer, and the state after the last
 
@@ -64,23 +64,24 @@ isEvent (ask cell) = false
 isEvent (event e) = true
 
 -- those of a list that pass a test, in their order
-unfoldable pub keep : {A : Type 0} → (A → Bool) → List A → List A
-keep p [] = []
-keep p (x ∷ xs) = cond (p x) (x ∷ keep p xs) (keep p xs)
+unfoldable pub select : {A : Type 0} → (A → Bool) → List A → List A
+select p [] = []
+select p (x ∷ xs) = cond (p x) (x ∷ select p xs) (select p xs)
 
 abbrev pub eventsOf : List Call → List Call
-eventsOf cs = keep isEvent cs
+eventsOf cs = select isEvent cs
 
 abbrev pub othersOf : List Call → List Call
-othersOf cs = keep (λ c. not (isEvent c)) cs
+othersOf cs = select (λ c. not (isEvent c)) cs
 
 -- ---- quiet
 
--- an event is quiet (document 01's term) if it changes no cell that the frame's remaining lines read, given RAM and
--- registers as they stand, and none of the settings LD, DD, CH, OSD, FBK and FL
+-- an event is quiet (the order's term, condition 3) if it changes no cell that the frame's remaining lines read, given RAM and
+-- registers as they stand, and none of the settings LD, DD, CH, OSD, FBK and FL. Only a write can change any: of every other event
+-- it holds by itself (proofs/Quiet.antt), so asking it of each event asks it of each bus write
 pub record Quiet (s : State) (e : Event) : Type 0 where
-  pub cells : Alike (cellsLeft (s .device) (s .ram)) (s .ram) (hears (s .device) (s .ram) e .ram)
-  pub settings : settingsOf (hears (s .device) (s .ram) e .device .registers) ≡ settingsOf (s .device .registers)
+  pub cells : Alike (cellsLeft (s .device) (s .ram)) (s .ram) (hearEvent (s .device) (s .ram) e .ram)
+  pub settings : settingsOf (hearEvent (s .device) (s .ram) e .device .registers) ≡ settingsOf (s .device .registers)
 
 -- is this call, if it is an event, quiet as it is made?
 unfoldable pub QuietCall : State → Call → Type 0
@@ -98,9 +99,9 @@ QuietRun font s (c ∷ cs) = QuietCall s c × QuietRun font (after font s c) cs
 -- the list's own run and the second run agree
 pub record SameRuns (font : List ℕ) (s : State) (cs : List Call) : Type 0 where
   -- the answer of each draw with its line, and of each cell question
-  pub others : keep (λ x. not (isEvent (x .call))) (log font s cs) ≡ log font s (othersOf cs)
+  pub others : select (λ x. not (isEvent (x .call))) (log font s cs) ≡ log font s (othersOf cs)
   -- the answer of each event
-  pub events : keep (λ x. isEvent (x .call)) (log font s cs) ≡ log font (end font s (othersOf cs)) (eventsOf cs)
+  pub events : select (λ x. isEvent (x .call)) (log font s cs) ≡ log font (end font s (othersOf cs)) (eventsOf cs)
   -- the device and every byte of the RAM after the last call
   pub state : end font s cs ≡ end font (end font s (othersOf cs)) (eventsOf cs)
 

@@ -1,6 +1,6 @@
 -- Document 01, "Codes and glyphs": what a code shows in a slice, and which cells that reads.
 -- Assumes nothing.
-use Prim.Native.Nat.{ℕ, zero, suc, _+_, _*_, _/_, _%_}
+use Prim.Native.Nat.{ℕ, _+_, _-_, _*_, _/_, _%_}
 use mathlib.Core.Bool.{Bool, true, false, cond}
 use mathlib.Core.List.{List}
 use lib.Dec.{eqb, ltb}
@@ -21,7 +21,7 @@ pub data Glyph : Type 0 where
 abbrev pub endsLine : ℕ → Bool
 endsLine high = eqb high 255
 
--- a user character's slice s lies at cell 38 × number + 2s
+-- a user character's slice s lies at cell 38 × number + 2s (001 prints + s)
 abbrev pub userCell : ℕ → ℕ → ℕ
 userCell number s = 38 * number + 2 * s
 
@@ -38,7 +38,7 @@ glyphOf high s = cond (eqb (high / 128 % 2) 0) (done (font (high % 128) (s .0)))
 
 -- a font character's slice s from 1 is at 36 × number + 2(s − 1)
 abbrev pub fontByte : ℕ → ℕ → ℕ
-fontByte number before = 36 * number + 2 * before
+fontByte number s = 36 * number + 2 * (s - 1)
 
 -- first PX7 to PX0, then PX11 to PX8 in the low bits
 abbrev pub twelve : ℕ → ℕ → ℕ
@@ -46,7 +46,6 @@ twelve first second = second % 16 * 256 + first
 
 -- the pixels PX11 to PX0 of a glyph as a number, a bit each. Slice 0 of a font character is blank (H)
 unfoldable pub bitsOf : List ℕ → Glyph → ℕ
-bitsOf f (font number zero) = 0
-bitsOf f (font number (suc s)) = twelve (getD f (fontByte number s) 0) (getD f (fontByte number s + 1) 0)
+bitsOf f (font number s) = cond (eqb s 0) 0 (twelve (getD f (fontByte number s) 0) (getD f (fontByte number s + 1) 0))
 bitsOf f (user first second) = twelve first second
 bitsOf f blank = 0

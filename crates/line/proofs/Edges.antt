@@ -8,8 +8,8 @@ use native.Mathlib.Omega.{arith}
 use lib.Dec.{eqb, ltb}
 use lib.ListN.{length, getD, take, replicate, length-append}
 use lib.Seq.{take-all}
-use Rattle.cells.specs.Reading.{Reading, done, read, bind, then, value, cells}
-use Rattle.cells.proofs.Laws.{cells-bind, value-bind, cells-then, value-then}
+use Rattle.cells.specs.Reading.{Reading, done, read, bind, fmap, value, cells}
+use Rattle.cells.proofs.Laws.{cells-bind, value-bind, cells-fmap, value-fmap}
 use Rattle.registers.specs.declared.Settings.{Settings}
 use Rattle.raster.specs.declared.Slice.{Slice}
 use Rattle.raster.specs.Raster.{sliceNumber, columnsOf, interpolated, hiddenIn}
@@ -58,10 +58,10 @@ few-code n a b p ram h = omega arith
 
 -- a glyph and the places after it
 few-glyph : (n : ℕ) (g : Reading Glyph) (low : ℕ) (p : Reading (List Place)) (ram : List ℕ) → Counted g ram → Few n p ram
-    → Few n (bind g λ x. then (λ places. (record { low = low; glyph = x }) ∷ places) p) ram
+    → Few n (bind g λ x. fmap (λ places. (record { low = low; glyph = x }) ∷ places) p) ram
 unfolding users
 few-glyph n g low p ram c h =
-    simp (cells-bind, value-bind, cells-then, value-then, length-append) (omega arith)
+    simp (cells-bind, value-bind, cells-fmap, value-fmap, length-append) (omega arith)
 
 codes-few : (n : ℕ) (s : Slice) (a : ℕ) (ram : List ℕ) → Few n (codes n s a) ram
 unfolding codes
@@ -86,10 +86,10 @@ scan-few s w ram =
     let v : Walk = value ram (nextLine (s .ch) w) in
     let p : Reading (List Place) = cond (s .osd) (rowOf (columnsOf (s .ld) (s .dd)) (v .strip)) (done []) in
     let h : Few (columnsOf (s .ld) (s .dd)) p ram =
-        either-few (columnsOf (s .ld) (s .dd)) (s .osd) (rowOf (columnsOf (s .ld) (s .dd)) (v .strip)) (done []) ram
-        (row-few (columnsOf (s .ld) (s .dd)) (v .strip) ram) (few-none (columnsOf (s .ld) (s .dd)) ram)
+    either-few (columnsOf (s .ld) (s .dd)) (s .osd) (rowOf (columnsOf (s .ld) (s .dd)) (v .strip)) (done []) ram
+    (row-few (columnsOf (s .ld) (s .dd)) (v .strip) ram) (few-none (columnsOf (s .ld) (s .dd)) ram)
     in
-    simp (cells-bind, value-bind, cells-then, value-then, length-append) (omega (arith, h))
+    simp (cells-bind, value-bind, cells-fmap, value-fmap, length-append) (omega (arith, h))
 
 -- ---- the table
 
@@ -114,6 +114,40 @@ user-cells ram = refl
 
 pub edges : Edges
 unfolding Each table Holds sliceNumber
-edges =
-    (refl, (refl, (refl, (refl, (refl, (refl, (refl, (refl, (refl, (refl, (refl, (refl,
-    (most 63 255 0 refl, (most 4 5 2 refl, (second, (user-cells, tt))))))))))))))))
+edges = (
+  refl,
+  (
+    refl,
+    (
+      refl,
+      (
+        refl,
+        (
+          refl,
+          (
+            refl,
+            (
+              refl,
+              (
+                refl,
+                (
+                  refl,
+                  (
+                    refl,
+                    (
+                      refl,
+                      (
+                        refl,
+                        (most 63 255 0 refl, (most 4 5 2 refl, (second, (user-cells, tt)))),
+                      ),
+                    ),
+                  ),
+                ),
+              ),
+            ),
+          ),
+        ),
+      ),
+    ),
+  ),
+)

@@ -5,7 +5,7 @@ use Prim.Native.Nat.{ℕ}
 use mathlib.Core.Path.{_≡_, refl}
 use mathlib.Core.List.{List, [], _∷_, _++_}
 use lib.ListN.{length, replicate}
-use Rattle.cells.specs.Reading.{bind, then, value, cells}
+use Rattle.cells.specs.Reading.{bind, fmap, value, cells}
 use Rattle.registers.specs.declared.Settings.{Settings}
 use Rattle.registers.specs.Registers.{settingsOf}
 use Rattle.raster.specs.Raster.{interpolated, sliceNumber}
@@ -23,10 +23,10 @@ exampleFont : List ℕ
 exampleFont = replicate 2340 0 ++ 0x0F ∷ 0x08 ∷ replicate 2266 0
 
 example-reads : length (cells example (scan exampleSettings (walkFrom 0))) ≡ 6
-unfolding example exampleSettings settingsOf scan nextLine walkFrom over begun advanced stripOf rowOf codes glyphOf inRam bind then cells value interpolated sliceNumber
+unfolding example exampleSettings settingsOf scan nextLine walkFrom over begun advanced stripOf rowOf codes glyphOf inRam bind fmap cells value interpolated sliceNumber
 example-reads = refl
 
 example-pixels : paint exampleSettings exampleFont 0 (value example (scan exampleSettings (walkFrom 0)) .row)
     ≡ replicate 36 0 ++ 15 ∷ replicate 7 9 ++ replicate 4 15 ++ replicate 12 0
-unfolding example exampleSettings exampleFont settingsOf scan nextLine walkFrom over begun advanced stripOf rowOf codes glyphOf inRam bind then cells value interpolated sliceNumber paint painted character columns bitsOf
+unfolding example exampleSettings exampleFont settingsOf scan nextLine walkFrom over begun advanced stripOf rowOf codes glyphOf inRam bind fmap cells value interpolated sliceNumber paint painted character columns bitsOf
 example-pixels = refl

@@ -7,8 +7,8 @@ use mathlib.Core.List.{List, [], _∷_, _++_}
 use native.Mathlib.Omega.{arith}
 use lib.Dec.{eqb}
 use lib.ListN.{length, getD, take, replicate, length-append, length-take, length-replicate}
-use Rattle.cells.specs.Reading.{Reading, done, read, bind, then, value, cells}
-use Rattle.cells.proofs.Bounds.{Gives, Within, AtMost, gives-all, within-done, atMost-done, within-bind, within-then, within-cond, atMost-more, atMost-bind, atMost-then, atMost-cond}
+use Rattle.cells.specs.Reading.{Reading, done, read, bind, fmap, value, cells}
+use Rattle.cells.proofs.Bounds.{Gives, Within, AtMost, gives-all, within-done, atMost-done, within-bind, within-fmap, within-cond, atMost-more, atMost-bind, atMost-fmap, atMost-cond}
 use Rattle.registers.specs.declared.Settings.{Settings}
 use Rattle.registers.specs.declared.Registers.{Registers}
 use Rattle.registers.specs.Registers.{settingsOf}
@@ -31,11 +31,16 @@ use Rattle.line.specs.Line.{Place, codes, rowOf, Scanned, scan, plain, f
 codes-within : (n : ℕ) (s : Slice) (a : ℕ) → s .0 ≤ 18 → Within 1024 (codes n s a)
 unfolding codes Within
 codes-within zero s a h = tt
-codes-within (suc n) s a h =
-    (omega (arith, even-bound a), λ low. (even-bound a, λ high.
-    within-cond 1024 (endsLine high) (done []) _ tt
-    (within-bind (λ (g : Glyph). Unit {0}) 1024 (glyphOf high s) _ (gives-all (λ (g : Glyph). Unit {0}) (λ g. tt) (glyphOf high s))
-    (glyphOf-within high s h) (λ g t. within-then 1024 _ (codes n s (next a)) (codes-within n s (next a) h)))))
+codes-within (suc n) s a h = (
+  omega (arith, even-bound a),
+  λ low. (
+    even-bound a,
+    λ high.
+        within-cond 1024 (endsLine high) (done []) _ tt
+        (within-bind (λ (g : Glyph). Unit {0}) 1024 (glyphOf high s) _ (gives-all (λ (g : Glyph). Unit {0}) (λ g. tt) (glyphOf high s))
+        (glyphOf-within high s h) (λ g t. within-fmap 1024 _ (codes n s (next a)) (codes-within n s (next a) h))),
+  ),
+)
 
 -- a slice on a line of a strip lies in 0 to 18
 pub interpolated-bound : (j : ScanLine) (ch : ℕ) (zoom : Bool) → InStrip j ch zoom → interpolated j ch zoom .0 ≤ 18
@@ -53,7 +58,7 @@ pub scan-within : (s : Settings) (w : Walk) → Within 1024 (scan s w)
 unfolding scan
 scan-within s w =
     within-bind (λ (v : Walk). OnLine (v .strip)) 1024 (nextLine (s .ch) w) _ (nextLine-on (s .ch) w) (nextLine-within (s .ch) w)
-    (λ v h. within-then 1024 _ _ (within-cond 1024 (s .osd) _ _ (rowOf-within (columnsOf (s .ld) (s .dd)) (v .strip) h) (within-done 1024 [])))
+    (λ v h. within-fmap 1024 _ _ (within-cond 1024 (s .osd) _ _ (rowOf-within (columnsOf (s .ld) (s .dd)) (v .strip) h) (within-done 1024 [])))
 
 -- ---- how many
 
@@ -64,7 +69,7 @@ codes-most (suc n) s a =
     subst (λ (m : ℕ). AtMost m (codes (suc n) s a)) four
     (λ low high.
     atMost-cond (2 + 4 * n) (endsLine high) (done []) _ tt
-    (atMost-bind 2 (4 * n) (glyphOf high s) _ (glyphOf-most high s) (λ g. atMost-then (4 * n) _ (codes n s (next a)) (codes-most n s (next a)))))
+    (atMost-bind 2 (4 * n) (glyphOf high s) _ (glyphOf-most high s) (λ g. atMost-fmap (4 * n) _ (codes n s (next a)) (codes-most n s (next a)))))
   where
     four : suc (suc (2 + 4 * n)) ≡ 4 * suc n
     four = omega arith
@@ -79,7 +84,7 @@ scan-most : (s : Settings) (w : Walk) → AtMost (2 + 4 * columnsOf (s .ld) (s .
 unfolding scan
 scan-most s w =
     atMost-bind 2 (4 * columnsOf (s .ld) (s .dd)) (nextLine (s .ch) w) _ (nextLine-most (s .ch) w)
-    (λ v. atMost-then (4 * columnsOf (s .ld) (s .dd)) _ _
+    (λ v. atMost-fmap (4 * columnsOf (s .ld) (s .dd)) _ _
     (atMost-cond (4 * columnsOf (s .ld) (s .dd)) (s .osd) _ _ (rowOf-most (columnsOf (s .ld) (s .dd)) (v .strip)) (atMost-done _ [])))
 
 -- at most 61 characters start on a line

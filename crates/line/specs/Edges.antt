@@ -25,12 +25,12 @@ pub data Row : Type 0 where
   -- the cells of a user character's slice
   userCells : (number s first second : ℕ) → Row
 
--- how many of the places are user characters: each reads two cells of its slice
 unfoldable pub isUser : Glyph → ℕ
 isUser (font number s) = 0
 isUser (user first second) = 1
 isUser blank = 0
 
+-- how many of the places are user characters: each reads two cells of its slice
 unfoldable pub users : List Place → ℕ
 users [] = 0
 users (p ∷ ps) = isUser (p .glyph) + users ps
@@ -39,7 +39,7 @@ users (p ∷ ps) = isUser (p .glyph) + users ps
 unfoldable pub Holds : Row → Type 0
 Holds (slice ch n s) = sliceNumber ch n ≡ s
 Holds (start dd x) = firstPixelOf dd ≡ x
--- beyond the descriptor's cells and two for each user slice, two cells are read for each code
+-- a line reads the descriptor's cells, two cells for each code and two for each user slice, so this bounds the codes by n
 Holds (mostCodes ld dd n) =
     (s : Settings) (w : Walk) (ram : List ℕ) → s .ld ≡ ld → s .dd ≡ dd
     → length (cells ram (scan s w)) ≤ length (cells ram (nextLine (s .ch) w)) + 2 * n + 2 * users (value ram (scan s w) .row)

@@ -7,7 +7,7 @@ use mathlib.Core.Bool.{Bool, true, false, cond, _&&_}
 use mathlib.Core.List.{List, [], _∷_, _++_}
 use lib.Dec.{eqb}
 use lib.ListN.{take, replicate}
-use Rattle.cells.specs.Reading.{Reading, done, read, bind, then}
+use Rattle.cells.specs.Reading.{Reading, done, read, bind, fmap}
 use Rattle.registers.specs.declared.Settings.{Settings}
 use Rattle.raster.specs.declared.Slice.{Slice}
 use Rattle.raster.specs.Raster.{interpolated, widthOf, firstPixelOf, columnsOf, hiddenIn}
@@ -33,7 +33,7 @@ codes (suc n) s a =
     read (even a + 1) λ high.
     cond (endsLine high)
     (done [])
-    (bind (glyphOf high s) λ g. then (λ places. (record { low = low; glyph = g }) ∷ places) (codes n s (next a)))
+    (bind (glyphOf high s) λ g. fmap (λ places. (record { low = low; glyph = g }) ∷ places) (codes n s (next a)))
 
 -- what stands on a line of the strip. In spacing strips and strips with DE 0 no code is read
 unfoldable pub rowOf : ℕ → Strip → Reading (List Place)
@@ -48,7 +48,7 @@ pub record Scanned : Type 0 where
 unfoldable pub scan : Settings → Walk → Reading Scanned
 scan s w =
     bind (nextLine (s .ch) w) λ v.
-    then (λ row. record { walk = v; row = row })
+    fmap (λ row. record { walk = v; row = row })
     (cond (s .osd) (rowOf (columnsOf (s .ld) (s .dd)) (v .strip)) (done []))
 
 -- ---- paint: a pixel is 8 FBLK + 4 R + 2 G + B
@@ -89,10 +89,10 @@ shownBits hidden low bits = cond (flashes low && hidden) 0 bits
 unfoldable pub character : List ℕ → ℕ → Bool → Place → List ℕ
 character font fbk hidden p = columns 12 fbk (p .low) (shownBits hidden (p .low) (bitsOf font (p .glyph))) 0
 
--- what is left of a line, from a character's first pixel on: the characters, the last cut, then plain
+-- the room that is left on a line, from a character's first pixel on: the characters, the last cut, then plain
 unfoldable pub painted : List ℕ → ℕ → Bool → ℕ → List Place → List ℕ
-painted font fbk hidden left [] = replicate left (plain fbk)
-painted font fbk hidden left (p ∷ ps) = take left (character font fbk hidden p) ++ painted font fbk hidden (left - 12) ps
+painted font fbk hidden room [] = replicate room (plain fbk)
+painted font fbk hidden room (p ∷ ps) = take room (character font fbk hidden p) ++ painted font fbk hidden (room - 12) ps
 
 -- a line of W pixels. OSD 0: every pixel 0. Else plain before the first character
 unfoldable pub paint : Settings → List ℕ → ℕ → List Place → List ℕ

@@ -1,4 +1,5 @@
--- Document 01, "From line to slice", and of "Pixels" the width, the first pixel and the hidden time.
+-- Document 01, "From line to slice", with the lines of a character strip of "Walk of a frame", and of "Pixels" the width, the first
+-- pixel and the hidden time.
 -- Assumes nothing.
 use Prim.Native.Nat.{ℕ, zero, suc, _+_, _-_, _*_, _/_, _≤_, max}
 use mathlib.Core.Bool.{Bool, false, cond}
@@ -22,7 +23,7 @@ sliceNumber ch n = (36 * n + ch) / (2 * ch)
 unfoldable pub interpolated : ScanLine → ℕ → Bool → Slice
 interpolated j ch zoom = record { 0 = sliceNumber ch (unzoomed zoom (j .0)) }
 
--- line j of a strip counts from 1
+-- line j of a strip counts from 1 and ends with the strip's last
 pub record InStrip (j : ScanLine) (ch : ℕ) (zoom : Bool) : Type 0 where
   pub from : 1 ≤ j .0
   pub to : j .0 ≤ stripLines ch zoom

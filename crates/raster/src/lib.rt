@@ -2,7 +2,7 @@
 ghost use mathlib.Core.Path.{_≡_};
 ghost use Rattle.raster.specs.Raster.{InStrip, unzoomed, interpolated, widthOf, firstPixelOf, hiddenIn};
 
-// A scan line of a strip, counted from 1.
+// A scan line of a strip, counted from 1; 0 before the first.
 pub struct ScanLine(pub u16);
 
 // A slice of a character, 0 to 18.

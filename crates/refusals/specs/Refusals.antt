@@ -15,11 +15,11 @@ numberOf BenchLength = 7
 numberOf CellRange = 8
 
 -- an answer as the paper has it: the refusal's number, 0 where the call is accepted, and the answer's own number
-pub record Paper : Type 0 where
+pub record Reply : Type 0 where
   pub refusal : ℕ
   pub value : ℕ
 
-abbrev pub accepted : ℕ → Paper
+abbrev pub accepted : ℕ → Reply
 accepted v = record { refusal = 0; value = v }
 
 -- numbers in a refusal are 0, 255 for the byte of 5
@@ -33,5 +33,5 @@ valueIn FrameLines = 0
 valueIn BenchLength = 0
 valueIn CellRange = 0
 
-abbrev pub refused : Refusal → Paper
+abbrev pub refused : Refusal → Reply
 refused r = record { refusal = numberOf r; value = valueIn r }

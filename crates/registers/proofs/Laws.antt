@@ -64,8 +64,10 @@ stored-at l j b i h = by (ℕ-discrete i j) (decLt j (length l))
   where
     after : List ℕ
     after = set l j (bitAnd b (getD kept j 0))
+
     same : (x y : ℕ) → x ≡ y → bitAnd y (getD kept i 0) ≡ y → bitAnd x (getD kept i 0) ≡ x
     same x y e q = subst (λ (z : ℕ). bitAnd z (getD kept i 0) ≡ z) (sym e) q
+
     by : Dec (i ≡ j) → Dec (j < length l) → bitAnd (getD after i 0) (getD kept i 0) ≡ getD after i 0
     by (no n) d = same (getD after i 0) (getD l i 0) (getD-set-other l j i _ 0 n) h
     by (yes e) (no n) = same (getD after i 0) (getD l i 0) (ap (λ (x : List ℕ). getD x i 0) (set-out l j _ (omega arith))) h

@@ -1,4 +1,4 @@
--- Document 01, "Registers". Register i stands at address 3FF0 + i.
+-- Document 01, "Registers". Register i, 0 to 15, stands at address 3FF0 + i; a larger number is taken modulo 16.
 -- Assumes nothing.
 use Prim.Native.Nat.{ℕ, _/_, _%_}
 use mathlib.Core.List.{List, [], _∷_}

@@ -18,41 +18,41 @@ pub struct Settings {
 
 impl Registers {
     pub const RESET: [u8; 16] = [
-        0x3F,
-        0x08,
-        0x12,
-        0x00,
-        0x22,
-        0x33,
-        0x28,
-        0x0A,
-        0,
-        0,
-        0,
-        0,
-        0,
-        0,
-        0,
-        0,
+        0x3F, // 3FF0 VSP, HSP, LD
+        0x08, // 3FF1 DD
+        0x12, // 3FF2 CH
+        0x00, // 3FF3 OSD, FBK, FL, unused, P
+        0x22, // 3FF4 FR, AS, BS
+        0x33, // 3FF5 AF, BF
+        0x28, // 3FF6 PP
+        0x0A, // 3FF7 FM
+        0x00, // 3FF8 PWM
+        0x00, // 3FF9 PWM
+        0x00, // 3FFA PWM
+        0x00, // 3FFB PWM
+        0x00, // 3FFC PWM
+        0x00, // 3FFD PWM
+        0x00, // 3FFE PWM
+        0x00, // 3FFF PWM
     ];
 
     pub const KEPT: [u8; 16] = [
-        0xFF,
-        0xFF,
-        0x3F,
-        0xF7,
-        0xF7,
-        0x77,
-        0xFF,
-        0x0F,
-        0xFF,
-        0xFF,
-        0xFF,
-        0xFF,
-        0xFF,
-        0xFF,
-        0xFF,
-        0xFF,
+        0xFF, // 3FF0 VSP, HSP, LD
+        0xFF, // 3FF1 DD
+        0x3F, // 3FF2 CH
+        0xF7, // 3FF3 OSD, FBK, FL, unused, P
+        0xF7, // 3FF4 FR, AS, BS
+        0x77, // 3FF5 AF, BF
+        0xFF, // 3FF6 PP
+        0x0F, // 3FF7 FM
+        0xFF, // 3FF8 PWM
+        0xFF, // 3FF9 PWM
+        0xFF, // 3FFA PWM
+        0xFF, // 3FFB PWM
+        0xFF, // 3FFC PWM
+        0xFF, // 3FFD PWM
+        0xFF, // 3FFE PWM
+        0xFF, // 3FFF PWM
     ];
 
     pub fn fresh() -> Registers

@@ -8,7 +8,7 @@ use native.Mathlib.Omega.{arith}
 use borrow.Author.Tests.{leb-false}
 use lib.Dec.{leb, eqb}
 use Rattle.cells.specs.Reading.{Reading, done, read}
-use Rattle.cells.proofs.Bounds.{Gives, Within, AtMost, gives-then, within-then, within-cond, atMost-then, atMost-cond}
+use Rattle.cells.proofs.Bounds.{Gives, Within, AtMost, gives-fmap, within-fmap, within-cond, atMost-fmap, atMost-cond}
 use Rattle.raster.specs.declared.ScanLine.{ScanLine}
 use Rattle.raster.specs.Raster.{InStrip, stripLines}
 use Rattle.walk.specs.declared.Strip.{Strip}
@@ -46,11 +46,11 @@ begun-most ch w = atMost-cond 2 (over (w .strip)) _ _ (λ low high. tt) tt
 
 pub nextLine-within : (ch : ℕ) (w : Walk) → Within 1024 (nextLine ch w)
 unfolding nextLine
-nextLine-within ch w = within-then 1024 _ (begun ch w) (begun-within ch w)
+nextLine-within ch w = within-fmap 1024 _ (begun ch w) (begun-within ch w)
 
 pub nextLine-most : (ch : ℕ) (w : Walk) → AtMost 2 (nextLine ch w)
 unfolding nextLine
-nextLine-most ch w = atMost-then 2 _ (begun ch w) (begun-most ch w)
+nextLine-most ch w = atMost-fmap 2 _ (begun ch w) (begun-most ch w)
 
 -- ---- the strip on screen is at one of its lines
 
@@ -95,5 +95,5 @@ begun-on ch w false e = left-on (w .strip) e
 pub nextLine-on : (ch : ℕ) (w : Walk) → Gives (λ (v : Walk). OnLine (v .strip)) (nextLine ch w)
 unfolding nextLine begun
 nextLine-on ch w =
-    gives-then (λ (v : Walk). OnLine (advanced (v .strip))) (λ (v : Walk). OnLine (v .strip)) _ (begun ch w)
+    gives-fmap (λ (v : Walk). OnLine (advanced (v .strip))) (λ (v : Walk). OnLine (v .strip)) _ (begun ch w)
     (begun-on ch w (over (w .strip)) refl) (λ v h. h)

@@ -3,7 +3,7 @@
 use Prim.Native.Nat.{ℕ, _+_, _-_, _*_, _/_, _%_, max}
 use mathlib.Core.Bool.{Bool, true, false, cond}
 use lib.Dec.{eqb, leb}
-use Rattle.cells.specs.Reading.{Reading, done, read, bind, then}
+use Rattle.cells.specs.Reading.{Reading, done, read, bind, fmap}
 use Rattle.raster.specs.Raster.{stripLines}
 use Rattle.walk.specs.declared.Strip.{Strip}
 use Rattle.walk.specs.declared.Strip.the-variants.{Spacing, Characters}
@@ -54,4 +54,4 @@ advanced (Characters address height zoom enabled line) = Characters address heig
 
 -- the walk at the frame's next line: the strip on screen, and its line
 unfoldable pub nextLine : ℕ → Walk → Reading Walk
-nextLine ch w = then (λ b. record { descriptor = b .descriptor; strip = advanced (b .strip) }) (begun ch w)
+nextLine ch w = fmap (λ b. record { descriptor = b .descriptor; strip = advanced (b .strip) }) (begun ch w)

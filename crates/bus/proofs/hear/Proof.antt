@@ -1,8 +1,8 @@
 use mathlib.Core.Path.{_∙_}
 use denote.Ref.{now}
 use Rattle.refusals.specs.Refusals.{accepted}
-use Rattle.bus.specs.Bus.{registersWith, ramWith, answerTo}
-use Rattle.bus.proofs.Laws.{hearing-refused, hearing-heard}
+use Rattle.bus.specs.Bus.{taken, registersWith, ramWith, answerTo}
+use Rattle.bus.proofs.Laws.{busEvent-refused, busEvent-heard}
 use borrow.Author.Needs.{needs}
 use Rattle.bus.proofs.hear.Statement.{statement}
 use Rattle.bus.proofs.hear.Tie as tie
@@ -14,7 +14,7 @@ use Rattle.bus.proofs.store.Reads as store-reads
 
 -- src/lib.rt:177:9
 returns : tie.Need-returns
-returns c = hearing-refused _ _ _ _ (c .if1 .taken)
+returns c = busEvent-refused _ _ _ _ (c .if1 .taken)
 
 -- src/lib.rt:183:9
 take-requires : tie.Need-take-requires
@@ -46,16 +46,16 @@ load-requires c κs = search needs
 
 -- src/lib.rt:173:1
 returns-2 : tie.Need-returns-2
-unfolding registersWith ramWith answerTo
+unfolding taken registersWith ramWith answerTo
 returns-2 c =
-    hearing-heard _ _ _ _ (c .before .before .before .before .if1 .left)
+    busEvent-heard _ _ _ _ (c .before .before .before .before .if1 .left)
     (c .before .before .before .take .result) (c .before .before .before .take .ensures) (c .enum-told .given .1)
 
 -- src/lib.rt:173:1
 returns-3 : tie.Need-returns-3
-unfolding registersWith ramWith answerTo
+unfolding taken registersWith ramWith answerTo
 returns-3 c =
-    hearing-heard _ _ _ _ (c .before .before .before .before .if1 .left)
+    busEvent-heard _ _ _ _ (c .before .before .before .before .if1 .left)
     (c .before .before .before .take .result) (c .before .before .before .take .ensures) (c .enum-told2 .given .1)
 
 -- src/lib.rt:173:1
@@ -64,12 +64,12 @@ same-length c = search needs
 
 -- src/lib.rt:173:1
 returns-4 : tie.Need-returns-4
-unfolding answerTo
+unfolding taken answerTo
 returns-4 c =
     let t = c .before .before .before .before .before .before .before .before in
     let e = c .before .before .store .ensures in
-    (λ i. record { bus = t .take .result .bus; registers = e .registers i; ram = e .ram i; says = accepted 0 })
-    ∙ hearing-heard _ _ _ _ (t .before .if1 .left) (t .take .result) (t .take .ensures)
+    (λ i. record { bus = t .take .result .bus; registers = e .0 i; ram = e .1 i; reply = accepted 0 })
+    ∙ busEvent-heard _ _ _ _ (t .before .if1 .left) (t .take .result) (t .take .ensures)
     (c .before .before .before .before .before .effect .given .1)
 
 -- src/lib.rt:173:1
@@ -78,12 +78,12 @@ same-length-2 c = search needs
 
 -- src/lib.rt:173:1
 returns-5 : tie.Need-returns-5
-unfolding registersWith ramWith answerTo
+unfolding taken registersWith ramWith answerTo
 returns-5 c =
     let t = c .before .before .before .before .before .before in
     let a = t .before .before .before .args in
-    (λ i. record { bus = t .take .result .bus; registers = a .registers; ram = now (a .ram); says = accepted (c .load .ensures i) })
-    ∙ hearing-heard _ _ _ _ (t .before .if1 .left) (t .take .result) (t .take .ensures) (c .before .before .before .effect2 .given .1)
+    (λ i. record { bus = t .take .result .bus; registers = a .registers; ram = now (a .ram); reply = accepted (c .load .ensures i) })
+    ∙ busEvent-heard _ _ _ _ (t .before .if1 .left) (t .take .result) (t .take .ensures) (c .before .before .before .effect2 .given .1)
 
 pub hear-spec : {M : Type 1} → statement M
 hear-spec =

@@ -19,7 +19,7 @@ same-length c = search needs
 -- src/lib.rt:223:9
 returns : tie.Need-returns
 unfolding registersWith ramWith
-returns c = record { registers = rw (lt-leb 0x3FF0 (c .before .before .args .address) (omega arith)); ram = rw (lt-ltb _ _ (c .if1 .taken)) }
+returns c = (rw (lt-leb 0x3FF0 (c .before .before .args .address) (omega arith)), rw (lt-ltb _ _ (c .if1 .taken)))
 
 -- src/lib.rt:226:32
 cast-store : tie.Need-cast-store
@@ -32,12 +32,12 @@ store-requires c κs = search needs
 -- src/lib.rt:226:9
 returns-2 : tie.Need-returns-2
 unfolding registersWith ramWith
-returns-2 c = record { registers = rw (le-leb _ _ (c .before .if2 .taken)) (c .store .ensures); ram = rw (le-ltb _ _ (c .before .before .if1 .left)) }
+returns-2 c = (rw (le-leb _ _ (c .before .if2 .taken)) (c .store .ensures), rw (le-ltb _ _ (c .before .before .if1 .left)))
 
 -- src/lib.rt:217:1
 returns-3 : tie.Need-returns-3
 unfolding registersWith ramWith
-returns-3 c = record { registers = rw (lt-leb _ _ (c .if2 .left)); ram = rw (le-ltb _ _ (c .before .if1 .left)) }
+returns-3 c = (rw (lt-leb _ _ (c .if2 .left)), rw (le-ltb _ _ (c .before .if1 .left)))
 
 pub store-spec : {M : Type 1} → statement M
 store-spec =

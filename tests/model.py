@@ -1,0 +1,170 @@
+"""A second implementation of document 01, for the stored outputs of the test programs.
+
+It was written from document 01 alone, as a device that is told what to do step by step, and shares nothing with the Rattle code or
+with the definitions in specs/. The scripts beside it make a program's stdin and stdout from it.
+"""
+import copy
+import math
+from fractions import Fraction
+
+RESET = [0x3F, 0x08, 0x12, 0x00, 0x22, 0x33, 0x28, 0x0A] + [0] * 8
+KEPT = [0xFF, 0xFF, 0x3F, 0xF7, 0xF7, 0x77, 0xFF, 0x0F] + [0xFF] * 8
+ACKNOWLEDGED, NOT_ACKNOWLEDGED = (0, 0), (5, 255)
+SHOWN_BELOW = {1: 32, 2: 16, 3: 48}
+
+
+class Device:
+    def __init__(self):
+        self.reset()
+
+    def reset(self):
+        self.registers = list(RESET)
+        self.mode, self.counter, self.high = 'idle', 0, 0
+        self.left, self.next_number = 0, 0
+
+    # ---- bus: (refusal, byte)
+
+    def event(self, ram, kind, x=0):
+        if len(ram) != 1024:
+            return (1, 0)
+        if kind == 'start':
+            self.mode = 'slave'
+            return ACKNOWLEDGED
+        if kind == 'stop':
+            self.mode = 'idle'
+            return ACKNOWLEDGED
+        if kind == 'byte':
+            return self.host_byte(ram, x)
+        if self.mode != 'read':
+            return NOT_ACKNOWLEDGED
+        return (0, self.load(ram, self.step()))
+
+    def host_byte(self, ram, x):
+        if self.mode in ('idle', 'deaf', 'read'):
+            return NOT_ACKNOWLEDGED
+        if self.mode == 'slave':
+            self.mode = {0xBA: 'high', 0xBB: 'read'}.get(x, 'deaf')
+            return NOT_ACKNOWLEDGED if self.mode == 'deaf' else ACKNOWLEDGED
+        if self.mode == 'high':
+            self.high, self.mode = x, 'low'
+        elif self.mode == 'low':
+            self.counter, self.mode = (self.high & 63) << 8 | x, 'write'
+        else:
+            self.store(ram, self.step(), x)
+        return ACKNOWLEDGED
+
+    def step(self):
+        at = self.counter
+        self.counter = 0 if at == 0x3FFF else at + 1
+        return at
+
+    def store(self, ram, a, x):
+        if a <= 0x3FF:
+            ram[a] = x
+        elif a >= 0x3FF0:
+            self.registers[a - 0x3FF0] = x & KEPT[a - 0x3FF0]
+
+    def load(self, ram, a):
+        if a <= 0x3FF:
+            return ram[a]
+        return self.registers[a - 0x3FF0] if a >= 0x3FF0 else 0
+
+    # ---- frame start: the refusal
+
+    def start(self, lines):
+        if not 1 <= lines <= 2048:
+            return 6
+        self.left = lines
+        self.number, self.next_number = self.next_number, (self.next_number + 1) % 64
+        self.descriptor = (self.registers[3] & 7) << 6
+        self.kind, self.line_of_strip, self.strip_lines = None, 0, 0
+        return 0
+
+    # ---- draw: (refusal, read count), and the line in buf
+
+    def draw(self, ram, font, buf):
+        width = 12 * ((self.registers[0] & 63) + 1)
+        if len(ram) != 1024:
+            return (1, 0)
+        if len(font) != 4608:
+            return (2, 0)
+        if self.left == 0:
+            return (4, 0)
+        if len(buf) < width:
+            return (3, 0)
+        cells = []
+        line = self.scan_line(ram, font, width, cells)
+        buf[:width] = line
+        return (0, len(cells))
+
+    def scan_line(self, ram, font, width, cells):
+        def read(a):
+            cells.append(a)
+            return ram[a]
+
+        if self.line_of_strip == self.strip_lines:
+            low, high = read(self.descriptor), read(self.descriptor | 1)
+            self.descriptor = (self.descriptor + 2) & 1023
+            self.line_of_strip = 0
+            if high & 0x80:
+                self.kind, self.shown, self.zoom = 'characters', high >> 6 & 1, high >> 5 & 1
+                self.codes = ((high & 3) << 8 | low) & 0x3FE
+                self.height = self.registers[2] & 63 or 1
+                self.strip_lines = self.height << self.zoom
+            else:
+                self.kind, self.strip_lines = 'spacing', low or 1
+        self.line_of_strip += 1
+        self.left -= 1
+
+        control = self.registers[3]
+        if not control & 0x80:
+            return [0] * width
+        plain = 8 if control & 0x40 else 0
+        line = [plain] * width
+        if self.kind == 'spacing' or not self.shown:
+            return line
+        n = -(-self.line_of_strip // 2) if self.zoom else self.line_of_strip
+        s = math.floor(Fraction(18 * n, self.height) + Fraction(1, 2))
+        mode = control >> 4 & 3
+        x, a = 3 * (max(self.registers[1], 4) + 8), self.codes
+        while x < width:
+            low, high = read(a), read(a + 1)
+            a = (a + 2) % 1024
+            if high == 0xFF:
+                break
+            number = high & 127
+            first = second = 0
+            if high & 0x80 and number <= 25:
+                c = 38 * number + 2 * s
+                first, second = read(c), read(c + 1)
+            elif not high & 0x80 and s > 0:
+                at = 36 * number + 2 * (s - 1)
+                first, second = font[at], font[at + 1]
+            row = [second >> i & 1 for i in (3, 2, 1, 0)] + [first >> i & 1 for i in range(7, -1, -1)]
+            if low & 0x80 and mode and not self.number < SHOWN_BELOW[mode]:
+                row = [0] * 12
+            for i in range(min(12, width - x)):
+                if row[i]:
+                    line[x + i] = 8 | low >> 4 & 7
+                elif not low & 8:
+                    line[x + i] = 8 | low & 7
+                elif low & 2 and i > 0 and row[i - 1]:
+                    line[x + i] = 8
+            x += 12
+        return line
+
+    # ---- cell question: (refusal, 1 or 0)
+
+    def cells_left(self, ram):
+        ahead, cells = copy.deepcopy(self), []
+        width = 12 * ((self.registers[0] & 63) + 1)
+        while ahead.left:
+            ahead.scan_line(ram, [0] * 4608, width, cells)
+        return set(cells)
+
+    def ask(self, ram, cell):
+        if len(ram) != 1024:
+            return (1, 0)
+        if cell >= 1024:
+            return (8, 0)
+        return (0, int(cell in self.cells_left(ram)))
