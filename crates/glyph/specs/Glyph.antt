@@ -4,7 +4,7 @@ use Prim.Native.Nat.{ℕ, _+_, _-_, _*_, _/_, _%_}
 use mathlib.Core.Bool.{Bool, true, false, cond}
 use mathlib.Core.List.{List}
 use lib.Dec.{eqb, ltb}
-use lib.ListN.{getD}
+use lib.ListN.{getD, take, drop}
 use Rattle.cells.specs.Reading.{Reading, done, read}
 use Rattle.raster.specs.declared.Slice.{Slice}
 
@@ -49,3 +49,8 @@ unfoldable pub bitsOf : List ℕ → Glyph → ℕ
 bitsOf f (font number s) = cond (eqb s 0) 0 (twelve (getD f (fontByte number s) 0) (getD f (fontByte number s + 1) 0))
 bitsOf f (user first second) = twelve first second
 bitsOf f blank = 0
+
+-- the two bytes of a slice come from the lent RAM or from the lent font: a two-byte part of one of them, chosen by SET
+unfoldable pub slicePart : List ℕ → List ℕ → ℕ → ℕ → List ℕ
+slicePart ram f high s =
+    cond (eqb (high / 128 % 2) 0) (take 2 (drop (fontByte (high % 128) s) f)) (take 2 (drop (userCell (high % 128) s) ram))

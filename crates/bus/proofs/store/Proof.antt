@@ -1,40 +1,32 @@
+-- `store`: the tests on the address pick the case of `ramWith` and `registersWith`.
+-- Assumes nothing.
 use native.Mathlib.Omega.{arith}
 use borrow.Author.Tests.{lt-ltb, le-ltb, le-leb, lt-leb}
 use Rattle.bus.specs.Bus.{registersWith, ramWith}
 use borrow.Author.Needs.{needs}
 use Rattle.bus.proofs.store.Statement.{statement}
 use Rattle.bus.proofs.store.Tie as tie
-use Rattle.bus.proofs.store.Reads as reads
-use Rattle.bus.proofs.store.Lts as lts
-use Rattle.registers.proofs.Registers.store.Reads as store-reads
 
--- src/lib.rt:222:9
 slice-write-ram : tie.Need-slice-write-ram
 slice-write-ram c = search needs
 
--- src/lib.rt:223:9
 same-length : tie.Need-same-length
 same-length c = search needs
 
--- src/lib.rt:223:9
 returns : tie.Need-returns
 unfolding registersWith ramWith
 returns c = (rw (lt-leb 0x3FF0 (c .before .before .args .address) (omega arith)), rw (lt-ltb _ _ (c .if1 .taken)))
 
--- src/lib.rt:226:32
 cast-store : tie.Need-cast-store
 cast-store c = search needs
 
--- src/lib.rt:226:9
 store-requires : tie.Need-store-requires
 store-requires c κs = search needs
 
--- src/lib.rt:226:9
 returns-2 : tie.Need-returns-2
 unfolding registersWith ramWith
 returns-2 c = (rw (le-leb _ _ (c .before .if2 .taken)) (c .store .ensures), rw (le-ltb _ _ (c .before .before .if1 .left)))
 
--- src/lib.rt:217:1
 returns-3 : tie.Need-returns-3
 unfolding registersWith ramWith
 returns-3 c = (rw (lt-leb _ _ (c .if2 .left)), rw (le-ltb _ _ (c .before .if1 .left)))

@@ -1,14 +1,11 @@
+-- `run` stays within the script; the lent RAMs keep their lengths.
+-- Assumes nothing.
 use Prim.Native.Nat.{_-_, _/_}
 use mathlib.Core.Path.{_≡_}
 use borrow.Author.Needs.{needs}
 use lib.ListN.{length}
 use Rattle.bus_traffic.proofs.run.Statement.{statement}
 use Rattle.bus_traffic.proofs.run.Tie as tie
-use Rattle.bus_traffic.proofs.run.Reads as reads
-use Rattle.bus_traffic.proofs.run.Lts as lts
-use Rattle.bus.proofs.Bus.fresh.Reads as Bus-fresh-reads
-use Rattle.bus_traffic.proofs.turn.Reads as turn-reads
-use Rattle.registers.proofs.Registers.fresh.Reads as Registers-fresh-reads
 
 abbrev Inv-loop : tie.InvT-loop
 Inv-loop script ram₀ other₀ host₀ i₀ ram other host i = (length ram ≡ length ram₀) × (length other ≡ length other₀)
@@ -16,63 +13,48 @@ Inv-loop script ram₀ other₀ host₀ i₀ ram other host i = (length ram ≡ 
 abbrev μ-loop : tie.MeasureT-loop
 μ-loop script ram₀ other₀ host₀ i₀ ram other host i = length script / 2 - i
 
--- src/main.rt:27:14
 fresh-requires : tie.Need-fresh-requires Inv-loop μ-loop
 fresh-requires c κs = search needs
 
--- src/main.rt:28:20
 fresh-requires-2 : tie.Need-fresh-requires-2 Inv-loop μ-loop
 fresh-requires-2 c κs = search needs
 
--- src/main.rt:32:5
 loop-holds : tie.Need-loop-holds Inv-loop μ-loop
 loop-holds c = search needs
 
--- src/main.rt:33:46
 mul-turn : tie.Need-mul-turn Inv-loop μ-loop
 mul-turn c = search needs
 
--- src/main.rt:33:39
 shared-slice-read-turn : tie.Need-shared-slice-read-turn Inv-loop μ-loop
 shared-slice-read-turn c = search needs
 
--- src/main.rt:33:61
 mul-turn-2 : tie.Need-mul-turn-2 Inv-loop μ-loop
 mul-turn-2 c = search needs
 
--- src/main.rt:33:61
 add-turn : tie.Need-add-turn Inv-loop μ-loop
 add-turn c = search needs
 
--- src/main.rt:33:54
 shared-slice-read-turn-2 : tie.Need-shared-slice-read-turn-2 Inv-loop μ-loop
 shared-slice-read-turn-2 c = search needs
 
--- src/main.rt:33:9
 turn-requires : tie.Need-turn-requires Inv-loop μ-loop
 turn-requires c κs = search needs
 
--- src/main.rt:34:9
 add-i : tie.Need-add-i Inv-loop μ-loop
 add-i c = search needs
 
--- src/main.rt:32:5
 loop-less : tie.Need-loop-less Inv-loop μ-loop
 loop-less c = search needs
 
--- src/main.rt:32:5
 loop-again : tie.Need-loop-again Inv-loop μ-loop
 loop-again c = search needs
 
--- src/main.rt:25:1
 same-length : tie.Need-same-length Inv-loop μ-loop
 same-length c = search needs
 
--- src/main.rt:25:1
 same-length-2 : tie.Need-same-length-2 Inv-loop μ-loop
 same-length-2 c = search needs
 
--- src/main.rt:25:1
 returns : tie.Need-returns Inv-loop μ-loop
 returns c = search needs
 

@@ -1,54 +1,41 @@
+-- `turn` lends a part that lies within its RAM.
+-- Assumes nothing.
 use mathlib.Core.Path.{sym}
 use lib.Seq.{length-take-le}
 use borrow.Author.Needs.{needs}
 use Rattle.bus_traffic.proofs.turn.Statement.{statement}
 use Rattle.bus_traffic.proofs.turn.Tie as tie
-use Rattle.bus_traffic.proofs.turn.Reads as reads
-use Rattle.bus_traffic.proofs.turn.Lts as lts
-use Rattle.bus_traffic.proofs.heard.Reads as heard-reads
-use Rattle.bus_traffic.proofs.length.Reads as length-reads
 
--- src/main.rt:46:19
 length-requires : tie.Need-length-requires
 length-requires c κs = search needs
 
--- src/main.rt:43:9
 returns : tie.Need-returns
 returns c = search needs
 
--- src/main.rt:50:9
 heard-requires : tie.Need-heard-requires
 heard-requires c κs = search needs
 
--- src/main.rt:50:9
 same-length : tie.Need-same-length
 same-length c = search needs
 
--- src/main.rt:50:9
 returns-2 : tie.Need-returns-2
 returns-2 c = search needs
 
--- src/main.rt:53:28
 slice-relend-prefix-heard : tie.Need-slice-relend-prefix-heard
 slice-relend-prefix-heard c = search needs
 
--- src/main.rt:53:28
 slice-aggregate-heard : tie.Need-slice-aggregate-heard
 slice-aggregate-heard c = sym (length-take-le _ _ (c .before .if3 .taken))
 
--- src/main.rt:53:9
 heard-requires-2 : tie.Need-heard-requires-2
 heard-requires-2 c κs = search needs
 
--- src/main.rt:53:9
 same-length-2 : tie.Need-same-length-2
 same-length-2 c = search needs
 
--- src/main.rt:53:9
 returns-3 : tie.Need-returns-3
 returns-3 c = search needs
 
--- src/main.rt:38:1
 returns-4 : tie.Need-returns-4
 returns-4 c = search needs
 

@@ -1,62 +1,47 @@
+-- `Bus::take`: each arm is a clause of `step`.
+-- Assumes nothing.
 use mathlib.Core.Path.{_∙_, sym, ap}
 use Rattle.bus.specs.Bus.{step}
 use borrow.Author.Needs.{needs}
 use Rattle.bus.proofs.Bus.take.Statement.{statement}
 use Rattle.bus.proofs.Bus.take.Tie as tie
-use Rattle.bus.proofs.Bus.take.Reads as reads
-use Rattle.bus.proofs.Bus.take.Lts as lts
-use Rattle.bus.proofs.Bus.goes_to.Reads as goes-to-reads
-use Rattle.bus.proofs.Bus.take_byte.Reads as take-byte-reads
-use Rattle.bus.proofs.Bus.take_fetch.Reads as take-fetch-reads
 
--- src/lib.rt:93:42
 enum-told : tie.Need-enum-told
 enum-told c = search needs
 
--- src/lib.rt:93:29
 goes-to-requires : tie.Need-goes-to-requires
 goes-to-requires c κs = search needs
 
--- src/lib.rt:94:25
 enum-known-event : tie.Need-enum-known-event
 enum-known-event c = search needs
 
--- src/lib.rt:94:31
 take-byte-requires : tie.Need-take-byte-requires
 take-byte-requires c κs = search needs
 
--- src/lib.rt:95:29
 enum-told-2 : tie.Need-enum-told-2
 enum-told-2 c = search needs
 
--- src/lib.rt:95:29
 take-fetch-requires : tie.Need-take-fetch-requires
 take-fetch-requires c κs = search needs
 
--- src/lib.rt:96:41
 enum-told-3 : tie.Need-enum-told-3
 enum-told-3 c = search needs
 
--- src/lib.rt:96:28
 goes-to-requires-2 : tie.Need-goes-to-requires-2
 goes-to-requires-2 c κs = search needs
 
--- src/lib.rt:89:5
 returns : tie.Need-returns
 unfolding step
 returns c = c .goes-to .ensures ∙ ap (step _) (sym (c .before .enum-told .given .1))
 
--- src/lib.rt:89:5
 returns-2 : tie.Need-returns-2
 unfolding step
 returns-2 c = c .take-byte .ensures ∙ ap (step _) (sym (c .before .before .event .given .1))
 
--- src/lib.rt:89:5
 returns-3 : tie.Need-returns-3
 unfolding step
 returns-3 c = c .take-fetch .ensures ∙ ap (step _) (sym (c .before .enum-told2 .given .1))
 
--- src/lib.rt:89:5
 returns-4 : tie.Need-returns-4
 unfolding step
 returns-4 c = c .goes-to2 .ensures ∙ ap (step _) (sym (c .before .enum-told3 .given .1))

@@ -1,103 +1,77 @@
+-- `Bus::take_byte`: each arm is a clause of `byteAt`.
+-- Assumes nothing.
 use mathlib.Core.Path.{_∙_}
 use Rattle.bus.proofs.Laws.{byte-at}
 use borrow.Author.Needs.{needs}
 use Rattle.bus.proofs.Bus.take_byte.Statement.{statement}
 use Rattle.bus.proofs.Bus.take_byte.Tie as tie
-use Rattle.bus.proofs.Bus.take_byte.Reads as reads
-use Rattle.bus.proofs.Bus.take_byte.Lts as lts
-use Rattle.bus.proofs.Bus.goes_to.Reads as goes-to-reads
-use Rattle.bus.proofs.Bus.steps_on.Reads as steps-on-reads
-use Rattle.bus.proofs.Bus.take_slave.Reads as take-slave-reads
 
--- src/lib.rt:130:48
 enum-told : tie.Need-enum-told
 enum-told c = search needs
 
--- src/lib.rt:130:28
 goes-to-requires : tie.Need-goes-to-requires
 goes-to-requires c κs = search needs
 
--- src/lib.rt:131:48
 enum-told-2 : tie.Need-enum-told-2
 enum-told-2 c = search needs
 
--- src/lib.rt:131:28
 goes-to-requires-2 : tie.Need-goes-to-requires-2
 goes-to-requires-2 c κs = search needs
 
--- src/lib.rt:132:29
 enum-told-3 : tie.Need-enum-told-3
 enum-told-3 c = search needs
 
--- src/lib.rt:132:29
 take-slave-requires : tie.Need-take-slave-requires
 take-slave-requires c κs = search needs
 
--- src/lib.rt:133:41
 enum-told-4 : tie.Need-enum-told-4
 enum-told-4 c = search needs
 
--- src/lib.rt:133:28
 goes-to-requires-3 : tie.Need-goes-to-requires-3
 goes-to-requires-3 c κs = search needs
 
--- src/lib.rt:134:24
 enum-known-state : tie.Need-enum-known-state
 enum-known-state c = search needs
 
--- src/lib.rt:137:30
 cast-t12 : tie.Need-cast-t12
 cast-t12 c = search needs
 
--- src/lib.rt:137:30
 mul-t13 : tie.Need-mul-t13
 mul-t13 c = search needs
 
--- src/lib.rt:137:30
 add-t15 : tie.Need-add-t15
 add-t15 c = search needs
 
--- src/lib.rt:141:57
 enum-told-5 : tie.Need-enum-told-5
 enum-told-5 c = search needs
 
--- src/lib.rt:141:29
 steps-on-requires : tie.Need-steps-on-requires
 steps-on-requires c κs = search needs
 
--- src/lib.rt:142:48
 enum-told-6 : tie.Need-enum-told-6
 enum-told-6 c = search needs
 
--- src/lib.rt:142:28
 goes-to-requires-4 : tie.Need-goes-to-requires-4
 goes-to-requires-4 c κs = search needs
 
--- src/lib.rt:125:5
 returns : tie.Need-returns
 returns c = c .goes-to .ensures ∙ byte-at _ _ (c .before .enum-told .given .1)
 
--- src/lib.rt:125:5
 returns-2 : tie.Need-returns-2
 returns-2 c = c .goes-to2 .ensures ∙ byte-at _ _ (c .before .enum-told2 .given .1)
 
--- src/lib.rt:125:5
 returns-3 : tie.Need-returns-3
 returns-3 c = c .take-slave .ensures ∙ byte-at _ _ (c .before .enum-told3 .given .1)
 
--- src/lib.rt:125:5
 returns-4 : tie.Need-returns-4
 returns-4 c = c .goes-to3 .ensures ∙ byte-at _ _ (c .before .enum-told4 .given .1)
 
--- src/lib.rt:125:5
 returns-5 : tie.Need-returns-5
 returns-5 c = byte-at _ _ (c .before .state .given .1)
 
--- src/lib.rt:125:5
 returns-6 : tie.Need-returns-6
 returns-6 c = c .steps-on .ensures ∙ byte-at _ _ (c .before .before .enum-told5 .given .1)
 
--- src/lib.rt:125:5
 returns-7 : tie.Need-returns-7
 returns-7 c = c .goes-to4 .ensures ∙ byte-at _ _ (c .before .enum-told6 .given .1)
 

@@ -1,94 +1,71 @@
+-- `Bus::take_fetch`: each arm is a clause of `fetchAt`.
+-- Assumes nothing.
 use mathlib.Core.Path.{_∙_}
 use Rattle.bus.proofs.Laws.{fetch-at}
 use borrow.Author.Needs.{needs}
 use Rattle.bus.proofs.Bus.take_fetch.Statement.{statement}
 use Rattle.bus.proofs.Bus.take_fetch.Tie as tie
-use Rattle.bus.proofs.Bus.take_fetch.Reads as reads
-use Rattle.bus.proofs.Bus.take_fetch.Lts as lts
-use Rattle.bus.proofs.Bus.goes_to.Reads as goes-to-reads
-use Rattle.bus.proofs.Bus.steps_on.Reads as steps-on-reads
 
--- src/lib.rt:163:48
 enum-told : tie.Need-enum-told
 enum-told c = search needs
 
--- src/lib.rt:163:28
 goes-to-requires : tie.Need-goes-to-requires
 goes-to-requires c κs = search needs
 
--- src/lib.rt:164:48
 enum-told-2 : tie.Need-enum-told-2
 enum-told-2 c = search needs
 
--- src/lib.rt:164:28
 goes-to-requires-2 : tie.Need-goes-to-requires-2
 goes-to-requires-2 c κs = search needs
 
--- src/lib.rt:165:49
 enum-told-3 : tie.Need-enum-told-3
 enum-told-3 c = search needs
 
--- src/lib.rt:165:29
 goes-to-requires-3 : tie.Need-goes-to-requires-3
 goes-to-requires-3 c κs = search needs
 
--- src/lib.rt:166:48
 enum-told-4 : tie.Need-enum-told-4
 enum-told-4 c = search needs
 
--- src/lib.rt:166:28
 goes-to-requires-4 : tie.Need-goes-to-requires-4
 goes-to-requires-4 c κs = search needs
 
--- src/lib.rt:167:50
 enum-told-5 : tie.Need-enum-told-5
 enum-told-5 c = search needs
 
--- src/lib.rt:167:30
 goes-to-requires-5 : tie.Need-goes-to-requires-5
 goes-to-requires-5 c κs = search needs
 
--- src/lib.rt:168:49
 enum-told-6 : tie.Need-enum-told-6
 enum-told-6 c = search needs
 
--- src/lib.rt:168:29
 goes-to-requires-6 : tie.Need-goes-to-requires-6
 goes-to-requires-6 c κs = search needs
 
--- src/lib.rt:169:55
 enum-told-7 : tie.Need-enum-told-7
 enum-told-7 c = search needs
 
--- src/lib.rt:169:28
 steps-on-requires : tie.Need-steps-on-requires
 steps-on-requires c κs = search needs
 
--- src/lib.rt:158:5
 returns : tie.Need-returns
 returns c = c .goes-to .ensures ∙ fetch-at _ (c .before .enum-told .given .1)
 
--- src/lib.rt:158:5
 returns-2 : tie.Need-returns-2
 returns-2 c = c .goes-to2 .ensures ∙ fetch-at _ (c .before .enum-told2 .given .1)
 
--- src/lib.rt:158:5
 returns-3 : tie.Need-returns-3
 returns-3 c = c .goes-to3 .ensures ∙ fetch-at _ (c .before .enum-told3 .given .1)
 
--- src/lib.rt:158:5
 returns-4 : tie.Need-returns-4
 returns-4 c = c .goes-to4 .ensures ∙ fetch-at _ (c .before .enum-told4 .given .1)
 
--- src/lib.rt:158:5
 returns-5 : tie.Need-returns-5
 returns-5 c = c .goes-to5 .ensures ∙ fetch-at _ (c .before .enum-told5 .given .1)
 
--- src/lib.rt:158:5
 returns-6 : tie.Need-returns-6
 returns-6 c = c .goes-to6 .ensures ∙ fetch-at _ (c .before .enum-told6 .given .1)
 
--- src/lib.rt:158:5
 returns-7 : tie.Need-returns-7
 returns-7 c = c .steps-on .ensures ∙ fetch-at _ (c .before .before .enum-told7 .given .1)
 

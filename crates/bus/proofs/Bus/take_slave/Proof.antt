@@ -1,32 +1,25 @@
+-- `Bus::take_slave`: the tests that led to each return pick the case of `slave`.
+-- Assumes nothing.
 use borrow.Author.Tests.{eq-eqb, ne-eqb}
 use borrow.Author.Needs.{needs}
 use Rattle.bus.proofs.Bus.take_slave.Statement.{statement}
 use Rattle.bus.proofs.Bus.take_slave.Tie as tie
-use Rattle.bus.proofs.Bus.take_slave.Reads as reads
-use Rattle.bus.proofs.Bus.take_slave.Lts as lts
-use Rattle.bus.proofs.Bus.goes_to.Reads as goes-to-reads
 
--- src/lib.rt:150:13
 goes-to-requires : tie.Need-goes-to-requires
 goes-to-requires c κs = search needs
 
--- src/lib.rt:150:13
 returns : tie.Need-returns
 returns c = rw (eq-eqb _ _ (c .before .if1 .taken)) (c .goes-to .ensures)
 
--- src/lib.rt:153:13
 goes-to-requires-2 : tie.Need-goes-to-requires-2
 goes-to-requires-2 c κs = search needs
 
--- src/lib.rt:153:13
 returns-2 : tie.Need-returns-2
 returns-2 c = rw (ne-eqb _ _ (c .before .before .if1 .left), eq-eqb _ _ (c .before .if2 .taken)) (c .goes-to2 .ensures)
 
--- src/lib.rt:155:9
 goes-to-requires-3 : tie.Need-goes-to-requires-3
 goes-to-requires-3 c κs = search needs
 
--- src/lib.rt:146:5
 returns-3 : tie.Need-returns-3
 returns-3 c = rw (ne-eqb _ _ (c .before .before .if1 .left), ne-eqb _ _ (c .before .if2 .left)) (c .goes-to3 .ensures)
 

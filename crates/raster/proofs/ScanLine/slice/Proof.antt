@@ -1,3 +1,5 @@
+-- `ScanLine::slice`: on a line of the strip the divisor is not 0, the sums fit, and the slice is at most 18.
+-- Assumes nothing.
 use Prim.Native.Nat.{_≤_, _<_}
 use native.Mathlib.Omega.{arith}
 use Rattle.raster.specs.Raster.{unzoomed, sliceNumber, interpolated}
@@ -5,9 +7,6 @@ use Rattle.raster.proofs.Laws.{slice-bound, unzoomed-bound, height-pos}
 use borrow.Author.Needs.{needs}
 use Rattle.raster.proofs.ScanLine.slice.Statement.{statement}
 use Rattle.raster.proofs.ScanLine.slice.Tie as tie
-use Rattle.raster.proofs.ScanLine.slice.Reads as reads
-use Rattle.raster.proofs.ScanLine.slice.Lts as lts
-use Rattle.raster.proofs.unzoom.Reads as unzoom-reads
 
 in-strip : (c : tie.Start)
     → (unzoomed (c .args .zoom) (c .args .self .0) ≤ c .args .height) × (0 < c .args .height)
@@ -16,32 +15,25 @@ in-strip c = (
   height-pos (c .args .self) (c .args .height) (c .args .zoom) (c .pre),
 )
 
--- src/lib.rt:27:13
 unzoom-requires : tie.Need-unzoom-requires
 unzoom-requires c κs = search needs
 
--- src/lib.rt:29:17
 mul-t6 : tie.Need-mul-t6
 mul-t6 c = omega (arith, c .unzoom .ensures, in-strip (c .before) .0)
 
--- src/lib.rt:29:17
 add-t7 : tie.Need-add-t7
 add-t7 c = omega (arith, c .unzoom .ensures, in-strip (c .before) .0)
 
--- src/lib.rt:29:33
 mul-t8 : tie.Need-mul-t8
 mul-t8 c = search needs
 
--- src/lib.rt:29:16
 div-t9 : tie.Need-div-t9
 div-t9 c = omega (arith, in-strip (c .before) .1)
 
--- src/lib.rt:29:15
 cast-t10 : tie.Need-cast-t10
 unfolding sliceNumber
 cast-t10 c = rw (c .unzoom .ensures) (omega (arith, slice-bound _ _ (in-strip (c .before) .1) (in-strip (c .before) .0)))
 
--- src/lib.rt:23:5
 returns : tie.Need-returns
 unfolding interpolated sliceNumber
 returns c = rw (c .unzoom .ensures)

@@ -1,27 +1,22 @@
+-- `Registers::settings` is `settingsOf` by computation.
+-- Assumes nothing.
 use Rattle.registers.specs.Registers.{settingsOf}
 use borrow.Author.Needs.{needs}
 use Rattle.registers.proofs.Registers.settings.Statement.{statement}
 use Rattle.registers.proofs.Registers.settings.Tie as tie
-use Rattle.registers.proofs.Registers.settings.Reads as reads
-use Rattle.registers.proofs.Registers.settings.Lts as lts
 
--- src/lib.rt:55:23
 element-copy-out-control : tie.Need-element-copy-out-control
 element-copy-out-control c = search needs
 
--- src/lib.rt:57:17
 element-copy-out-t6 : tie.Need-element-copy-out-t6
 element-copy-out-t6 c = search needs
 
--- src/lib.rt:58:17
 element-copy-out-t12 : tie.Need-element-copy-out-t12
 element-copy-out-t12 c = search needs
 
--- src/lib.rt:59:17
 element-copy-out-t15 : tie.Need-element-copy-out-t15
 element-copy-out-t15 c = search needs
 
--- src/lib.rt:52:5
 returns : tie.Need-returns
 unfolding settingsOf
 returns c = search needs
