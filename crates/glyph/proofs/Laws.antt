@@ -1,18 +1,20 @@
 -- The laws of codes and glyphs: what a glyph reads lies below 1,024, and is at most two cells.
 -- Assumes nothing.
 use Prim.Native.Nat.{ℕ, _+_, _*_, _%_, _/_, _≤_, _<_}
-use mathlib.Core.Path.{_≡_, refl, ap, ap₂, _∙_}
+use mathlib.Core.Path.{_≡_, refl, ap, _∙_}
 use mathlib.Core.Bool.{Bool, true, false, cond}
 use native.Mathlib.Omega.{arith}
-use borrow.Author.Tests.{ltb-true, eq-eqb, ne-eqb, lt-ltb}
+use borrow.Author.Tests.{ltb-true, eq-eqb, ne-eqb, lt-ltb, le-ltb}
 use mathlib.Core.List.{List}
 use lib.Dec.{ltb, eqb}
-use lib.ListN.{getD, take, drop}
+use native.Mathlib.Decide.{ℕ-discrete}
+use lib.ListN.{length, getD, take, drop, length-take, length-drop}
 use lib.Seq.{getD-take, getD-drop}
-use Rattle.cells.specs.Reading.{Reading, done, read, value}
+use Rattle.cells.specs.Reading.{Reading, done, read, value, cells}
 use Rattle.cells.proofs.Bounds.{Within, AtMost, within-cond, atMost-cond}
 use Rattle.raster.specs.declared.Slice.{Slice}
-use Rattle.glyph.specs.Glyph.{Glyph, user, blank, userCell, inRam, glyphOf, twelve, bitsOf, slicePart}
+use Rattle.glyph.specs.declared.Shown.{Shown}
+use Rattle.glyph.specs.Glyph.{Glyph, user, blank, userCell, fontByte, inRam, glyphOf, twelve, bitsOf, slicePart, Lent, Sliced, shownIn}
 
 pub inRam-within : (number s : ℕ) → s ≤ 18 → Within 1024 (inRam number s)
 unfolding inRam Within
@@ -41,20 +43,42 @@ part-first l a = getD-take 2 (drop a l) 0 0 (omega arith) ∙ getD-drop a l 0 0 
 part-second : (l : List ℕ) (a : ℕ) → getD (take 2 (drop a l)) 1 0 ≡ getD l (a + 1) 0
 part-second l a = getD-take 2 (drop a l) 1 0 (omega arith) ∙ getD-drop a l 1 0
 
+part-length : (l : List ℕ) (a : ℕ) → a + 2 ≤ length l → length (take 2 (drop a l)) ≡ 2
+part-length l a h = simp (length-take, length-drop) (omega arith)
+
+-- a slice of two bytes, of font or user character
+pub slicePart-length : (ram f : List ℕ) (high s : ℕ) → Lent ram f → Sliced high s → length (slicePart ram f high s) ≡ 2
+unfolding slicePart
+slicePart-length ram f high s l h = by (ℕ-discrete (high / 128 % 2) 0)
+  where
+    by : Dec (high / 128 % 2 ≡ 0)
+        → length (cond (eqb (high / 128 % 2) 0) (take 2 (drop (fontByte (high % 128) s) f)) (take 2 (drop (userCell (high % 128) s) ram))) ≡ 2
+    by (yes e) = rw (eq-eqb _ _ e) (part-length f (fontByte (high % 128) s) (omega (arith, l .font-length, h .most)))
+    by (no n) = rw (ne-eqb _ _ n) (part-length ram (userCell (high % 128) s) (omega (arith, l .ram-length, h .most, h .of-user (omega arith))))
+
 -- the bits of a part's two bytes
 unfoldable pub bitsIn : List ℕ → ℕ
 bitsIn part = twelve (getD part 0 0) (getD part 1 0)
 
--- SET 0: a slice of the font, from 1
-pub part-font : (ram f : List ℕ) (high : ℕ) (s : Slice) → high / 128 % 2 ≡ 0 → 1 ≤ s .0
-    → bitsIn (slicePart ram f high (s .0)) ≡ bitsOf f (value ram (glyphOf high s))
-unfolding bitsIn slicePart glyphOf value bitsOf
-part-font ram f high s e h =
-    rw (eq-eqb _ _ e, ne-eqb (s .0) 0 (omega arith)) (ap₂ twelve (part-first f _) (part-second f _))
+-- ---- what the lookup shows, case by case
 
--- SET 1: a slice of a user character
-pub part-user : (ram f : List ℕ) (high : ℕ) (s : Slice) → high / 128 % 2 ≡ 1 → high % 128 < 26
-    → bitsIn (slicePart ram f high (s .0)) ≡ bitsOf f (value ram (glyphOf high s))
-unfolding bitsIn slicePart glyphOf inRam value bitsOf
-part-user ram f high s e h =
-    rw (ne-eqb (high / 128 % 2) 0 (omega arith), lt-ltb _ _ h) (ap₂ twelve (part-first ram _) (part-second ram _))
+module _ (ram f : List ℕ) (high : ℕ) (s : Slice) where
+  -- slice 0 of a font character
+  pub shown-none : high / 128 % 2 ≡ 0 → s .0 ≡ 0 → record { bits = 0; cells = 0 } ≡ shownIn ram f high s
+  unfolding shownIn glyphOf value cells bitsOf
+  shown-none e z = rw (eq-eqb _ _ e, eq-eqb _ _ z)
+
+  -- a font character
+  pub shown-font : high / 128 % 2 ≡ 0 → (s .0 ≡ 0 → ⊥) → record { bits = bitsIn (slicePart ram f high (s .0)); cells = 0 } ≡ shownIn ram f high s
+  unfolding bitsIn slicePart shownIn glyphOf value cells bitsOf
+  shown-font e z = rw (eq-eqb _ _ e, ne-eqb _ _ z, part-first, part-second)
+
+  -- all background
+  pub shown-blank : (high / 128 % 2 ≡ 0 → ⊥) → 26 ≤ high % 128 → record { bits = 0; cells = 0 } ≡ shownIn ram f high s
+  unfolding shownIn glyphOf inRam value cells bitsOf
+  shown-blank e h = rw (ne-eqb _ _ e, le-ltb _ _ h)
+
+  -- a user character
+  pub shown-user : (high / 128 % 2 ≡ 0 → ⊥) → high % 128 < 26 → record { bits = bitsIn (slicePart ram f high (s .0)); cells = 2 } ≡ shownIn ram f high s
+  unfolding bitsIn slicePart shownIn glyphOf inRam value cells bitsOf
+  shown-user e h = rw (ne-eqb _ _ e, lt-ltb _ _ h, part-first, part-second)

@@ -1,12 +1,14 @@
 -- Document 01, "Codes and glyphs": what a code shows in a slice, and which cells that reads.
 -- Assumes nothing.
-use Prim.Native.Nat.{ℕ, _+_, _-_, _*_, _/_, _%_}
+use Prim.Native.Nat.{ℕ, _+_, _-_, _*_, _/_, _%_, _≤_, _<_}
+use mathlib.Core.Path.{_≡_}
 use mathlib.Core.Bool.{Bool, true, false, cond}
 use mathlib.Core.List.{List}
 use lib.Dec.{eqb, ltb}
-use lib.ListN.{getD, take, drop}
-use Rattle.cells.specs.Reading.{Reading, done, read}
+use lib.ListN.{length, getD, take, drop}
+use Rattle.cells.specs.Reading.{Reading, done, read, value, cells}
 use Rattle.raster.specs.declared.Slice.{Slice}
+use Rattle.glyph.specs.declared.Shown.{Shown}
 
 -- where the two bytes of a slice come from
 pub data Glyph : Type 0 where
@@ -54,3 +56,18 @@ bitsOf f blank = 0
 unfoldable pub slicePart : List ℕ → List ℕ → ℕ → ℕ → List ℕ
 slicePart ram f high s =
     cond (eqb (high / 128 % 2) 0) (take 2 (drop (fontByte (high % 128) s) f)) (take 2 (drop (userCell (high % 128) s) ram))
+
+-- the RAM and the font are lent at their lengths
+pub record Lent (ram f : List ℕ) : Type 0 where
+  pub ram-length : length ram ≡ 1024
+  pub font-length : length f ≡ 4608
+
+-- a slice that has two bytes: of a font character from 1, of a user character from 0
+pub record Sliced (high s : ℕ) : Type 0 where
+  pub most : s ≤ 18
+  pub of-font : high / 128 % 2 ≡ 0 → 1 ≤ s
+  pub of-user : high / 128 % 2 ≡ 1 → high % 128 < 26
+
+-- a glyph's bits and how many cells it read
+unfoldable pub shownIn : List ℕ → List ℕ → ℕ → Slice → Shown
+shownIn ram f high s = record { bits = bitsOf f (value ram (glyphOf high s)); cells = length (cells ram (glyphOf high s)) }

@@ -1,1 +1,63 @@
 // Character codes and glyphs: which two bytes a code shows in a slice.
+ghost use mathlib.Core.Path.{_≡_};
+ghost use Prim.Native.Nat.{_≤_};
+ghost use lib.ListN.{length};
+ghost use Rattle.glyph.specs.Glyph.{twelve, slicePart, Lent, Sliced, shownIn};
+use raster::Slice;
+
+// The pixels PX11 to PX0 of a code in a slice, a bit each, and how many cells that read.
+pub struct Shown {
+    pub bits: u16,
+    pub cells: u16,
+}
+
+// The two bytes of a slice: a part of the lent RAM or of the lent font, chosen by SET.
+pub fn slice_bytes<'a>(ram: &'a [u8], font: &'a [u8], high: u8, slice: Slice) -> &'a [u8]
+    requires { ⌜ Lent (now ram) (now font) ⌝ }
+    requires { ⌜ Sliced high (slice .0) ⌝ }
+    ensures part { λ r. ⌜ now r ≡ slicePart (now (ram .entry)) (now (font .entry)) high (slice .0) ⌝ }
+    ensures two { λ r. ⌜ length (now r) ≡ 2 ⌝ }
+{
+    let number = (high % 128) as usize;
+    let s = slice.0 as usize;
+    if high / 128 % 2 == 0 {
+        let a = 36 * number + 2 * (s - 1);
+        let e = a + 2;
+        return &font[a..e];
+    }
+    let a = 38 * number + 2 * s;
+    let e = a + 2;
+    &ram[a..e]
+}
+
+fn bits_of(first: u8, second: u8) -> u16
+    ensures { λ r. ⌜ r ≡ twelve first second ⌝ }
+{
+    (second % 16) as u16 * 256 + first as u16
+}
+
+// What a code's high byte shows in a slice. Slice 0 of a font character and characters 26 to 126 are blank.
+pub fn lookup<'a>(ram: &'a [u8], font: &'a [u8], high: u8, slice: Slice) -> Shown
+    requires { ⌜ Lent (now ram) (now font) ⌝ }
+    requires { ⌜ slice .0 ≤ 18 ⌝ }
+    ensures { λ r. ⌜ r ≡ shownIn (now (ram .entry)) (now (font .entry)) high slice ⌝ }
+{
+    if high / 128 % 2 == 0 {
+        if slice.0 == 0 {
+            return Shown { bits: 0, cells: 0 };
+        }
+        let part = slice_bytes(ram, font, high, slice);
+        return Shown {
+            bits: bits_of(part[0], part[1]),
+            cells: 0,
+        };
+    }
+    if high % 128 >= 26 {
+        return Shown { bits: 0, cells: 0 };
+    }
+    let part = slice_bytes(ram, font, high, slice);
+    Shown {
+        bits: bits_of(part[0], part[1]),
+        cells: 2,
+    }
+}

@@ -18,7 +18,7 @@ use Rattle.walk.specs.declared.Strip.the-variants.{Spacing, Characters}
 use Rattle.walk.specs.declared.Walk.{Walk}
 use Rattle.walk.specs.Walk.{even, next, nextLine}
 use Rattle.glyph.specs.Glyph.{Glyph, font, user, blank, endsLine, glyphOf, inRam}
-use Rattle.line.specs.Line.{Place, codes, rowOf, Scanned, scan, plain, character, painted, paint}
+use Rattle.line.specs.Line.{Place, codes, rowOf, shownRow, Scanned, scan, plainOf, character, painted, paint}
 use Rattle.line.specs.Edges.{Row, isUser, users, Holds, mostCodes, secondCut, userCells, table, Each, Edges}
 use Rattle.line.proofs.Laws.{character-length}
 
@@ -81,7 +81,7 @@ row-few n (Characters address height zoom enabled line) ram =
 scan-few : (s : Settings) (w : Walk) (ram : List ℕ)
     → length (cells ram (scan s w))
     ≤ length (cells ram (nextLine (s .ch) w)) + 2 * columnsOf (s .ld) (s .dd) + 2 * users (value ram (scan s w) .row)
-unfolding scan
+unfolding scan shownRow
 scan-few s w ram =
     let v : Walk = value ram (nextLine (s .ch) w) in
     let p : Reading (List Place) = cond (s .osd) (rowOf (columnsOf (s .ld) (s .dd)) (v .strip)) (done []) in
@@ -103,10 +103,10 @@ second : Holds (secondCut 4 5 9)
 unfolding Holds paint painted
 second s fnt f p q l d o =
     rw (l, d, o)
-    (ap (λ (x : List ℕ). replicate 39 (plain (s .fbk)) ++ x)
+    (ap (λ (x : List ℕ). replicate 39 (plainOf (s .fbk)) ++ x)
     (ap₂ (λ (x y : List ℕ). x ++ y)
-    (take-all 21 (character fnt (s .fbk) (hiddenIn (s .fl) f) p) (omega (arith, character-length fnt (s .fbk) (hiddenIn (s .fl) f) p)))
-    (append-nil (take 9 (character fnt (s .fbk) (hiddenIn (s .fl) f) q)))))
+    (take-all 21 (character fnt (plainOf (s .fbk)) (hiddenIn (s .fl) f) p) (omega (arith, character-length fnt (plainOf (s .fbk)) (hiddenIn (s .fl) f) p)))
+    (append-nil (take 9 (character fnt (plainOf (s .fbk)) (hiddenIn (s .fl) f) q)))))
 
 user-cells : Holds (userCells 25 18 986 987)
 unfolding Holds glyphOf inRam cells

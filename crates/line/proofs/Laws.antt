@@ -20,11 +20,12 @@ use Rattle.raster.proofs.Laws.{slice-bound, unzoomed-bound, height-pos}
 use Rattle.walk.specs.declared.Strip.{Strip}
 use Rattle.walk.specs.declared.Strip.the-variants.{Spacing, Characters}
 use Rattle.walk.specs.declared.Walk.{Walk}
-use Rattle.walk.specs.Walk.{even, next, nextLine}
-use Rattle.walk.proofs.Laws.{even-bound, OnLine, nextLine-on, nextLine-within, nextLine-most}
+use Rattle.walk.specs.Walk.{even, next, nextLine, OnLine}
+use Rattle.walk.proofs.Laws.{even-bound, nextLine-on, nextLine-within, nextLine-most}
 use Rattle.glyph.specs.Glyph.{Glyph, endsLine, glyphOf}
 use Rattle.glyph.proofs.Laws.{glyphOf-within, glyphOf-most}
-use Rattle.line.specs.Line.{Place, codes, rowOf, Scanned, scan, plain, foreground, background, pixel, columns, character, painted, paint}
+use Rattle.line.specs.declared.Ink.{Ink}
+use Rattle.line.specs.Line.{Place, codes, rowOf, shownRow, Scanned, scan, plainOf, background, inkOf, columns, character, painted, paint}
 
 -- ---- the cells that a line reads
 
@@ -55,14 +56,14 @@ rowOf-within n (Characters address height zoom enabled line) h =
 
 -- every cell that a line reads is below 1,024
 pub scan-within : (s : Settings) (w : Walk) → Within 1024 (scan s w)
-unfolding scan
+unfolding scan shownRow
 scan-within s w =
     within-bind (λ (v : Walk). OnLine (v .strip)) 1024 (nextLine (s .ch) w) _ (nextLine-on (s .ch) w) (nextLine-within (s .ch) w)
     (λ v h. within-fmap 1024 _ _ (within-cond 1024 (s .osd) _ _ (rowOf-within (columnsOf (s .ld) (s .dd)) (v .strip) h) (within-done 1024 [])))
 
 -- ---- how many
 
-codes-most : (n : ℕ) (s : Slice) (a : ℕ) → AtMost (4 * n) (codes n s a)
+pub codes-most : (n : ℕ) (s : Slice) (a : ℕ) → AtMost (4 * n) (codes n s a)
 unfolding codes AtMost
 codes-most zero s a = tt
 codes-most (suc n) s a =
@@ -81,7 +82,7 @@ rowOf-most n (Characters address height zoom enabled line) =
     atMost-cond (4 * n) enabled _ _ (codes-most n (interpolated line height zoom) address) (atMost-done _ [])
 
 scan-most : (s : Settings) (w : Walk) → AtMost (2 + 4 * columnsOf (s .ld) (s .dd)) (scan s w)
-unfolding scan
+unfolding scan shownRow
 scan-most s w =
     atMost-bind 2 (4 * columnsOf (s .ld) (s .dd)) (nextLine (s .ch) w) _ (nextLine-most (s .ch) w)
     (λ v. atMost-fmap (4 * columnsOf (s .ld) (s .dd)) _ _
@@ -99,20 +100,20 @@ line-most r w =
 
 -- ---- the width
 
-columns-length : (n fbk low bits left : ℕ) → length (columns n fbk low bits left) ≡ n
+columns-length : (n : ℕ) (ink : Ink) (bits left : ℕ) → length (columns n ink bits left) ≡ n
 unfolding columns
-columns-length zero fbk low bits left = refl
-columns-length (suc n) fbk low bits left = ap suc (columns-length n fbk low bits (bits / 2 ^ n % 2))
+columns-length zero ink bits left = refl
+columns-length (suc n) ink bits left = ap suc (columns-length n ink bits (bits / 2 ^ n % 2))
 
-pub character-length : (font : List ℕ) (fbk : ℕ) (hidden : Bool) (p : Place) → length (character font fbk hidden p) ≡ 12
+pub character-length : (font : List ℕ) (plain : ℕ) (hidden : Bool) (p : Place) → length (character font plain hidden p) ≡ 12
 unfolding character
-character-length font fbk hidden p = columns-length 12 fbk (p .low) _ 0
+character-length font plain hidden p = columns-length 12 (inkOf plain (p .low)) _ 0
 
-pub painted-length : (font : List ℕ) (fbk : ℕ) (hidden : Bool) (left : ℕ) (ps : List Place) → length (painted font fbk hidden left ps) ≡ left
+pub painted-length : (font : List ℕ) (plain : ℕ) (hidden : Bool) (room : ℕ) (ps : List Place) → length (painted font plain hidden room ps) ≡ room
 unfolding painted
-painted-length font fbk hidden left [] = length-replicate left (plain fbk)
-painted-length font fbk hidden left (p ∷ ps) =
-    simp (length-append, length-take, character-length, painted-length font fbk hidden (left - 12) ps) (omega arith)
+painted-length font plain hidden room [] = length-replicate room plain
+painted-length font plain hidden room (p ∷ ps) =
+    simp (length-append, length-take, character-length, painted-length font plain hidden (room - 12) ps) (omega arith)
 
 -- a drawn line has exactly W pixels
 pub paint-length : (s : Settings) (font : List ℕ) (f : ℕ) (row : List Place) → length (paint s font f row) ≡ widthOf (s .ld)
@@ -121,8 +122,8 @@ paint-length s font f row = by (s .osd)
   where
     by : (t : Bool)
         → length (cond t
-        (replicate (min (firstPixelOf (s .dd)) (widthOf (s .ld))) (plain (s .fbk))
-        ++ painted font (s .fbk) (hiddenIn (s .fl) f) (widthOf (s .ld) - firstPixelOf (s .dd)) row)
+        (replicate (min (firstPixelOf (s .dd)) (widthOf (s .ld))) (plainOf (s .fbk))
+        ++ painted font (plainOf (s .fbk)) (hiddenIn (s .fl) f) (widthOf (s .ld) - firstPixelOf (s .dd)) row)
         (replicate (widthOf (s .ld)) 0)) ≡ widthOf (s .ld)
     by true = simp (length-append, length-replicate, painted-length) (omega arith)
     by false = length-replicate (widthOf (s .ld)) 0
@@ -152,27 +153,40 @@ pixels-replicate : (n x : ℕ) → x < 16 → Pixels (replicate n x)
 pixels-replicate zero x h = none
 pixels-replicate (suc n) x h = more h (pixels-replicate n x h)
 
+-- the pixels that a code draws with are pixels
+record Inks (ink : Ink) : Type 0 where
+  fore : ink .fore < 16
+  cast : ink .cast < 16
+  back : ink .back < 16
+
 either-below : (t : Bool) (x y : ℕ) → x < 16 → y < 16 → cond t x y < 16
 either-below true x y h k = h
 either-below false x y h k = k
 
-pixel-below : (fbk low bit left : ℕ) → fbk < 2 → pixel fbk low bit left < 16
-pixel-below fbk low bit left h =
-    either-below (eqb bit 1) _ _ (omega arith)
-    (either-below (eqb (low / 8 % 2) 0) _ _ (omega arith)
-    (either-below (eqb (low / 2 % 2) 0) _ _ (omega arith) (either-below (eqb left 1) _ _ (omega arith) (omega arith))))
+background-below : (plain low : ℕ) (beside : Bool) → plain < 16 → background plain low beside < 16
+background-below plain low beside h =
+    either-below (eqb (low / 8 % 2) 0) _ _ (omega arith)
+    (either-below (eqb (low / 2 % 2) 0) _ _ h (either-below beside _ _ (omega arith) h))
 
-columns-pixels : (n fbk low bits left : ℕ) → fbk < 2 → Pixels (columns n fbk low bits left)
+ink-below : (plain low : ℕ) → plain < 16 → Inks (inkOf plain low)
+unfolding inkOf
+ink-below plain low h =
+    record { fore = omega arith; cast = background-below plain low true h; back = background-below plain low false h }
+
+columns-pixels : (n : ℕ) (ink : Ink) (bits left : ℕ) → Inks ink → Pixels (columns n ink bits left)
 unfolding columns
-columns-pixels zero fbk low bits left h = none
-columns-pixels (suc n) fbk low bits left h =
-    more (pixel-below fbk low (bits / 2 ^ n % 2) left h) (columns-pixels n fbk low bits (bits / 2 ^ n % 2) h)
+columns-pixels zero ink bits left h = none
+columns-pixels (suc n) ink bits left h =
+    more
+    (either-below (eqb (bits / 2 ^ n % 2) 1) _ _ (h .fore) (either-below (eqb left 1) _ _ (h .cast) (h .back)))
+    (columns-pixels n ink bits (bits / 2 ^ n % 2) h)
 
-painted-pixels : (font : List ℕ) (fbk : ℕ) (hidden : Bool) (left : ℕ) (ps : List Place) → fbk < 2 → Pixels (painted font fbk hidden left ps)
+painted-pixels : (font : List ℕ) (plain : ℕ) (hidden : Bool) (room : ℕ) (ps : List Place) → plain < 16 → Pixels (painted font plain hidden room ps)
 unfolding painted character
-painted-pixels font fbk hidden left [] h = pixels-replicate left (plain fbk) (omega arith)
-painted-pixels font fbk hidden left (p ∷ ps) h =
-    pixels-append (pixels-take left (columns-pixels 12 fbk (p .low) _ 0 h)) (painted-pixels font fbk hidden (left - 12) ps h)
+painted-pixels font plain hidden room [] h = pixels-replicate room plain h
+painted-pixels font plain hidden room (p ∷ ps) h =
+    pixels-append (pixels-take room (columns-pixels 12 (inkOf plain (p .low)) _ 0 (ink-below plain (p .low) h)))
+    (painted-pixels font plain hidden (room - 12) ps h)
 
 either-pixels : (t : Bool) (xs ys : List ℕ) → Pixels xs → Pixels ys → Pixels (cond t xs ys)
 either-pixels true xs ys p q = p
@@ -182,8 +196,8 @@ paint-pixels : (s : Settings) (font : List ℕ) (f : ℕ) (row : List Place) →
 unfolding paint
 paint-pixels s font f row h =
     either-pixels (s .osd) _ _
-    (pixels-append (pixels-replicate (min (firstPixelOf (s .dd)) (widthOf (s .ld))) (plain (s .fbk)) (omega arith))
-    (painted-pixels font (s .fbk) (hiddenIn (s .fl) f) (widthOf (s .ld) - firstPixelOf (s .dd)) row h))
+    (pixels-append (pixels-replicate (min (firstPixelOf (s .dd)) (widthOf (s .ld))) (plainOf (s .fbk)) (omega arith))
+    (painted-pixels font (plainOf (s .fbk)) (hiddenIn (s .fl) f) (widthOf (s .ld) - firstPixelOf (s .dd)) row (omega arith)))
     (pixels-replicate (widthOf (s .ld)) 0 (omega arith))
 
 -- each pixel of a line is below 16

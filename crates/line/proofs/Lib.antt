@@ -1,3 +1,4 @@
 pub mod Edges
 pub mod Example
 pub mod Laws
+pub mod Turns

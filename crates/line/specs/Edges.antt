@@ -11,7 +11,7 @@ use Rattle.raster.specs.Raster.{sliceNumber, firstPixelOf, hiddenIn}
 use Rattle.walk.specs.declared.Walk.{Walk}
 use Rattle.walk.specs.Walk.{nextLine}
 use Rattle.glyph.specs.Glyph.{Glyph, font, user, blank, glyphOf}
-use Rattle.line.specs.Line.{Place, scan, plain, character, paint}
+use Rattle.line.specs.Line.{Place, scan, plainOf, character, paint}
 
 pub data Row : Type 0 where
   -- slice for (CH, n)
@@ -46,8 +46,8 @@ Holds (mostCodes ld dd n) =
 Holds (secondCut ld dd n) =
     (s : Settings) (fnt : List ℕ) (f : ℕ) (p q : Place) → s .ld ≡ ld → s .dd ≡ dd → s .osd ≡ true
     → paint s fnt f (p ∷ q ∷ [])
-    ≡ replicate (firstPixelOf dd) (plain (s .fbk))
-    ++ (character fnt (s .fbk) (hiddenIn (s .fl) f) p ++ take n (character fnt (s .fbk) (hiddenIn (s .fl) f) q))
+    ≡ replicate (firstPixelOf dd) (plainOf (s .fbk))
+    ++ (character fnt (plainOf (s .fbk)) (hiddenIn (s .fl) f) p ++ take n (character fnt (plainOf (s .fbk)) (hiddenIn (s .fl) f) q))
 Holds (userCells number s a b) = (ram : List ℕ) → cells ram (glyphOf (128 + number) (record { 0 = s })) ≡ a ∷ b ∷ []
 
 -- LD 4 is W 60, LD 63 is W 768

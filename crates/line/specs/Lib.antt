@@ -1,2 +1,3 @@
+pub mod Contracts
 pub mod Edges
 pub mod Line

@@ -15,6 +15,7 @@ use Rattle.walk.specs.declared.Strip.{Strip}
 use Rattle.walk.specs.declared.Strip.the-variants.{Spacing, Characters}
 use Rattle.walk.specs.declared.Walk.{Walk}
 use Rattle.walk.specs.Walk.{even, next, nextLine}
+use Rattle.line.specs.declared.Ink.{Ink}
 use Rattle.glyph.specs.Glyph.{Glyph, endsLine, glyphOf, bitsOf}
 
 -- ---- scan
@@ -40,22 +41,23 @@ unfoldable pub rowOf : ℕ → Strip → Reading (List Place)
 rowOf n (Spacing left) = done []
 rowOf n (Characters address height zoom enabled line) = cond enabled (codes n (interpolated line height zoom) address) (done [])
 
+-- OSD 0: codes and slices are not read. Codes are read while the next character's first pixel is below W
+unfoldable pub shownRow : Settings → Strip → Reading (List Place)
+shownRow s strip = cond (s .osd) (rowOf (columnsOf (s .ld) (s .dd)) strip) (done [])
+
 pub record Scanned : Type 0 where
   pub walk : Walk
   pub row : List Place
 
--- OSD 0: descriptors are still read, codes and slices not. Codes are read while the next character's first pixel is below W
+-- a line reads its descriptor, with OSD 0 too, and then its row
 unfoldable pub scan : Settings → Walk → Reading Scanned
-scan s w =
-    bind (nextLine (s .ch) w) λ v.
-    fmap (λ row. record { walk = v; row = row })
-    (cond (s .osd) (rowOf (columnsOf (s .ld) (s .dd)) (v .strip)) (done []))
+scan s w = bind (nextLine (s .ch) w) λ v. fmap (λ row. record { walk = v; row = row }) (shownRow s (v .strip))
 
 -- ---- paint: a pixel is 8 FBLK + 4 R + 2 G + B
 
 -- plain pixel: colour 0 and FBLK = FBK
-abbrev pub plain : ℕ → ℕ
-plain fbk = 8 * fbk
+abbrev pub plainOf : ℕ → ℕ
+plainOf fbk = 8 * fbk
 
 -- low byte of a code (H): FL bit 7, RF, GF, BF bits 6 to 4, BK[3:0]
 abbrev pub flashes : ℕ → Bool
@@ -66,20 +68,23 @@ abbrev pub foreground : ℕ → ℕ
 foreground low = 8 + low / 16 % 8
 
 -- background with BK3 0: colour BK[2:0], FBLK 1. BK3 1 and BK1 0: plain. BK3 1 and BK1 1: black with FBLK 1 where the pixel to
--- the left (1: foreground) in the same character is foreground, else plain. BK2 and BK0 are then ignored (H)
-abbrev pub background : ℕ → ℕ → ℕ → ℕ
-background fbk low left =
-    cond (eqb (low / 8 % 2) 0)
-    (8 + low % 8)
-    (cond (eqb (low / 2 % 2) 0) (plain fbk) (cond (eqb left 1) 8 (plain fbk)))
+-- the left in the same character is foreground (beside), else plain. BK2 and BK0 are then ignored (H)
+abbrev pub background : ℕ → ℕ → Bool → ℕ
+background plain low beside =
+    cond (eqb (low / 8 % 2) 0) (8 + low % 8) (cond (eqb (low / 2 % 2) 0) plain (cond beside 8 plain))
 
-abbrev pub pixel : ℕ → ℕ → ℕ → ℕ → ℕ
-pixel fbk low bit left = cond (eqb bit 1) (foreground low) (background fbk low left)
+-- the pixels that a code draws with
+unfoldable pub inkOf : ℕ → ℕ → Ink
+inkOf plain low = record { fore = foreground low; cast = background plain low true; back = background plain low false }
 
--- the last n columns of a character, PX(n−1) to PX0, after a pixel to the left
-unfoldable pub columns : ℕ → ℕ → ℕ → ℕ → ℕ → List ℕ
-columns zero fbk low bits left = []
-columns (suc n) fbk low bits left = pixel fbk low (bits / 2 ^ n % 2) left ∷ columns n fbk low bits (bits / 2 ^ n % 2)
+-- a pixel from its own bit and the bit to its left
+abbrev pub pixel : Ink → ℕ → ℕ → ℕ
+pixel ink bit left = cond (eqb bit 1) (ink .fore) (cond (eqb left 1) (ink .cast) (ink .back))
+
+-- the last n columns of a character, PX(n−1) to PX0, after a bit to the left
+unfoldable pub columns : ℕ → Ink → ℕ → ℕ → List ℕ
+columns zero ink bits left = []
+columns (suc n) ink bits left = pixel ink (bits / 2 ^ n % 2) left ∷ columns n ink bits (bits / 2 ^ n % 2)
 
 -- a flashing character in its hidden time draws foreground as background and casts no shadow
 abbrev pub shownBits : Bool → ℕ → ℕ → ℕ
@@ -87,17 +92,17 @@ shownBits hidden low bits = cond (flashes low && hidden) 0 bits
 
 -- a character's twelve pixels, PX11 leftmost; nothing stands to its left
 unfoldable pub character : List ℕ → ℕ → Bool → Place → List ℕ
-character font fbk hidden p = columns 12 fbk (p .low) (shownBits hidden (p .low) (bitsOf font (p .glyph))) 0
+character font plain hidden p = columns 12 (inkOf plain (p .low)) (shownBits hidden (p .low) (bitsOf font (p .glyph))) 0
 
 -- the room that is left on a line, from a character's first pixel on: the characters, the last cut, then plain
 unfoldable pub painted : List ℕ → ℕ → Bool → ℕ → List Place → List ℕ
-painted font fbk hidden room [] = replicate room (plain fbk)
-painted font fbk hidden room (p ∷ ps) = take room (character font fbk hidden p) ++ painted font fbk hidden (room - 12) ps
+painted font plain hidden room [] = replicate room plain
+painted font plain hidden room (p ∷ ps) = take room (character font plain hidden p) ++ painted font plain hidden (room - 12) ps
 
 -- a line of W pixels. OSD 0: every pixel 0. Else plain before the first character
 unfoldable pub paint : Settings → List ℕ → ℕ → List Place → List ℕ
 paint s font f row =
     cond (s .osd)
-    (replicate (min (firstPixelOf (s .dd)) (widthOf (s .ld))) (plain (s .fbk))
-    ++ painted font (s .fbk) (hiddenIn (s .fl) f) (widthOf (s .ld) - firstPixelOf (s .dd)) row)
+    (replicate (min (firstPixelOf (s .dd)) (widthOf (s .ld))) (plainOf (s .fbk))
+    ++ painted font (plainOf (s .fbk)) (hiddenIn (s .fl) f) (widthOf (s .ld) - firstPixelOf (s .dd)) row)
     (replicate (widthOf (s .ld)) 0)

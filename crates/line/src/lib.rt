@@ -1,1 +1,197 @@
 // One scan line: what it reads, and its pixels.
+ghost use mathlib.Core.Path.{_≡_};
+ghost use mathlib.Core.Bool.{cond};
+ghost use Prim.Native.Nat.{_+_, _/_, _%_, _≤_, _<_};
+ghost use lib.Dec.{eqb};
+ghost use lib.ListN.{length, take, replicate};
+ghost use Rattle.glyph.specs.Glyph.{Lent};
+ghost use Rattle.line.specs.Line.{inkOf, columns, shownBits};
+ghost use Rattle.line.specs.Contracts.{CharacterDrawn, CodeDrawn, RowDrawn, StripDrawn, LineDrawn};
+use raster::Slice;
+use registers::Registers;
+use registers::Settings;
+use walk::Strip;
+use walk::Walk;
+
+// The pixels that a code draws with.
+pub struct Ink {
+    // foreground
+    pub fore: u8,
+    // background beside foreground, to its right
+    pub cast: u8,
+    // other background
+    pub back: u8,
+}
+
+// What is the same along a row of characters.
+pub struct Pen {
+    pub slice: Slice,
+    // the plain pixel
+    pub plain: u8,
+    // flashing characters are in their hidden time
+    pub hidden: bool,
+}
+
+// Whether a code ended the line, and how many cells it read.
+pub struct Coded {
+    pub ended: bool,
+    pub cells: u16,
+}
+
+// The walk after a line, and how many cells the line read.
+pub struct Line {
+    pub walk: Walk,
+    pub cells: u16,
+}
+
+fn pick(bit: u16, one: u8, other: u8) -> u8
+    ensures { λ r. ⌜ r ≡ cond (eqb bit 1) one other ⌝ }
+{
+    if bit == 1 { one } else { other }
+}
+
+fn fill(out: &mut [u8], pixel: u8)
+    ensures { λ _. ⌜ now (out .exit) ≡ replicate (length (now (out .entry))) pixel ⌝ }
+{
+    let mut i = 0;
+    while i < out.len() {
+        out[i] = pixel;
+        i += 1;
+    }
+}
+
+// A background pixel; shadow is the pixel where there is shadowing.
+fn background(plain: u8, low: u8, shadow: u8) -> u8
+    ensures { λ r. ⌜ r ≡ cond (eqb (low / 8 % 2) 0) (8 + low % 8) (cond (eqb (low / 2 % 2) 0) plain shadow) ⌝ }
+{
+    if low / 8 % 2 == 0 {
+        return 8 + low % 8;
+    }
+    if low / 2 % 2 == 0 {
+        return plain;
+    }
+    shadow
+}
+
+fn ink_of(plain: u8, low: u8) -> Ink
+    ensures { λ r. ⌜ r ≡ inkOf plain low ⌝ }
+{
+    Ink {
+        fore: 8 + low / 16 % 8,
+        cast: background(plain, low, 8),
+        back: background(plain, low, plain),
+    }
+}
+
+// The columns of a character from its leftmost on, as many as there is room for.
+fn draw_columns(out: &mut [u8], pixels: Ink, bits: u16)
+    requires { ⌜ length (now out) ≤ 12 ⌝ }
+    ensures { λ _. ⌜ now (out .exit) ≡ take (length (now (out .entry))) (columns 12 pixels bits 0) ⌝ }
+{
+    let mut i = 0;
+    let mut left: u16 = 0;
+    while i < out.len() {
+        let bit = (bits >> (11 - i)) % 2;
+        out[i] = pick(bit, pixels.fore, pick(left, pixels.cast, pixels.back));
+        left = bit;
+        i += 1;
+    }
+}
+
+// The bits that a character shows: none where it is hidden.
+fn bits_shown(hidden: bool, low: u8, bits: u16) -> u16
+    ensures { λ r. ⌜ r ≡ shownBits hidden low bits ⌝ }
+{
+    if low / 128 % 2 == 1 {
+        if hidden {
+            return 0;
+        }
+    }
+    bits
+}
+
+// One character, cut to the room there is; answers how many cells its slice read.
+fn draw_character<'a>(
+    out: &mut [u8],
+    ram: &'a [u8],
+    font: &'a [u8],
+    low: u8,
+    high: u8,
+    pen: Pen,
+) -> u16
+    requires { ⌜ length (now out) ≤ 12 ⌝ }
+    requires { ⌜ Lent (now ram) (now font) ⌝ }
+    requires { ⌜ pen .slice .0 ≤ 18 ⌝ }
+    ensures { λ r. ⌜ CharacterDrawn (now (ram .entry)) (now (font .entry)) low high pen (now (out .entry)) r (now (out .exit)) ⌝ }
+{
+    let slice = pen.slice;
+    let shown = glyph::lookup(ram, font, high, slice);
+    draw_columns(
+        out,
+        ink_of(pen.plain, low),
+        bits_shown(pen.hidden, low, shown.bits),
+    );
+    shown.cells
+}
+
+// The code at an even address: its character, or nothing where it ends the line.
+fn draw_code<'a>(out: &mut [u8], ram: &'a [u8], font: &'a [u8], at: u16, pen: Pen) -> Coded
+    requires { ⌜ length (now out) ≤ 12 ⌝ }
+    requires { ⌜ Lent (now ram) (now font) ⌝ }
+    requires { ⌜ pen .slice .0 ≤ 18 ⌝ }
+    requires { ⌜ at + 1 < 1024 ⌝ }
+    ensures { λ r. ⌜ CodeDrawn (now (ram .entry)) (now (font .entry)) at pen (now (out .entry)) r (now (out .exit)) ⌝ }
+{
+    let low = ram[at as usize];
+    let high = ram[at as usize + 1];
+    if high == 255 {
+        return Coded {
+            ended: true,
+            cells: 2,
+        };
+    }
+    let read = draw_character(out, ram, font, low, high, pen);
+    Coded {
+        ended: false,
+        cells: 2 + read,
+    }
+}
+
+// A row of characters from pixel first up to w, and plain from its end on; answers how many cells it read.
+fn draw_row<'a>(
+    out: &mut [u8],
+    ram: &'a [u8],
+    font: &'a [u8],
+    address: u16,
+    pen: Pen,
+    first: usize,
+    w: usize,
+) -> u16
+    requires { ⌜ (first ≤ w) × (w ≤ length (now out)) × (w ≤ 768) ⌝ }
+    requires { ⌜ Lent (now ram) (now font) ⌝ }
+    requires { ⌜ pen .slice .0 ≤ 18 ⌝ }
+    ensures { λ r. ⌜ RowDrawn (now (ram .entry)) (now (font .entry)) address pen first w (now (out .entry)) r (now (out .exit)) ⌝ }
+{
+    let mut x = first;
+    let mut a = walk::even_address(address);
+    let mut cells: u16 = 0;
+    while x + 12 <= w {
+        let e = x + 12;
+        let code = draw_code(&mut out[x..e], ram, font, a, pen);
+        cells += code.cells;
+        if code.ended {
+            fill(&mut out[x..w], pen.plain);
+            return cells;
+        }
+        a = walk::even_address(a + 2);
+        x = e;
+    }
+    if x < w {
+        let code = draw_code(&mut out[x..w], ram, font, a, pen);
+        cells += code.cells;
+        if code.ended {
+            fill(&mut out[x..w], pen.plain);
+        }
+    }
+    cells
+}

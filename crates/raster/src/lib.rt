@@ -1,6 +1,6 @@
 // The geometry of a line: which slice a scan line shows, how wide a line is, where its characters start, and what flashes.
 ghost use mathlib.Core.Path.{_≡_};
-ghost use Rattle.raster.specs.Raster.{InStrip, unzoomed, interpolated, widthOf, firstPixelOf, hiddenIn};
+ghost use Rattle.raster.specs.Raster.{stripLines, InStrip, unzoomed, interpolated, widthOf, firstPixelOf, hiddenIn};
 
 // A scan line of a strip, counted from 1; 0 before the first.
 pub struct ScanLine(pub u16);
@@ -28,6 +28,16 @@ impl ScanLine {
         let ch = height as u16;
         Slice(((36 * n + ch) / (2 * ch)) as u8)
     }
+}
+
+// How many scan lines a strip of characters has.
+pub fn strip_lines(height: u8, zoom: bool) -> u16
+    ensures { λ r. ⌜ r ≡ stripLines height zoom ⌝ }
+{
+    if zoom {
+        return 2 * height as u16;
+    }
+    height as u16
 }
 
 pub fn width(ld: u8) -> u16

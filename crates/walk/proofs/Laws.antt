@@ -1,20 +1,25 @@
 -- The laws of the walk: addresses are even and below 1,024, a line of the walk reads at most one descriptor, and the strip on
 -- screen is at one of its lines.
 -- Assumes nothing.
-use Prim.Native.Nat.{ℕ, _+_, _/_, _%_, _≤_, _<_}
+use Prim.Native.Nat.{ℕ, _+_, _*_, _/_, _%_, _≤_, _<_}
 use mathlib.Core.Path.{_≡_, refl}
 use mathlib.Core.Bool.{Bool, true, false, cond}
 use native.Mathlib.Omega.{arith}
-use borrow.Author.Tests.{leb-false}
+use borrow.Author.Tests.{leb-false, eqb-false, lt-leb, ne-eqb}
+use mir.Syntax.{w16}
+use mir.Val.{Fits}
+use mathlib.Core.List.{List}
 use lib.Dec.{leb, eqb}
-use Rattle.cells.specs.Reading.{Reading, done, read}
+use lib.ListN.{getD}
+use Rattle.cells.specs.Reading.{Reading, done, read, fmap, value, cells}
 use Rattle.cells.proofs.Bounds.{Gives, Within, AtMost, gives-fmap, within-fmap, within-cond, atMost-fmap, atMost-cond}
 use Rattle.raster.specs.declared.ScanLine.{ScanLine}
 use Rattle.raster.specs.Raster.{InStrip, stripLines}
 use Rattle.walk.specs.declared.Strip.{Strip}
 use Rattle.walk.specs.declared.Strip.the-variants.{Spacing, Characters}
 use Rattle.walk.specs.declared.Walk.{Walk}
-use Rattle.walk.specs.Walk.{even, next, walkFrom, atLeastOne, stripOf, over, begun, advanced, nextLine}
+use Rattle.walk.specs.declared.Walked.{Walked}
+use Rattle.walk.specs.Walk.{even, next, walkFrom, atLeastOne, stripOf, over, begun, advanced, nextLine, OnLine, walked}
 
 -- ---- addresses
 
@@ -54,10 +59,6 @@ nextLine-most ch w = atMost-fmap 2 _ (begun ch w) (begun-most ch w)
 
 -- ---- the strip on screen is at one of its lines
 
-unfoldable pub OnLine : Strip → Type 0
-OnLine (Spacing left) = Unit
-OnLine (Characters address height zoom enabled line) = InStrip line height zoom
-
 -- a strip with a line left, at its next line
 left-on : (s : Strip) → over s ≡ false → OnLine (advanced s)
 unfolding over advanced OnLine
@@ -69,14 +70,15 @@ fresh-on : (zoom : Bool) (ch : ℕ) → 1 ≤ stripLines (atLeastOne ch) zoom
 fresh-on true ch = omega arith
 fresh-on false ch = omega arith
 
-either-on : (t : Bool) (a b : Strip) → OnLine (advanced a) → OnLine (advanced b) → OnLine (advanced (cond t a b))
-either-on true a b h k = h
-either-on false a b h k = k
+-- what holds of both holds of the one that a test picks
+either : {A : Type 0} (P : A → Type 0) (t : Bool) (x y : A) → P x → P y → P (cond t x y)
+either P true x y h k = h
+either P false x y h k = k
 
 stripOf-on : (ch low high : ℕ) → OnLine (advanced (stripOf ch low high))
 unfolding stripOf
 stripOf-on ch low high =
-    either-on (eqb (high / 128 % 2) 0) _ _
+    either (λ (s : Strip). OnLine (advanced s)) (eqb (high / 128 % 2) 0) _ _
     (unfold advanced OnLine in tt)
     (unfold advanced OnLine in record { from = omega arith; to = fresh-on (eqb (high / 32 % 2) 1) ch })
 
@@ -97,3 +99,42 @@ unfolding nextLine begun
 nextLine-on ch w =
     gives-fmap (λ (v : Walk). OnLine (advanced (v .strip))) (λ (v : Walk). OnLine (v .strip)) _ (begun ch w)
     (begun-on ch w (over (w .strip)) refl) (λ v h. h)
+
+-- ---- what the code's steps need
+
+pub left-pos : (left : ℕ) → eqb left 0 ≡ false → 1 ≤ left
+left-pos left e = omega (arith, eqb-false left 0 e)
+
+pub line-fits : (height line : ℕ) (zoom : Bool) → height < 256 → leb (stripLines height zoom) line ≡ false → Fits w16 (line + 1)
+line-fits height line true h e = omega (arith, leb-false (2 * height) line e)
+line-fits height line false h e = omega (arith, leb-false height line e)
+
+-- a strip that has just begun is not over
+fresh-lines : (zoom : Bool) (ch : ℕ) → leb (stripLines (atLeastOne ch) zoom) 0 ≡ false
+fresh-lines zoom ch = lt-leb (stripLines (atLeastOne ch) zoom) 0 (fresh-on zoom ch)
+
+pub stripOf-begun : (ch low high : ℕ) → over (stripOf ch low high) ≡ false
+unfolding stripOf
+stripOf-begun ch low high =
+    either (λ (s : Strip). over s ≡ false) (eqb (high / 128 % 2) 0) _ _
+    (unfold over in ne-eqb (atLeastOne low) 0 (omega arith))
+    (unfold over in fresh-lines (eqb (high / 32 % 2) 1) ch)
+
+-- the walk's next line where the strip is over: a descriptor is read
+pub walked-read : (ram : List ℕ) (ch : ℕ) (w : Walk) → over (w .strip) ≡ true
+    → walked ram ch w
+    ≡ record {
+      walk = record {
+        descriptor = next (even (w .descriptor));
+        strip = advanced (stripOf ch (getD ram (even (w .descriptor)) 0) (getD ram (even (w .descriptor) + 1) 0));
+      };
+      cells = 2;
+    }
+unfolding walked nextLine begun fmap value cells
+walked-read ram ch w e = rw e
+
+-- and where it has a line left
+pub walked-on : (ram : List ℕ) (ch : ℕ) (w : Walk) → over (w .strip) ≡ false
+    → walked ram ch w ≡ record { walk = record { descriptor = w .descriptor; strip = advanced (w .strip) }; cells = 0 }
+unfolding walked nextLine begun fmap value cells
+walked-on ram ch w e = rw e

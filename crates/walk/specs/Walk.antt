@@ -3,11 +3,14 @@
 use Prim.Native.Nat.{ℕ, _+_, _-_, _*_, _/_, _%_, max}
 use mathlib.Core.Bool.{Bool, true, false, cond}
 use lib.Dec.{eqb, leb}
-use Rattle.cells.specs.Reading.{Reading, done, read, bind, fmap}
-use Rattle.raster.specs.Raster.{stripLines}
+use lib.ListN.{length}
+use mathlib.Core.List.{List}
+use Rattle.cells.specs.Reading.{Reading, done, read, fmap, value, cells}
+use Rattle.raster.specs.Raster.{stripLines, InStrip}
 use Rattle.walk.specs.declared.Strip.{Strip}
 use Rattle.walk.specs.declared.Strip.the-variants.{Spacing, Characters}
 use Rattle.walk.specs.declared.Walk.{Walk}
+use Rattle.walk.specs.declared.Walked.{Walked}
 
 -- two bytes at an even address; addresses wrap at 1,024 (H)
 abbrev pub even : ℕ → ℕ
@@ -55,3 +58,12 @@ advanced (Characters address height zoom enabled line) = Characters address heig
 -- the walk at the frame's next line: the strip on screen, and its line
 unfoldable pub nextLine : ℕ → Walk → Reading Walk
 nextLine ch w = fmap (λ b. record { descriptor = b .descriptor; strip = advanced (b .strip) }) (begun ch w)
+
+-- the strip on screen is at one of its lines
+unfoldable pub OnLine : Strip → Type 0
+OnLine (Spacing left) = Unit
+OnLine (Characters address height zoom enabled line) = InStrip line height zoom
+
+-- what the walk's next line gives and how many cells it reads
+unfoldable pub walked : List ℕ → ℕ → Walk → Walked
+walked ram ch w = record { walk = value ram (nextLine ch w); cells = length (cells ram (nextLine ch w)) }

@@ -1,4 +1,8 @@
 // The walk of a frame over its descriptors: which strip is on screen, and which of its lines.
+ghost use mathlib.Core.Path.{_≡_};
+ghost use mathlib.Core.Bool.{false};
+ghost use lib.ListN.{length};
+ghost use Rattle.walk.specs.Walk.{even, walkFrom, atLeastOne, stripOf, over, advanced, walked};
 use raster::ScanLine;
 
 // The strip on screen. One with no line left gives way to the next descriptor at the next line.
@@ -25,4 +29,123 @@ pub struct Walk {
     // the address of the next descriptor
     pub descriptor: u16,
     pub strip: Strip,
+}
+
+// The walk at the next line, and how many cells that read.
+pub struct Walked {
+    pub walk: Walk,
+    pub cells: u16,
+}
+
+// The even address of two bytes of RAM.
+pub fn even_address(a: u16) -> u16
+    ensures { λ r. ⌜ r ≡ even a ⌝ }
+{
+    a / 2 % 512 * 2
+}
+
+fn at_least_one(n: u8) -> u8
+    ensures { λ r. ⌜ r ≡ atLeastOne n ⌝ }
+{
+    if n == 0 {
+        return 1;
+    }
+    n
+}
+
+impl Strip {
+    // The strip of a descriptor, before its first line.
+    pub fn of_descriptor(ch: u8, low: u8, high: u8) -> Strip
+        ensures { λ r. ⌜ r ≡ stripOf ch low high ⌝ }
+    {
+        if high / 128 % 2 == 0 {
+            return Strip::Spacing {
+                left: at_least_one(low),
+            };
+        }
+        Strip::Characters {
+            address: even_address((high % 4) as u16 * 256 + low as u16),
+            height: at_least_one(ch),
+            zoom: high / 32 % 2 == 1,
+            enabled: high / 64 % 2 == 1,
+            line: ScanLine(0),
+        }
+    }
+
+    pub fn is_over(self) -> bool
+        ensures { λ r. ⌜ r ≡ over self ⌝ }
+    {
+        match self {
+            Strip::Spacing { left } => left == 0,
+            Strip::Characters {
+                address: _,
+                height,
+                zoom,
+                enabled: _,
+                line,
+            } => raster::strip_lines(height, zoom) <= line.0,
+        }
+    }
+
+    fn advance(self) -> Strip
+        requires { ⌜ over self ≡ false ⌝ }
+        ensures { λ r. ⌜ r ≡ advanced self ⌝ }
+    {
+        match self {
+            Strip::Spacing { left } => Strip::Spacing { left: left - 1 },
+            Strip::Characters {
+                address,
+                height,
+                zoom,
+                enabled,
+                line,
+            } => Strip::Characters {
+                address: address,
+                height: height,
+                zoom: zoom,
+                enabled: enabled,
+                line: ScanLine(line.0 + 1),
+            },
+        }
+    }
+}
+
+impl Walk {
+    // The walk at the start of a page.
+    pub fn of_page(page: u8) -> Walk
+        ensures { λ r. ⌜ r ≡ walkFrom page ⌝ }
+    {
+        Walk {
+            descriptor: page as u16 * 64,
+            strip: Strip::Spacing { left: 0 },
+        }
+    }
+
+    // The walk at the frame's next line. A descriptor is read, and CH taken, where the strip on screen is over.
+    pub fn next_line(self, ram: &[u8], ch: u8) -> Walked
+        requires { ⌜ length (now ram) ≡ 1024 ⌝ }
+        ensures { λ r. ⌜ r ≡ walked (now (ram .entry)) ch self ⌝ }
+    {
+        let strip = self.strip;
+        if strip.is_over() {
+            let at = even_address(self.descriptor);
+            let low = ram[at as usize];
+            let high = ram[at as usize + 1];
+            let next = Strip::of_descriptor(ch, low, high).advance();
+            return Walked {
+                walk: Walk {
+                    descriptor: even_address(at + 2),
+                    strip: next,
+                },
+                cells: 2,
+            };
+        }
+        Walked {
+            walk: Walk {
+                descriptor: self.descriptor,
+                strip: strip.advance(),
+            },
+            cells: 0,
+        }
+    }
 }

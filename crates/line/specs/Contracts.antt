@@ -1,0 +1,50 @@
+-- What the line's functions promise of the bytes that they write and the cells that they read, in the definition's terms.
+-- Assumes nothing.
+use Prim.Native.Nat.{ℕ, _+_, _-_, _/_}
+use mathlib.Core.Path.{_≡_}
+use mathlib.Core.List.{List, _++_}
+use mathlib.Core.Bool.{cond}
+use lib.ListN.{length, getD, take, drop}
+use Rattle.cells.specs.Reading.{value, cells}
+use Rattle.registers.specs.declared.Registers.{Registers}
+use Rattle.registers.specs.declared.Settings.{Settings}
+use Rattle.registers.specs.Registers.{settingsOf}
+use Rattle.raster.specs.Raster.{widthOf}
+use Rattle.walk.specs.declared.Strip.{Strip}
+use Rattle.walk.specs.declared.Walk.{Walk}
+use Rattle.glyph.specs.Glyph.{endsLine, glyphOf}
+use Rattle.line.specs.declared.Pen.{Pen}
+use Rattle.line.specs.declared.Coded.{Coded}
+use Rattle.line.specs.declared.Line.{Line}
+use Rattle.line.specs.Line.{Place, codes, shownRow, scan, character, painted, paint}
+
+-- a character fills its part of the line, and its slice read so many cells
+pub record CharacterDrawn (ram font : List ℕ) (low high : ℕ) (pen : Pen) (part : List ℕ) (n : ℕ) (part′ : List ℕ) : Type 0 where
+  pub pixels : part′ ≡ take (length part) (character font (pen .plain) (pen .hidden) (record { low = low; glyph = value ram (glyphOf high (pen .slice)) }))
+  pub reads : n ≡ length (cells ram (glyphOf high (pen .slice)))
+
+-- a code at an even address: its character fills its part of the line, or the line ends and the part stays
+pub record CodeDrawn (ram font : List ℕ) (at : ℕ) (pen : Pen) (part : List ℕ) (c : Coded) (part′ : List ℕ) : Type 0 where
+  pub ends : c .ended ≡ endsLine (getD ram (at + 1) 0)
+  pub pixels : part′
+      ≡ cond (c .ended) part
+      (take (length part) (character font (pen .plain) (pen .hidden) (record { low = getD ram at 0; glyph = value ram (glyphOf (getD ram (at + 1) 0) (pen .slice)) })))
+  pub reads : c .cells ≡ 2 + cond (c .ended) 0 (length (cells ram (glyphOf (getD ram (at + 1) 0) (pen .slice))))
+
+-- the room from pixel x to w holds the characters and then plain; the bytes before and after stay
+pub record RowDrawn (ram font : List ℕ) (address : ℕ) (pen : Pen) (x w : ℕ) (out : List ℕ) (n : ℕ) (out′ : List ℕ) : Type 0 where
+  pub pixels : out′
+      ≡ take x out
+      ++ (painted font (pen .plain) (pen .hidden) (w - x) (value ram (codes ((w - x + 11) / 12) (pen .slice) address)) ++ drop w out)
+  pub reads : n ≡ length (cells ram (codes ((w - x + 11) / 12) (pen .slice) address))
+
+-- a line of the strip on screen; later bytes stay
+pub record StripDrawn (ram font : List ℕ) (s : Settings) (strip : Strip) (f : ℕ) (out : List ℕ) (n : ℕ) (out′ : List ℕ) : Type 0 where
+  pub pixels : out′ ≡ paint s font f (value ram (shownRow s strip)) ++ drop (widthOf (s .ld)) out
+  pub reads : n ≡ length (cells ram (shownRow s strip))
+
+-- a frame's next line; later bytes stay
+pub record LineDrawn (ram font : List ℕ) (r : Registers) (w : Walk) (f : ℕ) (out : List ℕ) (l : Line) (out′ : List ℕ) : Type 0 where
+  pub pixels : out′ ≡ paint (settingsOf r) font f (value ram (scan (settingsOf r) w) .row) ++ drop (widthOf (settingsOf r .ld)) out
+  pub walk : l .walk ≡ value ram (scan (settingsOf r) w) .walk
+  pub reads : l .cells ≡ length (cells ram (scan (settingsOf r) w))
