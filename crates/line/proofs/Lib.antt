@@ -1,4 +1,5 @@
 pub mod Edges
 pub mod Example
 pub mod Laws
+pub mod Strips
 pub mod Turns

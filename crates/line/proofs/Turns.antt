@@ -102,9 +102,10 @@ module _ (ram : List ℕ) (n : ℕ) (s : Slice) (a : ℕ) where
   codes-ended : endsLine (getD ram (even a + 1) 0) ≡ true
       → (value ram (codes (suc n) s a) ≡ []) × (length (cells ram (codes (suc n) s a)) ≡ 2)
   unfolding codes value cells after
-  codes-ended e =
-      (ap (λ (t : Bool). value ram (cond t (done []) (after n s a (getD ram (even a) 0) (getD ram (even a + 1) 0)))) e,
-      ap (λ (t : Bool). suc (suc (length (cells ram (cond t (done []) (after n s a (getD ram (even a) 0) (getD ram (even a + 1) 0))))))) e)
+  codes-ended e = (
+    ap (λ (t : Bool). value ram (cond t (done []) (after n s a (getD ram (even a) 0) (getD ram (even a + 1) 0)))) e,
+    ap (λ (t : Bool). suc (suc (length (cells ram (cond t (done []) (after n s a (getD ram (even a) 0) (getD ram (even a + 1) 0))))))) e,
+  )
 
   -- a code with a character
   codes-on : endsLine (getD ram (even a + 1) 0) ≡ false
@@ -113,13 +114,14 @@ module _ (ram : List ℕ) (n : ℕ) (s : Slice) (a : ℕ) where
       × (length (cells ram (codes (suc n) s a))
       ≡ 2 + length (cells ram (glyphOf (getD ram (even a + 1) 0) s)) + length (cells ram (codes n s (next a))))
   unfolding codes value cells after
-  codes-on e =
-      (ap (λ (t : Bool). value ram (cond t (done []) (after n s a (getD ram (even a) 0) (getD ram (even a + 1) 0)))) e
-      ∙ value-bind ram (glyphOf (getD ram (even a + 1) 0) s) _
-      ∙ value-fmap ram _ (codes n s (next a)),
-      ap (λ (t : Bool). suc (suc (length (cells ram (cond t (done []) (after n s a (getD ram (even a) 0) (getD ram (even a + 1) 0))))))) e
-      ∙ ap (λ (l : List ℕ). suc (suc (length l))) (cells-bind ram (glyphOf (getD ram (even a + 1) 0) s) _)
-      ∙ simp (cells-fmap, length-append) (omega arith))
+  codes-on e = (
+    ap (λ (t : Bool). value ram (cond t (done []) (after n s a (getD ram (even a) 0) (getD ram (even a + 1) 0)))) e
+        ∙ value-bind ram (glyphOf (getD ram (even a + 1) 0) s) _
+        ∙ value-fmap ram _ (codes n s (next a)),
+    ap (λ (t : Bool). suc (suc (length (cells ram (cond t (done []) (after n s a (getD ram (even a) 0) (getD ram (even a + 1) 0))))))) e
+        ∙ ap (λ (l : List ℕ). suc (suc (length l))) (cells-bind ram (glyphOf (getD ram (even a + 1) 0) s) _)
+        ∙ simp (cells-fmap, length-append) (omega arith),
+  )
 
 -- ---- a row of characters, one more at a time
 
@@ -161,21 +163,21 @@ cut-same l r k e q = by (decLe r 12)
     by (no h) = take-all k l (omega arith) ∙ sym (take-all r l (omega arith))
 
 -- where no character is left, the room is plain
-painted-none : (font : List ℕ) (plain : ℕ) (hidden : Bool) (room : ℕ) → painted font plain hidden room [] ≡ replicate room plain
+pub painted-none : (font : List ℕ) (plain : ℕ) (hidden : Bool) (room : ℕ) → painted font plain hidden room [] ≡ replicate room plain
 unfolding painted
 painted-none font plain hidden room = refl
 
 -- where there is no room, nothing is drawn and nothing read
-no-room : (font : List ℕ) (pen : Pen) (ram : List ℕ) (a : ℕ)
+pub no-room : (font : List ℕ) (pen : Pen) (ram : List ℕ) (a : ℕ)
     → painted font (pen .plain) (pen .hidden) 0 (value ram (codes ((0 + 11) / 12) (pen .slice) a)) ≡ []
 unfolding codes value painted
 no-room font pen ram a = refl
 
-no-reads : (pen : Pen) (ram : List ℕ) (a : ℕ) → length (cells ram (codes ((0 + 11) / 12) (pen .slice) a)) ≡ 0
+pub no-reads : (pen : Pen) (ram : List ℕ) (a : ℕ) → length (cells ram (codes ((0 + 11) / 12) (pen .slice) a)) ≡ 0
 unfolding codes cells
 no-reads pen ram a = refl
 
-drop-from : (l : List ℕ) (e w : ℕ) → e ≤ w → drop w l ≡ drop (w - e) (drop e l)
+pub drop-from : (l : List ℕ) (e w : ℕ) → e ≤ w → drop w l ≡ drop (w - e) (drop e l)
 drop-from l e w h =
     let m : e + (w - e) ≡ w = omega arith in
     sym (drop-drop (w - e) e l ∙ ap (λ (k : ℕ). drop k l) m)
@@ -259,7 +261,7 @@ module _ (ram font : List ℕ) (address : ℕ) (pen : Pen) (first w : ℕ) (out�
       before-e : take e (putMid x (e - x) out part) ≡ take x out ++ part
       before-e =
           let long : length (take x out ++ part) ≡ e =
-              simp (length-append, length-take, part-length) (omega (arith, i .long))
+          simp (length-append, length-take, part-length) (omega (arith, i .long))
           in
           ap (take e) (sym (append-assoc (take x out) part (drop (e - x) (drop x out))))
           ∙ take-at (take x out ++ part) (drop (e - x) (drop x out)) e long
@@ -295,13 +297,13 @@ module _ (ram font : List ℕ) (address : ℕ) (pen : Pen) (first w : ℕ) (out�
       row-ended fill f =
           let end-here = ended-here ram ((w - x - 12 + 11) / 12) (pen .slice) a (i .paired) (sym (d .ends) ∙ off) in
           let room : roomFrom ram font pen w x a ≡ replicate (w - x) (pen .plain) =
-              ap (λ (k : ℕ). painted font (pen .plain) (pen .hidden) (w - x) (value ram (codes k (pen .slice) a))) one-more
-              ∙ ap (painted font (pen .plain) (pen .hidden) (w - x)) (end-here .0)
-              ∙ painted-none font (pen .plain) (pen .hidden) (w - x)
+          ap (λ (k : ℕ). painted font (pen .plain) (pen .hidden) (w - x) (value ram (codes k (pen .slice) a))) one-more
+          ∙ ap (painted font (pen .plain) (pen .hidden) (w - x)) (end-here .0)
+          ∙ painted-none font (pen .plain) (pen .hidden) (w - x)
           in
           let long : length (take (w - x) (drop x out)) ≡ w - x = simp (length-take, length-drop) (omega (arith, i .long)) in
           let filled : fill ≡ roomFrom ram font pen w x a =
-              f ∙ ap (λ (l : List ℕ). replicate (length (take (w - x) (drop x l))) (pen .plain)) same-out ∙ ap (λ (k : ℕ). replicate k (pen .plain)) long ∙ sym room
+          f ∙ ap (λ (l : List ℕ). replicate (length (take (w - x) (drop x l))) (pen .plain)) same-out ∙ ap (λ (k : ℕ). replicate k (pen .plain)) long ∙ sym room
           in
           record {
             pixels =
@@ -319,7 +321,7 @@ module _ (ram font : List ℕ) (address : ℕ) (pen : Pen) (first w : ℕ) (out�
       let none : w - x ≡ 0 = omega (arith, i .upto) in
       let at : x ≡ w = omega (arith, i .upto) in
       let room : roomFrom ram font pen w x a ≡ [] =
-          ap (λ (k : ℕ). painted font (pen .plain) (pen .hidden) k (value ram (codes ((k + 11) / 12) (pen .slice) a))) none ∙ no-room font pen ram a
+      ap (λ (k : ℕ). painted font (pen .plain) (pen .hidden) k (value ram (codes ((k + 11) / 12) (pen .slice) a))) none ∙ no-room font pen ram a
       in
       record {
         pixels =

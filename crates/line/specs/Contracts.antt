@@ -1,10 +1,10 @@
 -- What the line's functions promise of the bytes that they write and the cells that they read, in the definition's terms.
 -- Assumes nothing.
-use Prim.Native.Nat.{ℕ, _+_, _-_, _/_}
+use Prim.Native.Nat.{ℕ, _+_, _-_, _/_, min}
 use mathlib.Core.Path.{_≡_}
 use mathlib.Core.List.{List, _++_}
 use mathlib.Core.Bool.{cond}
-use lib.ListN.{length, getD, take, drop}
+use lib.ListN.{length, getD, take, drop, replicate}
 use Rattle.cells.specs.Reading.{value, cells}
 use Rattle.registers.specs.declared.Registers.{Registers}
 use Rattle.registers.specs.declared.Settings.{Settings}
@@ -35,6 +35,13 @@ pub record CodeDrawn (ram font : List ℕ) (at : ℕ) (pen : Pen) (part : List �
 pub record RowDrawn (ram font : List ℕ) (address : ℕ) (pen : Pen) (x w : ℕ) (out : List ℕ) (n : ℕ) (out′ : List ℕ) : Type 0 where
   pub pixels : out′
       ≡ take x out
+      ++ (painted font (pen .plain) (pen .hidden) (w - x) (value ram (codes ((w - x + 11) / 12) (pen .slice) address)) ++ drop w out)
+  pub reads : n ≡ length (cells ram (codes ((w - x + 11) / 12) (pen .slice) address))
+
+-- plain up to the first character, or to w, then the row
+pub record CharactersDrawn (ram font : List ℕ) (address : ℕ) (pen : Pen) (x w : ℕ) (out : List ℕ) (n : ℕ) (out′ : List ℕ) : Type 0 where
+  pub pixels : out′
+      ≡ replicate (min x w) (pen .plain)
       ++ (painted font (pen .plain) (pen .hidden) (w - x) (value ram (codes ((w - x + 11) / 12) (pen .slice) address)) ++ drop w out)
   pub reads : n ≡ length (cells ram (codes ((w - x + 11) / 12) (pen .slice) address))
 

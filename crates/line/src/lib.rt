@@ -3,10 +3,14 @@ ghost use mathlib.Core.Path.{_≡_};
 ghost use mathlib.Core.Bool.{cond};
 ghost use Prim.Native.Nat.{_+_, _/_, _%_, _≤_, _<_};
 ghost use lib.Dec.{eqb};
-ghost use lib.ListN.{length, take, replicate};
+ghost use mathlib.Core.List.{_++_};
+ghost use lib.ListN.{length, take, drop, replicate};
+ghost use Rattle.registers.specs.Registers.{settingsOf};
+ghost use Rattle.raster.specs.Raster.{widthOf};
+ghost use Rattle.walk.specs.Walk.{OnLine};
 ghost use Rattle.glyph.specs.Glyph.{Lent};
 ghost use Rattle.line.specs.Line.{inkOf, columns, shownBits};
-ghost use Rattle.line.specs.Contracts.{CharacterDrawn, CodeDrawn, RowDrawn, StripDrawn, LineDrawn};
+ghost use Rattle.line.specs.Contracts.{CharacterDrawn, CodeDrawn, RowDrawn, CharactersDrawn, StripDrawn, LineDrawn};
 use raster::Slice;
 use registers::Registers;
 use registers::Settings;
@@ -194,4 +198,106 @@ fn draw_row<'a>(
         }
     }
     cells
+}
+
+// The first w bytes of the line in one pixel.
+fn fill_line(out: &mut [u8], w: usize, pixel: u8)
+    requires { ⌜ w ≤ length (now out) ⌝ }
+    ensures { λ _. ⌜ now (out .exit) ≡ replicate w pixel ++ drop w (now (out .entry)) ⌝ }
+{
+    fill(&mut out[..w], pixel);
+}
+
+// A line of a strip of characters: plain up to the first character, then the row.
+fn draw_characters<'a>(
+    out: &mut [u8],
+    ram: &'a [u8],
+    font: &'a [u8],
+    address: u16,
+    pen: Pen,
+    first: usize,
+    w: usize,
+) -> u16
+    requires { ⌜ (w ≤ length (now out)) × (w ≤ 768) ⌝ }
+    requires { ⌜ Lent (now ram) (now font) ⌝ }
+    requires { ⌜ pen .slice .0 ≤ 18 ⌝ }
+    ensures { λ r. ⌜ CharactersDrawn (now (ram .entry)) (now (font .entry)) address pen first w (now (out .entry)) r (now (out .exit)) ⌝ }
+{
+    if first < w {
+        fill_line(out, first, pen.plain);
+        return draw_row(out, ram, font, address, pen, first, w);
+    }
+    fill_line(out, w, pen.plain);
+    0
+}
+
+// A line of the strip on screen; answers how many cells its row read.
+fn draw_strip<'a>(
+    out: &mut [u8],
+    ram: &'a [u8],
+    font: &'a [u8],
+    settings: Settings,
+    strip: Strip,
+    number: u8,
+) -> u16
+    requires { ⌜ Lent (now ram) (now font) ⌝ }
+    requires { ⌜ OnLine strip ⌝ }
+    requires { ⌜ (settings .ld < 64) × (settings .fbk < 2) × (widthOf (settings .ld) ≤ length (now out)) ⌝ }
+    ensures { λ r. ⌜ StripDrawn (now (ram .entry)) (now (font .entry)) settings strip number (now (out .entry)) r (now (out .exit)) ⌝ }
+{
+    let w = raster::width(settings.ld) as usize;
+    let plain = 8 * settings.fbk;
+    if !settings.osd {
+        fill_line(out, w, 0);
+        return 0;
+    }
+    match strip {
+        Strip::Spacing { left: _ } => {
+            fill_line(out, w, plain);
+            0
+        }
+        Strip::Characters {
+            address,
+            height,
+            zoom,
+            enabled,
+            line,
+        } => {
+            if !enabled {
+                fill_line(out, w, plain);
+                return 0;
+            }
+            let pen = Pen {
+                slice: line.slice(height, zoom),
+                plain: plain,
+                hidden: raster::hidden(settings.fl, number),
+            };
+            let first = raster::first_pixel(settings.dd) as usize;
+            draw_characters(out, ram, font, address, pen, first, w)
+        }
+    }
+}
+
+// The frame's next line, of W bytes; later bytes stay.
+pub fn draw<'a>(
+    out: &mut [u8],
+    ram: &'a [u8],
+    font: &'a [u8],
+    registers: Registers,
+    walk: Walk,
+    number: u8,
+) -> Line
+    requires { ⌜ Lent (now ram) (now font) ⌝ }
+    requires { ⌜ widthOf (settingsOf registers .ld) ≤ length (now out) ⌝ }
+    ensures { λ r. ⌜ LineDrawn (now (ram .entry)) (now (font .entry)) registers walk number (now (out .entry)) r (now (out .exit)) ⌝ }
+{
+    let settings = registers.settings();
+    let walked = walk.next_line(ram, settings.ch);
+    let next = walked.walk;
+    let strip = next.strip;
+    let read = draw_strip(out, ram, font, settings, strip, number);
+    Line {
+        walk: next,
+        cells: walked.cells + read,
+    }
 }

@@ -35,7 +35,7 @@ same-length c = search needs
 -- src/lib.rt:114:1
 returns : tie.Need-returns
 unfolding character shownIn
-returns c = 
+returns c =
     let k = c .before .before in
     let s = k .before .before .before .before .lookup .ensures in
     record {

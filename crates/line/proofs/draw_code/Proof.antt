@@ -31,7 +31,7 @@ draw-character-requires c κs = search needs
 
 -- src/lib.rt:156:16
 add-t17 : tie.Need-add-t17
-add-t17 c = 
+add-t17 c =
     code-fits _ _ _ _ (c .before .before .draw-character .ensures .reads)
 
 -- src/lib.rt:138:1
@@ -40,7 +40,7 @@ same-length c = search needs
 
 -- src/lib.rt:138:1
 returns-2 : tie.Need-returns-2
-returns-2 c = 
+returns-2 c =
     let d = c .before .before in
     record {
       ends = sym (ne-eqb _ _ (d .before .before .if1 .left));

@@ -23,7 +23,7 @@ even-address-requires c κs = search needs
 
 -- src/lib.rt:178:5
 loop-holds : tie.Need-loop-holds Inv-loop μ-loop
-loop-holds c = 
+loop-holds c =
     let p = c .before .before .before .before .pre in
     row-holds _ _ _ _ _ _ _ (c .even-address .result) (p .0 .0) (c .even-address .ensures)
 
@@ -49,14 +49,14 @@ part-draw-code-end c = search needs
 
 -- src/lib.rt:180:13
 draw-code-requires : tie.Need-draw-code-requires Inv-loop μ-loop
-draw-code-requires c κs = 
+draw-code-requires c κs =
     let l = c .before .before .loop in
     let p = c .before .before .before .before .before .before .before .pre in
     (simp (length-take, length-drop) (omega arith), (p .1 .0, (p .1 .1, omega (arith, l .inv .paired))))
 
 -- src/lib.rt:181:9
 add-cells : tie.Need-add-cells Inv-loop μ-loop
-add-cells c = 
+add-cells c =
     let l = c .before .before .before .before .before .before .loop in
     let p = c .before .before .before .before .before .before .before .before .before .before .before .pre in
     omega (arith, row-bound _ _ _ _ _ _ _ (l .out) (l .x) (l .a) (l .cells) (p .0 .2) (l .inv), code-few _ _ _ _ _ _ _ (c .before .before .before .draw-code .ensures))
@@ -83,7 +83,7 @@ same-length c = search needs
 
 -- src/lib.rt:184:13
 returns : tie.Need-returns Inv-loop μ-loop
-returns c = 
+returns c =
     let d = c .before .before .before .before .before .before .before .before in
     let l = d .before .before .before .loop in
     let p = c .before .before .before .before .before .before .before .before .before .before .before .before .before .before .before .before .pre in
@@ -104,7 +104,7 @@ loop-less c = search needs
 
 -- src/lib.rt:178:5
 loop-again : tie.Need-loop-again Inv-loop μ-loop
-loop-again c = 
+loop-again c =
     let d = c .before .before .before .before .before in
     let l = d .before .before .before .loop in
     let p = c .before .before .before .before .before .before .before .before .before .before .before .before .before .pre in
@@ -126,14 +126,14 @@ part-draw-code-end-2 c = search needs
 
 -- src/lib.rt:190:13
 draw-code-requires-2 : tie.Need-draw-code-requires-2 Inv-loop μ-loop
-draw-code-requires-2 c κs = 
+draw-code-requires-2 c κs =
     let l = c .before .before .before .loop in
     let p = c .before .before .before .before .before .before .before .before .pre in
     (simp (length-take, length-drop) (omega arith), (p .1 .0, (p .1 .1, omega (arith, l .inv .paired))))
 
 -- src/lib.rt:191:9
 add-cells-2 : tie.Need-add-cells-2 Inv-loop μ-loop
-add-cells-2 c = 
+add-cells-2 c =
     let l = c .before .before .before .before .before .before .before .loop in
     let p = c .before .before .before .before .before .before .before .before .before .before .before .before .pre in
     omega (arith, row-bound _ _ _ _ _ _ _ (l .out) (l .x) (l .a) (l .cells) (p .0 .2) (l .inv), code-few _ _ _ _ _ _ _ (c .before .before .before .draw-code2 .ensures))
@@ -160,7 +160,7 @@ same-length-2 c = search needs
 
 -- src/lib.rt:161:1
 returns-2 : tie.Need-returns-2 Inv-loop μ-loop
-returns-2 c = 
+returns-2 c =
     let d = c .before .before .before .before .before .before .before .before in
     let l = d .before .before .before .before .loop in
     let p = c .before .before .before .before .before .before .before .before .before .before .before .before .before .before .before .before .before .pre in
@@ -173,7 +173,7 @@ same-length-3 c = search needs
 
 -- src/lib.rt:161:1
 returns-3 : tie.Need-returns-3 Inv-loop μ-loop
-returns-3 c = 
+returns-3 c =
     let d = c .before .before .before .before in
     let l = d .before .before .before .before .loop in
     let p = c .before .before .before .before .before .before .before .before .before .before .before .before .before .pre in
@@ -188,7 +188,7 @@ same-length-4 c = search needs
 
 -- src/lib.rt:161:1
 returns-4 : tie.Need-returns-4 Inv-loop μ-loop
-returns-4 c = 
+returns-4 c =
     let l = c .before .before .loop in
     row-full _ _ _ _ _ _ _ (l .out) (l .x) (l .a) (l .cells) (l .inv) (c .if2 .left)
 

@@ -1,0 +1,203 @@
+-- From rows of characters to lines of a strip, and to the frame's next line.
+-- Assumes nothing.
+use Prim.Native.Nat.{ℕ, _+_, _-_, _*_, _/_, _≤_, _<_, min}
+use mathlib.Core.Path.{_≡_, refl, sym, ap, ap₂, _∙_, subst, subst₂}
+use mathlib.Core.Bool.{Bool, true, false, cond}
+use mathlib.Core.List.{List, [], _++_, append-assoc}
+use native.Mathlib.Omega.{arith}
+use lib.ListN.{length, take, drop, replicate, length-append, length-replicate, replicate-append-replicate}
+use lib.Seq.{take-at, drop-at}
+use Rattle.cells.specs.Reading.{Reading, done, fmap, value, cells}
+use Rattle.cells.proofs.Laws.{value-bind, cells-bind, value-fmap, cells-fmap}
+use Rattle.cells.proofs.Bounds.{gives-value, atMost-length}
+use Rattle.registers.specs.declared.Registers.{Registers}
+use Rattle.registers.specs.declared.Settings.{Settings}
+use Rattle.registers.specs.Registers.{settingsOf}
+use Rattle.raster.specs.declared.ScanLine.{ScanLine}
+use Rattle.raster.specs.declared.Slice.{Slice}
+use Rattle.raster.specs.Raster.{InStrip, interpolated, widthOf, firstPixelOf, hiddenIn}
+use Rattle.walk.specs.declared.Strip.{Strip}
+use Rattle.walk.specs.declared.Strip.the-variants.{Spacing, Characters}
+use Rattle.walk.specs.declared.Walk.{Walk}
+use Rattle.walk.specs.Walk.{nextLine, OnLine, walked}
+use Rattle.walk.specs.declared.Walked.{Walked}
+use Rattle.walk.proofs.Laws.{nextLine-on}
+use Rattle.line.specs.declared.Pen.{Pen}
+use Rattle.line.specs.Line.{Place, codes, rowOf, shownRow, Scanned, scan, plainOf, painted, paint}
+use Rattle.line.specs.Contracts.{RowDrawn, CharactersDrawn, StripDrawn, LineDrawn}
+use Rattle.line.proofs.Laws.{line-most, interpolated-bound}
+use Rattle.line.proofs.Turns.{drop-from, no-room, no-reads, painted-none}
+
+-- ---- the margin and the row
+
+module _ (ram font : List ℕ) (address : ℕ) (pen : Pen) (x w : ℕ) (out : List ℕ) where
+  -- the margin is filled, then the row is drawn
+  pub characters-drawn : (margin : List ℕ) (n : ℕ) (out′ : List ℕ) → x < w → margin ≡ replicate x (pen .plain) ++ drop x out
+      → RowDrawn ram font address pen x w margin n out′ → CharactersDrawn ram font address pen x w out n out′
+  characters-drawn margin n out′ h e d =
+      let front : take x margin ≡ replicate (min x w) (pen .plain) =
+          let m : min x w ≡ x = omega arith in
+          ap (take x) e ∙ take-at (replicate x (pen .plain)) (drop x out) x (length-replicate x (pen .plain)) ∙ ap (λ (k : ℕ). replicate k (pen .plain)) (sym m)
+      in
+      let back : drop w margin ≡ drop w out =
+          drop-from margin x w (omega arith)
+          ∙ ap (drop (w - x)) (ap (drop x) e ∙ drop-at (replicate x (pen .plain)) (drop x out) x (length-replicate x (pen .plain)))
+          ∙ sym (drop-from out x w (omega arith))
+      in
+      record {
+        pixels =
+            d .pixels
+            ∙ ap₂ (λ (k l : List ℕ). k ++ (painted font (pen .plain) (pen .hidden) (w - x) (value ram (codes ((w - x + 11) / 12) (pen .slice) address)) ++ l)) front back;
+        reads = d .reads;
+      }
+
+  -- the first character lies past the line
+  pub characters-none : (out′ : List ℕ) → w ≤ x → out′ ≡ replicate w (pen .plain) ++ drop w out → CharactersDrawn ram font address pen x w out 0 out′
+  characters-none out′ h e =
+      let none : w - x ≡ 0 = omega arith in
+      let m : min x w ≡ w = omega arith in
+      record {
+        pixels =
+            e
+            ∙ ap₂ (λ (k : ℕ) (l : List ℕ). replicate k (pen .plain) ++ (l ++ drop w out)) (sym m)
+            (sym (ap (λ (k : ℕ). painted font (pen .plain) (pen .hidden) k (value ram (codes ((k + 11) / 12) (pen .slice) address))) none ∙ no-room font pen ram address));
+        reads = sym (ap (λ (k : ℕ). length (cells ram (codes ((k + 11) / 12) (pen .slice) address))) none ∙ no-reads pen ram address);
+      }
+
+-- ---- a line of the strip on screen
+
+-- OSD 0
+pub strip-off : (ram font : List ℕ) (s : Settings) (strip : Strip) (f : ℕ) (out out′ : List ℕ) (w : ℕ) → w ≡ widthOf (s .ld) → s .osd ≡ false
+    → out′ ≡ replicate w 0 ++ drop w out → StripDrawn ram font s strip f out 0 out′
+unfolding paint shownRow
+strip-off ram font s strip f out out′ w q o e =
+    record { pixels = rw o (e ∙ ap (λ (k : ℕ). replicate k 0 ++ drop k out) q); reads = rw o (unfold cells in refl) }
+
+row-none : (s : Settings) (strip : Strip) → s .osd ≡ true → ((n : ℕ) → rowOf n strip ≡ done []) → shownRow s strip ≡ done []
+unfolding shownRow
+row-none s strip o none = rw o (none _)
+
+-- a line with no character is plain
+paint-none : (s : Settings) (font : List ℕ) (f : ℕ) → s .osd ≡ true → paint s font f [] ≡ replicate (widthOf (s .ld)) (plainOf (s .fbk))
+unfolding paint
+paint-none s font f o =
+    let all : min (firstPixelOf (s .dd)) (widthOf (s .ld)) + (widthOf (s .ld) - firstPixelOf (s .dd)) ≡ widthOf (s .ld) = omega arith in
+    rw (o, painted-none)
+    (replicate-append-replicate (min (firstPixelOf (s .dd)) (widthOf (s .ld))) (widthOf (s .ld) - firstPixelOf (s .dd)) (plainOf (s .fbk))
+    ∙ ap (λ (k : ℕ). replicate k (plainOf (s .fbk))) all)
+
+-- no character on the line
+pub strip-plain : (ram font : List ℕ) (s : Settings) (strip : Strip) (f : ℕ) (out out′ : List ℕ) (w : ℕ) → w ≡ widthOf (s .ld) → s .osd ≡ true
+    → ((n : ℕ) → rowOf n strip ≡ done []) → out′ ≡ replicate w (plainOf (s .fbk)) ++ drop w out → StripDrawn ram font s strip f out 0 out′
+unfolding value cells
+strip-plain ram font s strip f out out′ w q o none e =
+    let row : shownRow s strip ≡ done [] = row-none s strip o none in
+    let plain : paint s font f [] ≡ replicate (widthOf (s .ld)) (plainOf (s .fbk)) = paint-none s font f o in
+    record {
+      pixels =
+          e
+          ∙ ap (λ (k : ℕ). replicate k (plainOf (s .fbk)) ++ drop k out) q
+          ∙ ap (λ (l : List ℕ). l ++ drop (widthOf (s .ld)) out) (sym plain)
+          ∙ ap (λ (p : Reading (List Place)). paint s font f (value ram p) ++ drop (widthOf (s .ld)) out) (sym row);
+      reads = ap (λ (p : Reading (List Place)). length (cells ram p)) (sym row);
+    }
+
+-- spacing, and characters with DE 0, have no row
+pub spacing-none : (left n : ℕ) → rowOf n (Spacing left) ≡ done []
+unfolding rowOf
+spacing-none left n = refl
+
+pub disabled-none : (address height : ℕ) (zoom enabled : Bool) (line : ScanLine) → enabled ≡ false → (n : ℕ)
+    → rowOf n (Characters address height zoom enabled line) ≡ done []
+unfolding rowOf
+disabled-none address height zoom enabled line e n = rw e
+
+-- a line of characters
+pub strip-characters : (ram font : List ℕ) (s : Settings) (address height : ℕ) (zoom enabled : Bool) (line : ScanLine) (f : ℕ) (out : List ℕ) (n : ℕ) (out′ : List ℕ)
+    (pen : Pen) (x w : ℕ) → s .osd ≡ true → enabled ≡ true
+    → pen ≡ record { slice = interpolated line height zoom; plain = plainOf (s .fbk); hidden = hiddenIn (s .fl) f }
+    → x ≡ firstPixelOf (s .dd) → w ≡ widthOf (s .ld)
+    → CharactersDrawn ram font address pen x w out n out′
+    → StripDrawn ram font s (Characters address height zoom enabled line) f out n out′
+unfolding paint shownRow rowOf
+strip-characters ram font s address height zoom enabled line f out n out′ pen x w o en p q r d =
+    let d′ : CharactersDrawn ram font address (record { slice = interpolated line height zoom; plain = plainOf (s .fbk); hidden = hiddenIn (s .fl) f })
+        (firstPixelOf (s .dd)) (widthOf (s .ld)) out n out′ = rw (p, q, r) at d
+    in
+    record {
+      pixels =
+          rw (o, en)
+          (d′ .pixels
+          ∙ sym (append-assoc (replicate (min (firstPixelOf (s .dd)) (widthOf (s .ld))) (plainOf (s .fbk))) _ (drop (widthOf (s .ld)) out)));
+      reads = rw (o, en) (d′ .reads);
+    }
+
+-- ---- the strip as the code took it apart
+
+pub on-strip : (ram font : List ℕ) (s : Settings) (f : ℕ) (out : List ℕ) (n : ℕ) (out′ : List ℕ) (strip : Strip) {strip′ : Strip} → strip ≡ strip′
+    → StripDrawn ram font s strip′ f out n out′ → StripDrawn ram font s strip f out n out′
+on-strip ram font s f out n out′ strip e d = subst (λ (t : Strip). StripDrawn ram font s t f out n out′) (sym e) d
+
+pub on-line : (strip : Strip) {address height : ℕ} {zoom enabled : Bool} {line : ScanLine} → strip ≡ Characters address height zoom enabled line
+    → OnLine strip → InStrip line height zoom
+unfolding OnLine
+on-line strip e h = subst OnLine e h
+
+pub slice-most : (r : Slice) (j : ScanLine) (ch : ℕ) (zoom : Bool) → r ≡ interpolated j ch zoom → InStrip j ch zoom → r .0 ≤ 18
+slice-most r j ch zoom e h = subst (λ (t : Slice). t .0 ≤ 18) (sym e) (interpolated-bound j ch zoom h)
+
+-- ---- the frame's next line
+
+pub walked-line : (ram : List ℕ) (ch : ℕ) (w : Walk) → OnLine (value ram (nextLine ch w) .strip)
+walked-line ram ch w = gives-value (λ (v : Walk). OnLine (v .strip)) ram (nextLine ch w) (nextLine-on ch w)
+
+-- what a line finds: where the walk goes, and its row
+pub scan-value : (ram : List ℕ) (s : Settings) (w : Walk)
+    → value ram (scan s w)
+    ≡ record { walk = value ram (nextLine (s .ch) w); row = value ram (shownRow s (value ram (nextLine (s .ch) w) .strip)) }
+unfolding scan
+scan-value ram s w =
+    value-bind ram (nextLine (s .ch) w) _ ∙ value-fmap ram _ (shownRow s (value ram (nextLine (s .ch) w) .strip))
+
+-- what it reads: its descriptor, and its row
+pub scan-cells : (ram : List ℕ) (s : Settings) (w : Walk)
+    → cells ram (scan s w) ≡ cells ram (nextLine (s .ch) w) ++ cells ram (shownRow s (value ram (nextLine (s .ch) w) .strip))
+unfolding scan
+scan-cells ram s w =
+    cells-bind ram (nextLine (s .ch) w) _
+    ∙ ap (λ (l : List ℕ). cells ram (nextLine (s .ch) w) ++ l) (cells-fmap ram _ (shownRow s (value ram (nextLine (s .ch) w) .strip)))
+
+pub scan-length : (ram : List ℕ) (s : Settings) (w : Walk)
+    → length (cells ram (scan s w)) ≡ length (cells ram (nextLine (s .ch) w)) + length (cells ram (shownRow s (value ram (nextLine (s .ch) w) .strip)))
+scan-length ram s w =
+    ap length (scan-cells ram s w) ∙ length-append (cells ram (nextLine (s .ch) w)) (cells ram (shownRow s (value ram (nextLine (s .ch) w) .strip)))
+
+pub line-bound : (ram : List ℕ) (r : Registers) (w : Walk) → length (cells ram (scan (settingsOf r) w)) ≤ 246
+line-bound ram r w = atMost-length 246 ram (scan (settingsOf r) w) (line-most r w)
+
+-- the walk's next line and a line of its strip are the frame's next line
+module _ (ram font : List ℕ) (r : Registers) (w : Walk) (f : ℕ) (out : List ℕ) (n : ℕ) (out′ : List ℕ) where
+  taken : StripDrawn ram font (settingsOf r) (value ram (nextLine (settingsOf r .ch) w) .strip) f out n out′
+      → LineDrawn ram font r w f out
+      (record { walk = value ram (nextLine (settingsOf r .ch) w); cells = length (cells ram (nextLine (settingsOf r .ch) w)) + n }) out′
+  taken d =
+      record {
+        pixels =
+            d .pixels
+            ∙ ap (λ (x : Scanned). paint (settingsOf r) font f (x .row) ++ drop (widthOf (settingsOf r .ld)) out) (sym (scan-value ram (settingsOf r) w));
+        walk = ap (λ (x : Scanned). x .walk) (sym (scan-value ram (settingsOf r) w));
+        reads = ap (λ (k : ℕ). length (cells ram (nextLine (settingsOf r .ch) w)) + k) (d .reads) ∙ sym (scan-length ram (settingsOf r) w);
+      }
+
+  pub line-drawn : (s : Settings) (k : Walked) → s ≡ settingsOf r → k ≡ walked ram (s .ch) w → StripDrawn ram font s (k .walk .strip) f out n out′
+      → LineDrawn ram font r w f out (record { walk = k .walk; cells = k .cells + n }) out′
+  unfolding walked
+  line-drawn s k e q d =
+      let q′ : k ≡ walked ram (settingsOf r .ch) w = q ∙ ap (λ (t : Settings). walked ram (t .ch) w) e in
+      subst (λ (t : Walked). LineDrawn ram font r w f out (record { walk = t .walk; cells = t .cells + n }) out′) (sym q′)
+      (taken (subst₂ (λ (t : Settings) (u : Walked). StripDrawn ram font t (u .walk .strip) f out n out′) e q′ d))
+
+  -- its cells are at most 246
+  pub line-cells : (s : Settings) (k : Walked) → s ≡ settingsOf r → k ≡ walked ram (s .ch) w → StripDrawn ram font s (k .walk .strip) f out n out′
+      → k .cells + n ≤ 246
+  line-cells s k e q d = omega (arith, line-drawn s k e q d .reads, line-bound ram r w)
