@@ -14,12 +14,15 @@ use Rattle.registers.specs.declared.Settings.{Settings}
 use Rattle.registers.specs.Registers.{freshRegisters, settingsOf, pageOf}
 use Rattle.raster.specs.Raster.{widthOf}
 use Rattle.bus.specs.declared.Event.{Event}
-use Rattle.bus.specs.Bus.{freshBus, BusOutcome, busEvent}
+use Rattle.bus.specs.Bus.{freshBus, BusOutcome, busEvent, busReply}
 use Rattle.walk.specs.declared.Walk.{Walk}
 use Rattle.walk.specs.Walk.{walkFrom}
 use Rattle.line.specs.Line.{Scanned, scan, paint}
 use Rattle.device.specs.declared.Frame.{Frame}
 use Rattle.device.specs.declared.Device.{Device}
+use Rattle.device.specs.declared.EventDone.{EventDone}
+use Rattle.device.specs.declared.StartDone.{StartDone}
+use Rattle.device.specs.declared.DrawDone.{DrawDone}
 use Rattle.device.specs.declared.StartAnswer.{StartAnswer}
 use Rattle.device.specs.declared.StartAnswer.the-variants as start
 use Rattle.device.specs.declared.DrawAnswer.{DrawAnswer}
@@ -75,6 +78,10 @@ hearEvent d ram e =
       reply = o .reply;
     }
 
+-- what a call returned and left, in the same form
+abbrev pub eventOutcome : EventDone → List ℕ → EventOutcome
+eventOutcome d ram = record { device = d .device; ram = ram; reply = busReply (d .answer) }
+
 -- ---- frame start
 
 pub record StartOutcome : Type 0 where
@@ -97,6 +104,9 @@ startFrame d lines =
     cond (eqb lines 0 || ltb 2048 lines)
     (record { device = d; reply = refused FrameLines })
     (record { device = inFrame d lines; reply = accepted 0 })
+
+abbrev pub startOutcome : StartDone → StartOutcome
+startOutcome d = record { device = d .device; reply = startReply (d .answer) }
 
 -- ---- draw
 
@@ -150,6 +160,9 @@ drawLine d ram font line =
     (cond (eqb (d .frame .left) 0)
     (notDrawn d line NoLine)
     (cond (ltb (length line) (lineWidth d)) (notDrawn d line LineLength) (lineDrawn d ram font line))))
+
+abbrev pub drawOutcome : DrawDone → List ℕ → DrawOutcome
+drawOutcome d line = record { device = d .device; line = line; reply = drawReply (d .answer) }
 
 -- ---- cell question
 

@@ -36,13 +36,13 @@ module _ (ram font : List ℕ) (address : ℕ) (pen : Pen) (x w : ℕ) (out : Li
       → RowDrawn ram font address pen x w margin n out′ → CharactersDrawn ram font address pen x w out n out′
   characters-drawn margin n out′ h e d =
       let front : take x margin ≡ replicate (min x w) (pen .plain) =
-          let m : min x w ≡ x = omega arith in
-          ap (take x) e ∙ take-at (replicate x (pen .plain)) (drop x out) x (length-replicate x (pen .plain)) ∙ ap (λ (k : ℕ). replicate k (pen .plain)) (sym m)
+      let m : min x w ≡ x = omega arith in
+      ap (take x) e ∙ take-at (replicate x (pen .plain)) (drop x out) x (length-replicate x (pen .plain)) ∙ ap (λ (k : ℕ). replicate k (pen .plain)) (sym m)
       in
       let back : drop w margin ≡ drop w out =
-          drop-from margin x w (omega arith)
-          ∙ ap (drop (w - x)) (ap (drop x) e ∙ drop-at (replicate x (pen .plain)) (drop x out) x (length-replicate x (pen .plain)))
-          ∙ sym (drop-from out x w (omega arith))
+      drop-from margin x w (omega arith)
+      ∙ ap (drop (w - x)) (ap (drop x) e ∙ drop-at (replicate x (pen .plain)) (drop x out) x (length-replicate x (pen .plain)))
+      ∙ sym (drop-from out x w (omega arith))
       in
       record {
         pixels =
@@ -122,7 +122,7 @@ pub strip-characters : (ram font : List ℕ) (s : Settings) (address height : �
 unfolding paint shownRow rowOf
 strip-characters ram font s address height zoom enabled line f out n out′ pen x w o en p q r d =
     let d′ : CharactersDrawn ram font address (record { slice = interpolated line height zoom; plain = plainOf (s .fbk); hidden = hiddenIn (s .fl) f })
-        (firstPixelOf (s .dd)) (widthOf (s .ld)) out n out′ = rw (p, q, r) at d
+    (firstPixelOf (s .dd)) (widthOf (s .ld)) out n out′ = rw (p, q, r) at d
     in
     record {
       pixels =

@@ -1,34 +1,26 @@
+-- `lookup`: the tests that led to each return pick the case (`shown-none`, `shown-font`, `shown-blank`, `shown-user`).
+-- Assumes nothing.
 use native.Mathlib.Omega.{arith}
 use Rattle.glyph.proofs.Laws.{bitsIn, shown-none, shown-font, shown-blank, shown-user}
 use borrow.Author.Needs.{needs}
 use Rattle.glyph.proofs.lookup.Statement.{statement}
 use Rattle.glyph.proofs.lookup.Tie as tie
-use Rattle.glyph.proofs.lookup.Reads as reads
-use Rattle.glyph.proofs.lookup.Lts as lts
-use Rattle.glyph.proofs.bits_of.Reads as bits-of-reads
-use Rattle.glyph.proofs.slice_bytes.Reads as slice-bytes-reads
 
--- src/lib.rt:45:13
 returns : tie.Need-returns
 returns c = shown-none _ _ _ _ (c .before .before .if1 .taken) (c .if2 .taken)
 
--- src/lib.rt:47:13
 slice-bytes-requires : tie.Need-slice-bytes-requires
 slice-bytes-requires c κs = search needs
 
--- src/lib.rt:49:27
 shared-slice-read-bits-of : tie.Need-shared-slice-read-bits-of
 shared-slice-read-bits-of c = omega (arith, c .before .slice-bytes .ensures .1)
 
--- src/lib.rt:49:36
 shared-slice-read-bits-of-2 : tie.Need-shared-slice-read-bits-of-2
 shared-slice-read-bits-of-2 c = omega (arith, c .before .before .slice-bytes .ensures .1)
 
--- src/lib.rt:49:19
 bits-of-requires : tie.Need-bits-of-requires
 bits-of-requires c κs = search needs
 
--- src/lib.rt:48:9
 returns-2 : tie.Need-returns-2
 unfolding bitsIn
 returns-2 c =
@@ -36,27 +28,21 @@ returns-2 c =
     rw (c .bits-of .ensures, p .slice-bytes .ensures .0)
     (shown-font _ _ _ _ (p .before .before .before .if1 .taken) (p .before .if2 .left))
 
--- src/lib.rt:54:9
 returns-3 : tie.Need-returns-3
 returns-3 c = shown-blank _ _ _ _ (c .before .if1 .left) (c .if3 .taken)
 
--- src/lib.rt:56:9
 slice-bytes-requires-2 : tie.Need-slice-bytes-requires-2
 slice-bytes-requires-2 c κs = search needs
 
--- src/lib.rt:58:23
 shared-slice-read-bits-of-3 : tie.Need-shared-slice-read-bits-of-3
 shared-slice-read-bits-of-3 c = omega (arith, c .before .slice-bytes2 .ensures .1)
 
--- src/lib.rt:58:32
 shared-slice-read-bits-of-4 : tie.Need-shared-slice-read-bits-of-4
 shared-slice-read-bits-of-4 c = omega (arith, c .before .before .slice-bytes2 .ensures .1)
 
--- src/lib.rt:58:15
 bits-of-requires-2 : tie.Need-bits-of-requires-2
 bits-of-requires-2 c κs = search needs
 
--- src/lib.rt:38:1
 returns-4 : tie.Need-returns-4
 unfolding bitsIn
 returns-4 c =

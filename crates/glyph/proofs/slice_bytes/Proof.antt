@@ -1,3 +1,5 @@
+-- `slice_bytes`: the part lies within the RAM or the font, and is the one that SET picks.
+-- Assumes nothing.
 use Prim.Native.Nat.{ℕ, _+_, _-_, _/_, _%_}
 use mathlib.Core.Path.{_≡_, ap, _∙_}
 use native.Mathlib.Nat.{add-sub-cancel-left}
@@ -11,8 +13,6 @@ use Rattle.glyph.proofs.Laws.{slicePart-length}
 use borrow.Author.Needs.{needs}
 use Rattle.glyph.proofs.slice_bytes.Statement.{statement}
 use Rattle.glyph.proofs.slice_bytes.Tie as tie
-use Rattle.glyph.proofs.slice_bytes.Reads as reads
-use Rattle.glyph.proofs.slice_bytes.Lts as lts
 
 -- from a to a + 2 are two bytes
 two : (a : ℕ) (l : List ℕ) → take (a + 2 - a) (drop a l) ≡ take 2 (drop a l)
@@ -26,84 +26,65 @@ both ram f high s p e = (e, ap length e ∙ slicePart-length ram f high s (p .0)
 odd : (n : ℕ) → (n / 128 % 2 ≡ 0 → ⊥) → n / 128 % 2 ≡ 1
 odd n h = omega arith
 
--- src/lib.rt:19:18
 cast-number : tie.Need-cast-number
 cast-number c = search needs
 
--- src/lib.rt:20:13
 cast-s : tie.Need-cast-s
 cast-s c = search needs
 
--- src/lib.rt:22:17
 mul-a : tie.Need-mul-a
 mul-a c = search needs
 
--- src/lib.rt:22:36
 sub-a : tie.Need-sub-a
 sub-a c = c .before .before .pre .1 .of-font (c .if1 .taken)
 
--- src/lib.rt:22:31
 mul-a-2 : tie.Need-mul-a-2
 mul-a-2 c = search needs
 
--- src/lib.rt:22:17
 add-a : tie.Need-add-a
 add-a c = search needs
 
--- src/lib.rt:23:17
 add-e : tie.Need-add-e
 add-e c = search needs
 
--- src/lib.rt:24:16
 sub-result : tie.Need-sub-result
 sub-result c = search needs
 
--- src/lib.rt:24:16
 part-result-start : tie.Need-part-result-start
 part-result-start c = search needs
 
--- src/lib.rt:24:16
 part-result-end : tie.Need-part-result-end
 part-result-end c = search needs
 
--- src/lib.rt:24:9
 returns : tie.Need-returns
 returns c =
     let a = c .before .before .before .args in
     both (now (a .ram)) (now (a .font)) (a .high) (a .slice .0) (c .before .before .before .pre)
     (unfold slicePart in rw (eq-eqb _ _ (c .before .if1 .taken)) (two (fontByte (a .high % 128) (a .slice .0)) (now (a .font))))
 
--- src/lib.rt:26:13
 mul-a-3 : tie.Need-mul-a-3
 mul-a-3 c = search needs
 
--- src/lib.rt:26:27
 mul-a-4 : tie.Need-mul-a-4
 mul-a-4 c = search needs
 
--- src/lib.rt:26:13
 add-a-2 : tie.Need-add-a-2
 add-a-2 c = search needs
 
--- src/lib.rt:27:13
 add-e-2 : tie.Need-add-e-2
 add-e-2 c = search needs
 
--- src/lib.rt:28:5
 sub-result-2 : tie.Need-sub-result-2
 sub-result-2 c = search needs
 
--- src/lib.rt:28:5
 part-result-start-2 : tie.Need-part-result-start-2
 part-result-start-2 c = search needs
 
--- src/lib.rt:28:5
 part-result-end-2 : tie.Need-part-result-end-2
 part-result-end-2 c =
     let s = c .before .before .pre .1 in
     omega (arith, s .most, s .of-user (odd _ (c .if1 .left)), c .before .before .pre .0 .ram-length)
 
--- src/lib.rt:14:1
 returns-2 : tie.Need-returns-2
 returns-2 c =
     let a = c .before .before .before .args in

@@ -1,18 +1,15 @@
+-- `bits_shown`: the tests pick the case of `shownBits`.
+-- Assumes nothing.
 use borrow.Author.Tests.{eq-eqb, ne-eqb}
 use Rattle.line.proofs.bits_shown.Statement.{statement}
 use Rattle.line.proofs.bits_shown.Tie as tie
-use Rattle.line.proofs.bits_shown.Reads as reads
-use Rattle.line.proofs.bits_shown.Lts as lts
 
--- src/lib.rt:99:13
 returns : tie.Need-returns
 returns c = rw (eq-eqb _ _ (c .before .if1 .taken), c .if2 .taken)
 
--- src/lib.rt:94:1
 returns-2 : tie.Need-returns-2
 returns-2 c = rw (eq-eqb _ _ (c .before .if1 .taken), c .if2 .left)
 
--- src/lib.rt:94:1
 returns-3 : tie.Need-returns-3
 returns-3 c = rw (ne-eqb _ _ (c .if1 .left))
 

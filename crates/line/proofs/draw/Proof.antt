@@ -1,3 +1,5 @@
+-- `draw`: the walk's next line, then a line of its strip.
+-- Assumes nothing.
 use native.Mathlib.Omega.{arith}
 use Rattle.registers.proofs.Laws.{ld-bound, fbk-bound}
 use Rattle.walk.specs.Walk.{walked}
@@ -5,40 +7,29 @@ use Rattle.line.proofs.Strips.{walked-line, line-drawn, line-cells}
 use borrow.Author.Needs.{needs}
 use Rattle.line.proofs.draw.Statement.{statement}
 use Rattle.line.proofs.draw.Tie as tie
-use Rattle.line.proofs.draw.Reads as reads
-use Rattle.line.proofs.draw.Lts as lts
-use Rattle.line.proofs.draw_strip.Reads as draw-strip-reads
-use Rattle.registers.proofs.Registers.settings.Reads as settings-reads
-use Rattle.walk.proofs.Walk.next_line.Reads as next-line-reads
 
--- src/lib.rt:294:9
 settings-requires : tie.Need-settings-requires
 settings-requires c κs = search needs
 
--- src/lib.rt:295:9
 next-line-requires : tie.Need-next-line-requires
 next-line-requires c κs = search needs
 
--- src/lib.rt:298:9
 draw-strip-requires : tie.Need-draw-strip-requires
 unfolding walked
-draw-strip-requires c κs = 
+draw-strip-requires c κs =
     let r = c .before .before .before .before .before .before .before .args .registers in
     let p = c .before .before .before .before .before .before .before .pre in
     let e = c .before .before .before .settings .ensures in
     (p .0, (rw (c .before .before .next-line .ensures, e) (walked-line _ _ _), (rw e (ld-bound r), rw e (fbk-bound r), rw e (p .1))))
 
--- src/lib.rt:301:16
 add-t14 : tie.Need-add-t14
 add-t14 c =
     let d = c .before .before .before in
     omega (arith, line-cells _ _ _ _ _ _ _ _ _ _ (c .before .before .before .before .before .before .before .settings .ensures) (c .before .before .before .before .before .before .next-line .ensures) (d .draw-strip .ensures))
 
--- src/lib.rt:282:1
 same-length : tie.Need-same-length
 same-length c = search needs
 
--- src/lib.rt:282:1
 returns : tie.Need-returns
 returns c =
     let d = c .before .before .before in

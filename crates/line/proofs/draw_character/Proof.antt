@@ -1,3 +1,5 @@
+-- `draw_character`: the columns of what the lookup shows.
+-- Assumes nothing.
 use mathlib.Core.Path.{ap, _∙_}
 use Rattle.glyph.specs.declared.Shown.{Shown}
 use Rattle.glyph.specs.Glyph.{shownIn}
@@ -5,34 +7,22 @@ use Rattle.line.specs.Line.{character}
 use borrow.Author.Needs.{needs}
 use Rattle.line.proofs.draw_character.Statement.{statement}
 use Rattle.line.proofs.draw_character.Tie as tie
-use Rattle.line.proofs.draw_character.Reads as reads
-use Rattle.line.proofs.draw_character.Lts as lts
-use Rattle.glyph.proofs.lookup.Reads as lookup-reads
-use Rattle.line.proofs.bits_shown.Reads as bits-shown-reads
-use Rattle.line.proofs.draw_columns.Reads as draw-columns-reads
-use Rattle.line.proofs.ink_of.Reads as ink-of-reads
 
--- src/lib.rt:128:9
 lookup-requires : tie.Need-lookup-requires
 lookup-requires c κs = search needs
 
--- src/lib.rt:131:9
 ink-of-requires : tie.Need-ink-of-requires
 ink-of-requires c κs = search needs
 
--- src/lib.rt:132:9
 bits-shown-requires : tie.Need-bits-shown-requires
 bits-shown-requires c κs = search needs
 
--- src/lib.rt:129:5
 draw-columns-requires : tie.Need-draw-columns-requires
 draw-columns-requires c κs = search needs
 
--- src/lib.rt:114:1
 same-length : tie.Need-same-length
 same-length c = search needs
 
--- src/lib.rt:114:1
 returns : tie.Need-returns
 unfolding character shownIn
 returns c =

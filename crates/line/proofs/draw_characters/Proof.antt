@@ -1,37 +1,28 @@
+-- `draw_characters`: the margin, then the row.
+-- Assumes nothing.
 use Rattle.line.proofs.Strips.{characters-drawn, characters-none}
 use borrow.Author.Needs.{needs}
 use Rattle.line.proofs.draw_characters.Statement.{statement}
 use Rattle.line.proofs.draw_characters.Tie as tie
-use Rattle.line.proofs.draw_characters.Reads as reads
-use Rattle.line.proofs.draw_characters.Lts as lts
-use Rattle.line.proofs.draw_row.Reads as draw-row-reads
-use Rattle.line.proofs.fill_line.Reads as fill-line-reads
 
--- src/lib.rt:227:9
 fill-line-requires : tie.Need-fill-line-requires
 fill-line-requires c κs = search needs
 
--- src/lib.rt:228:9
 draw-row-requires : tie.Need-draw-row-requires
 draw-row-requires c κs = search needs
 
--- src/lib.rt:228:9
 same-length : tie.Need-same-length
 same-length c = search needs
 
--- src/lib.rt:228:9
 returns : tie.Need-returns
 returns c = characters-drawn _ _ _ _ _ _ _ _ _ _ (c .before .before .before .before .before .before .before .before .if1 .taken) (c .before .before .before .before .before .before .fill-line .ensures) (c .before .before .draw-row .ensures)
 
--- src/lib.rt:230:5
 fill-line-requires-2 : tie.Need-fill-line-requires-2
 fill-line-requires-2 c κs = search needs
 
--- src/lib.rt:212:1
 same-length-2 : tie.Need-same-length-2
 same-length-2 c = search needs
 
--- src/lib.rt:212:1
 returns-2 : tie.Need-returns-2
 returns-2 c = characters-none _ _ _ _ _ _ _ _ (c .before .before .before .before .if1 .left) (c .before .before .fill-line2 .ensures)
 

@@ -1,3 +1,5 @@
+-- `draw_code`: the code ends the line, or its character is drawn.
+-- Assumes nothing.
 use Prim.Native.Nat.{ℕ, _+_}
 use mathlib.Core.Path.{refl, sym, ap}
 use borrow.Author.Tests.{eq-eqb, ne-eqb}
@@ -5,40 +7,29 @@ use Rattle.line.proofs.Turns.{code-fits}
 use borrow.Author.Needs.{needs}
 use Rattle.line.proofs.draw_code.Statement.{statement}
 use Rattle.line.proofs.draw_code.Tie as tie
-use Rattle.line.proofs.draw_code.Reads as reads
-use Rattle.line.proofs.draw_code.Lts as lts
-use Rattle.line.proofs.draw_character.Reads as draw-character-reads
 
--- src/lib.rt:145:15
 shared-slice-read-low : tie.Need-shared-slice-read-low
 shared-slice-read-low c = search needs
 
--- src/lib.rt:146:20
 add-high : tie.Need-add-high
 add-high c = search needs
 
--- src/lib.rt:146:16
 shared-slice-read-high : tie.Need-shared-slice-read-high
 shared-slice-read-high c = search needs
 
--- src/lib.rt:148:9
 returns : tie.Need-returns
 returns c = record { ends = sym (eq-eqb _ _ (c .if1 .taken)); pixels = refl; reads = refl }
 
--- src/lib.rt:153:9
 draw-character-requires : tie.Need-draw-character-requires
 draw-character-requires c κs = search needs
 
--- src/lib.rt:156:16
 add-t17 : tie.Need-add-t17
 add-t17 c =
     code-fits _ _ _ _ (c .before .before .draw-character .ensures .reads)
 
--- src/lib.rt:138:1
 same-length : tie.Need-same-length
 same-length c = search needs
 
--- src/lib.rt:138:1
 returns-2 : tie.Need-returns-2
 returns-2 c =
     let d = c .before .before in

@@ -1,3 +1,5 @@
+-- `draw_strip`: each way through the code is a case of `paint` and `shownRow`.
+-- Assumes nothing.
 use Rattle.line.specs.Line.{plainOf}
 use native.Mathlib.Omega.{arith}
 use borrow.Author.Tests.{not-true, not-false}
@@ -5,108 +7,80 @@ use Rattle.line.proofs.Strips.{on-strip, on-line, slice-most, strip-off
 use borrow.Author.Needs.{needs}
 use Rattle.line.proofs.draw_strip.Statement.{statement}
 use Rattle.line.proofs.draw_strip.Tie as tie
-use Rattle.line.proofs.draw_strip.Reads as reads
-use Rattle.line.proofs.draw_strip.Lts as lts
-use Rattle.line.proofs.draw_characters.Reads as draw-characters-reads
-use Rattle.line.proofs.fill_line.Reads as fill-line-reads
-use Rattle.raster.proofs.ScanLine.slice.Reads as slice-reads
-use Rattle.raster.proofs.first_pixel.Reads as first-pixel-reads
-use Rattle.raster.proofs.hidden.Reads as hidden-reads
-use Rattle.raster.proofs.width.Reads as width-reads
 
--- src/lib.rt:248:13
 width-requires : tie.Need-width-requires
 width-requires c κs = search needs
 
--- src/lib.rt:248:13
 cast-w : tie.Need-cast-w
 cast-w c = search needs
 
--- src/lib.rt:249:17
 mul-plain : tie.Need-mul-plain
 mul-plain c = search needs
 
--- src/lib.rt:251:9
 fill-line-requires : tie.Need-fill-line-requires
 fill-line-requires c κs = search needs
 
--- src/lib.rt:252:9
 same-length : tie.Need-same-length
 same-length c = search needs
 
--- src/lib.rt:252:9
 returns : tie.Need-returns
 returns c = strip-off _ _ _ _ _ _ _ _ (c .before .before .before .before .before .before .before .width .ensures) (not-true _ (c .before .before .before .before .if1 .taken)) (c .before .before .fill-line .ensures)
 
--- src/lib.rt:256:23
 enum-told : tie.Need-enum-told
 enum-told c = search needs
 
--- src/lib.rt:256:13
 fill-line-requires-2 : tie.Need-fill-line-requires-2
 fill-line-requires-2 c κs = search needs
 
--- src/lib.rt:260:13
 enum-known-strip : tie.Need-enum-known-strip
 enum-known-strip c = search needs
 
--- src/lib.rt:267:17
 fill-line-requires-3 : tie.Need-fill-line-requires-3
 fill-line-requires-3 c κs = search needs
 
--- src/lib.rt:268:17
 same-length-2 : tie.Need-same-length-2
 same-length-2 c = search needs
 
--- src/lib.rt:268:17
 returns-2 : tie.Need-returns-2
-returns-2 c = 
+returns-2 c =
     let v = c .before .before .before .before .before .before .strip .given in
     on-strip _ _ _ _ _ _ _ _ (v .1)
     (strip-plain _ _ _ _ _ _ _ _ (c .before .before .before .before .before .before .before .before .before .before .before .width .ensures) (not-false _ (c .before .before .before .before .before .before .before .before .if1 .left)) (disabled-none _ _ _ _ _ (not-true _ (c .before .before .before .before .if2 .taken)))
     (c .before .before .fill-line3 .ensures))
 
--- src/lib.rt:271:24
 slice-requires : tie.Need-slice-requires
 slice-requires c κs = on-line _ (c .before .before .strip .given .1) (c .before .before .before .before .before .before .before .before .before .before .before .pre .1 .0)
 
--- src/lib.rt:273:25
 hidden-requires : tie.Need-hidden-requires
 hidden-requires c κs = search needs
 
--- src/lib.rt:275:25
 first-pixel-requires : tie.Need-first-pixel-requires
 first-pixel-requires c κs = search needs
 
--- src/lib.rt:275:25
 cast-first : tie.Need-cast-first
 cast-first c = search needs
 
--- src/lib.rt:276:13
 draw-characters-requires : tie.Need-draw-characters-requires
-draw-characters-requires c κs = 
-    let p = c .before .before .before .before .before .before .before .before .before .before .before .before .before .before .before .pre in
-    ((omega (arith, c .before .before .before .before .before .before .before .before .before .before .before .width .ensures, p .1 .1 .2), omega (arith, c .before .before .before .before .before .before .before .before .before .before .before .width .ensures, p .1 .1 .0)),
-    (p .0, slice-most _ _ _ _ (c .before .before .before .slice .ensures) (on-line _ (c .before .before .before .before .before .before .strip .given .1) (p .1 .0))))
+draw-characters-requires c κs =
+    let p = c .before .before .before .before .before .before .before .before .before .before .before .before .before .before .before .pre in (
+      (omega (arith, c .before .before .before .before .before .before .before .before .before .before .before .width .ensures, p .1 .1 .2), omega (arith, c .before .before .before .before .before .before .before .before .before .before .before .width .ensures, p .1 .1 .0)),
+      (p .0, slice-most _ _ _ _ (c .before .before .before .slice .ensures) (on-line _ (c .before .before .before .before .before .before .strip .given .1) (p .1 .0))),
+    )
 
--- src/lib.rt:235:1
 same-length-3 : tie.Need-same-length-3
 same-length-3 c = search needs
 
--- src/lib.rt:235:1
 returns-3 : tie.Need-returns-3
-returns-3 c = 
+returns-3 c =
     let v = c .before .before .before .before .enum-told .given in
     on-strip _ _ _ _ _ _ _ _ (v .1)
     (strip-plain _ _ _ _ _ _ _ _ (c .before .before .before .before .before .before .before .before .before .width .ensures) (not-false _ (c .before .before .before .before .before .before .if1 .left)) (spacing-none _) (c .before .before .fill-line2 .ensures))
 
--- src/lib.rt:235:1
 same-length-4 : tie.Need-same-length-4
 same-length-4 c = search needs
 
--- src/lib.rt:235:1
 returns-4 : tie.Need-returns-4
-returns-4 c = 
+returns-4 c =
     let v = c .before .before .before .before .before .before .before .before .before .strip .given in
     on-strip _ _ _ _ _ _ _ _ (v .1)
     (strip-characters _ _ _ _ _ _ _ _ _ _ _ _ _ _ _ (not-false _ (c .before .before .before .before .before .before .before .before .before .before .before .if1 .left)) (not-false _ (c .before .before .before .before .before .before .before .if2 .left))

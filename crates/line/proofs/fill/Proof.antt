@@ -1,3 +1,5 @@
+-- `fill`: the bytes before i are filled, the others stay.
+-- Assumes nothing.
 use Prim.Native.Nat.{_-_, _≤_}
 use mathlib.Core.Path.{_≡_, refl, ap, _∙_}
 use mathlib.Core.List.{List, _++_}
@@ -9,8 +11,6 @@ use lib.ListN.{length, drop, set, replicate, length-set}
 use Rattle.line.proofs.Turns.{fill-done}
 use Rattle.line.proofs.fill.Statement.{statement}
 use Rattle.line.proofs.fill.Tie as tie
-use Rattle.line.proofs.fill.Reads as reads
-use Rattle.line.proofs.fill.Lts as lts
 
 abbrev Inv-loop : tie.InvT-loop
 Inv-loop out₀ pixel i₀ out i = (i ≤ length out₀) × (length out ≡ length out₀) × (out ≡ replicate i pixel ++ drop i out₀)
@@ -18,23 +18,18 @@ Inv-loop out₀ pixel i₀ out i = (i ≤ length out₀) × (length out ≡ leng
 abbrev μ-loop : tie.MeasureT-loop
 μ-loop out₀ pixel i₀ out i = length out₀ - i
 
--- src/lib.rt:52:5
 loop-holds : tie.Need-loop-holds Inv-loop μ-loop
 loop-holds c = (search needs, search needs, refl)
 
--- src/lib.rt:53:9
 slice-write-out : tie.Need-slice-write-out Inv-loop μ-loop
 slice-write-out c = search needs
 
--- src/lib.rt:54:9
 add-i : tie.Need-add-i Inv-loop μ-loop
 add-i c = search needs
 
--- src/lib.rt:52:5
 loop-less : tie.Need-loop-less Inv-loop μ-loop
 loop-less c = search needs
 
--- src/lib.rt:52:5
 loop-again : tie.Need-loop-again Inv-loop μ-loop
 loop-again c =
     let l = c .before .loop in (
@@ -43,11 +38,9 @@ loop-again c =
       ap (λ (d : List ℕ). set d (l .i) (c .before .before .args .pixel)) (l .inv .2) ∙ fill-more (l .i) _ _ (omega arith),
     )
 
--- src/lib.rt:48:1
 same-length : tie.Need-same-length Inv-loop μ-loop
 same-length c = search needs
 
--- src/lib.rt:48:1
 returns : tie.Need-returns Inv-loop μ-loop
 returns c = fill-done _ _ (c .before .loop .i) _ (omega arith) (c .before .loop .inv .2)
 

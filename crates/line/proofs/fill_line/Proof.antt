@@ -1,3 +1,5 @@
+-- `fill_line`: a part from the start, filled.
+-- Assumes nothing.
 use Prim.Native.Nat.{ℕ}
 use mathlib.Core.Path.{sym, ap, _∙_}
 use mathlib.Core.List.{List, _++_}
@@ -7,29 +9,21 @@ use denote.Ref.{now}
 use borrow.Author.Needs.{needs}
 use Rattle.line.proofs.fill_line.Statement.{statement}
 use Rattle.line.proofs.fill_line.Tie as tie
-use Rattle.line.proofs.fill_line.Reads as reads
-use Rattle.line.proofs.fill_line.Lts as lts
-use Rattle.line.proofs.fill.Reads as fill-reads
 
--- src/lib.rt:208:10
 slice-relend-prefix-fill : tie.Need-slice-relend-prefix-fill
 slice-relend-prefix-fill c = search needs
 
--- src/lib.rt:208:10
 slice-aggregate-fill : tie.Need-slice-aggregate-fill
 slice-aggregate-fill c = sym (length-take-le _ _ (c .before .before .pre))
 
--- src/lib.rt:208:5
 fill-requires : tie.Need-fill-requires
 fill-requires c κs = search needs
 
--- src/lib.rt:204:1
 same-length : tie.Need-same-length
 same-length c = search needs
 
--- src/lib.rt:204:1
 returns : tie.Need-returns
-returns c = 
+returns c =
     let a = c .before .before .before .before .before .args in
     ap (λ (l : List ℕ). l ++ drop (a .w) (now (a .out)))
     (c .before .before .fill .ensures ∙ ap (λ (n : ℕ). replicate n (a .pixel)) (length-take-le (a .w) (now (a .out)) (c .before .before .before .before .before .pre)))

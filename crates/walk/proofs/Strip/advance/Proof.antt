@@ -1,37 +1,31 @@
+-- `Strip::advance`: the strip has a line left, so nothing wraps.
+-- Assumes nothing.
 use mathlib.Core.Path.{sym, ap, _∙_}
 use Rattle.walk.specs.Walk.{over, advanced}
 use Rattle.walk.proofs.Laws.{left-pos, line-fits}
 use borrow.Author.Needs.{needs}
 use Rattle.walk.proofs.Strip.advance.Statement.{statement}
 use Rattle.walk.proofs.Strip.advance.Tie as tie
-use Rattle.walk.proofs.Strip.advance.Reads as reads
-use Rattle.walk.proofs.Strip.advance.Lts as lts
 
--- src/lib.rt:95:30
 enum-known-self : tie.Need-enum-known-self
 enum-known-self c = search needs
 
--- src/lib.rt:95:63
 sub-t9 : tie.Need-sub-t9
 unfolding over
 sub-t9 c = left-pos _ (sym (ap over (c .before .self .given .1)) ∙ c .before .before .before .pre)
 
--- src/lib.rt:97:17
 enum-known-self-2 : tie.Need-enum-known-self-2
 enum-known-self-2 c = search needs
 
--- src/lib.rt:107:32
 add-t10 : tie.Need-add-t10
 unfolding over
 add-t10 c = let v = c .before .before .self2 .given .0 in
     line-fits (v .1 .0) (v .1 .1 .1 .1 .0 .0) (v .1 .1 .0) (search needs) (sym (ap over (c .before .before .self2 .given .1)) ∙ c .before .before .before .before .pre)
 
--- src/lib.rt:90:5
 returns : tie.Need-returns
 unfolding advanced
 returns c = sym (ap advanced (c .before .self .given .1))
 
--- src/lib.rt:90:5
 returns-2 : tie.Need-returns-2
 unfolding advanced
 returns-2 c = sym (ap advanced (c .before .before .self2 .given .1))

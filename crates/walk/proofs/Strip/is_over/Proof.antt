@@ -1,30 +1,24 @@
+-- `Strip::is_over`: each arm is a clause of `over`.
+-- Assumes nothing.
 use mathlib.Core.Path.{sym, ap}
 use Rattle.walk.specs.Walk.{over}
 use borrow.Author.Needs.{needs}
 use Rattle.walk.proofs.Strip.is_over.Statement.{statement}
 use Rattle.walk.proofs.Strip.is_over.Tie as tie
-use Rattle.walk.proofs.Strip.is_over.Reads as reads
-use Rattle.walk.proofs.Strip.is_over.Lts as lts
-use Rattle.raster.proofs.strip_lines.Reads as strip-lines-reads
 
--- src/lib.rt:79:30
 enum-known-self : tie.Need-enum-known-self
 enum-known-self c = search needs
 
--- src/lib.rt:82:17
 enum-known-self-2 : tie.Need-enum-known-self-2
 enum-known-self-2 c = search needs
 
--- src/lib.rt:86:18
 strip-lines-requires : tie.Need-strip-lines-requires
 strip-lines-requires c κs = search needs
 
--- src/lib.rt:75:5
 returns : tie.Need-returns
 unfolding over
 returns c = sym (ap over (c .before .self .given .1))
 
--- src/lib.rt:75:5
 returns-2 : tie.Need-returns-2
 unfolding over
 returns-2 c = rw (c .before .strip-lines .ensures) (sym (ap over (c .before .before .before .self2 .given .1)))

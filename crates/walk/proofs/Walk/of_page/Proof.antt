@@ -1,15 +1,13 @@
+-- `Walk::of_page` is `walkFrom` by computation.
+-- Assumes nothing.
 use Rattle.walk.specs.Walk.{walkFrom}
 use borrow.Author.Needs.{needs}
 use Rattle.walk.proofs.Walk.of_page.Statement.{statement}
 use Rattle.walk.proofs.Walk.of_page.Tie as tie
-use Rattle.walk.proofs.Walk.of_page.Reads as reads
-use Rattle.walk.proofs.Walk.of_page.Lts as lts
 
--- src/lib.rt:119:25
 mul-t3 : tie.Need-mul-t3
 mul-t3 c = search needs
 
--- src/lib.rt:115:5
 returns : tie.Need-returns
 unfolding walkFrom
 returns c = search needs
