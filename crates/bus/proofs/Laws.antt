@@ -16,7 +16,7 @@ use Rattle.bus.specs.declared.Step.{Step}
 use Rattle.bus.specs.declared.Event.{Event}
 use Rattle.bus.specs.declared.Effect.{Effect}
 use Rattle.bus.specs.declared.Effect.the-variants.{Acknowledge, Ignore, Store, Load}
-use Rattle.bus.specs.Bus.{BusOutcome, busEvent, step, byteAt, fetchAt, ramWith, registersWith, taken, isRam}
+use Rattle.bus.specs.Bus.{BusOutcome, busEvent, step, byteAt, fetchAt, ramWith, taken, isRam}
 
 -- what holds of both holds of the one that a test picks
 either : {A : Type 0} (P : A → Type 0) (t : Bool) (x y : A) → P x → P y → P (cond t x y)
@@ -30,41 +30,11 @@ with-length Ignore ram = refl
 with-length (Store a x) ram = either (λ (l : List ℕ). length l ≡ length ram) (isRam a) _ ram (length-set ram a x) refl
 with-length (Load a) ram = refl
 
--- ---- an event that stores nothing leaves registers and RAM
-
--- the effect is no store
-unfoldable pub NoStore : Effect → Type 0
-NoStore Acknowledge = Unit
-NoStore Ignore = Unit
-NoStore (Store a x) = ⊥
-NoStore (Load a) = Unit
-
-with-ram : (f : Effect) (ram : List ℕ) → NoStore f → ramWith f ram ≡ ram
-unfolding ramWith NoStore
-with-ram Acknowledge ram n = refl
-with-ram Ignore ram n = refl
-with-ram (Store a x) ram n = absurd n
-with-ram (Load a) ram n = refl
-
-with-registers : (f : Effect) (r : Registers) → NoStore f → registersWith f r ≡ r
-unfolding registersWith NoStore
-with-registers Acknowledge r n = refl
-with-registers Ignore r n = refl
-with-registers (Store a x) r n = absurd n
-with-registers (Load a) r n = refl
-
 -- what holds of a refused event and of a taken one holds of an event
-by-event : (P : BusOutcome → Type 0) (b : Bus) (r : Registers) (ram : List ℕ) (e : Event)
+pub by-event : (P : BusOutcome → Type 0) (b : Bus) (r : Registers) (ram : List ℕ) (e : Event)
     → P (record { bus = b; registers = r; ram = ram; reply = refused RamLength }) → P (taken (step b e) r ram) → P (busEvent b r ram e)
 unfolding busEvent
 by-event P b r ram e h k = either P (not (eqb (length ram) 1024)) _ _ h k
-
-pub busEvent-ram : (b : Bus) (r : Registers) (ram : List ℕ) (e : Event) → NoStore (step b e .effect) → busEvent b r ram e .ram ≡ ram
-busEvent-ram b r ram e n = by-event (λ (o : BusOutcome). o .ram ≡ ram) b r ram e refl (unfold taken in with-ram (step b e .effect) ram n)
-
-pub busEvent-registers : (b : Bus) (r : Registers) (ram : List ℕ) (e : Event) → NoStore (step b e .effect) → busEvent b r ram e .registers ≡ r
-busEvent-registers b r ram e n =
-    by-event (λ (o : BusOutcome). o .registers ≡ r) b r ram e refl (unfold taken in with-registers (step b e .effect) r n)
 
 -- an event keeps the RAM's length
 pub busEvent-length : (b : Bus) (r : Registers) (ram : List ℕ) (e : Event) → length (busEvent b r ram e .ram) ≡ length ram

@@ -19,9 +19,10 @@ use Rattle.bus.specs.declared.Event.{Event}
 use Rattle.bus.proofs.Laws.{busEvent-length}
 use Rattle.walk.specs.declared.Walk.{Walk}
 use Rattle.line.specs.Line.{Scanned, scan, paint}
+use Rattle.ahead.specs.Ahead.{remaining}
 use Rattle.device.specs.declared.Device.{Device}
 use Rattle.device.specs.declared.Frame.{Frame}
-use Rattle.device.specs.Device.{EventOutcome, hearEvent, DrawOutcome, drawLine, nextScan, pixelsOf, lineOn, lineDrawn, lineWidth, notDrawn, remaining, cellsLeft, askCell}
+use Rattle.device.specs.Device.{EventOutcome, hearEvent, DrawOutcome, drawLine, nextScan, pixelsOf, lineOn, lineDrawn, lineWidth, notDrawn, cellsLeft, askCell}
 use Rattle.device.specs.OnePage.{Call, draw, ask, event, State, Answer, drawn, asked, heard, answer, after, Entry, log, end, isEvent, select, eventsOf, othersOf, Quiet, QuietCall, QuietRun, SameRuns, OnePage}
 
 -- ---- the remaining lines: the next one, then the others

@@ -1,22 +1,187 @@
--- Events that are quiet by themselves (specs/OnePage.antt, Quiet).
+-- The proof of what a host can act on (specs/Use.antt).
 -- Assumes nothing.
-use Prim.Native.Nat.{ℕ}
-use mathlib.Core.Path.{ap}
-use mathlib.Core.List.{List}
-use lib.ListN.{getD}
-use Rattle.cells.specs.Reading.{Alike}
-use Rattle.registers.specs.Registers.{settingsOf}
+use Prim.Native.Nat.{ℕ, zero, suc, _-_, _/_, _%_, _^_, _≤_, _<_}
+use mathlib.Core.Path.{_≡_, refl, sym, ap, _∙_, subst}
+use mathlib.Core.Bool.{Bool, true, false, not, cond, true≢false}
+use mathlib.Core.List.{List, [], _∷_}
+use native.Mathlib.Omega.{arith}
+use borrow.Author.Tests.{lt-ltb, le-ltb, le-leb, lt-leb, eqb-false, leb-false}
+use lib.Dec.{T, eqb, leb}
+use lib.ListN.{length, getD, set}
+use lib.Seq.{getD-set-other, set-getD}
+use lib.Bits.{bitAnd, and-mask, and-shr}
+use Rattle.cells.specs.Reading.{among, Alike}
+use Rattle.refusals.specs.declared.Refusal.the-variants.{RamLength, CellRange}
+use Rattle.refusals.specs.Refusals.{Reply, accepted, refused}
+use Rattle.registers.specs.declared.Registers.{Registers}
+use Rattle.registers.specs.declared.Settings.{Settings}
+use Rattle.registers.specs.Registers.{kept, stored, settingsOf}
 use Rattle.bus.specs.declared.Event.{Event}
-use Rattle.bus.specs.Bus.{step}
-use Rattle.bus.proofs.Laws.{NoStore, busEvent-ram, busEvent-registers}
-use Rattle.device.specs.Device.{hearEvent}
+use Rattle.bus.specs.declared.Event.the-variants.{Byte}
+use Rattle.bus.specs.declared.Effect.{Effect}
+use Rattle.bus.specs.declared.Effect.the-variants.{Acknowledge, Ignore, Store, Load}
+use Rattle.bus.specs.declared.State.the-variants.{Write}
+use Rattle.bus.specs.declared.Bus.{Bus}
+use Rattle.bus.specs.declared.Step.{Step}
+use Rattle.bus.specs.Bus.{BusOutcome, busEvent, step, byteAt, address, taken, ramWith, registersWith, isRam, isRegister}
+use Rattle.bus.proofs.Laws.{by-event, byte-at}
+use Rattle.device.specs.declared.Device.{Device}
+use Rattle.device.specs.Device.{hearEvent, askCell, cellsLeft}
 use Rattle.device.specs.OnePage.{State, Quiet}
+use Rattle.device.specs.Use.{effectOf, NoStore, QuietEvents}
 
--- an event that stores nothing is quiet: a start, a stop, a fetch, an address byte, and every event that is not acknowledged
-pub quiet-unless-store : (s : State) (e : Event) → NoStore (step (s .device .bus) e .effect) → Quiet s e
-unfolding hearEvent Alike
-quiet-unless-store s e n =
+-- ---- an event is quiet if its effect is
+
+-- the effect changes none of the cells and no setting
+record Harmless (ram : List ℕ) (r : Registers) (cs : List ℕ) (f : Effect) : Type 0 where
+  keeps : Alike cs ram (ramWith f ram)
+  same : settingsOf (registersWith f r) ≡ settingsOf r
+
+same-ram : (cs ram : List ℕ) {ram′ : List ℕ} → ram′ ≡ ram → Alike cs ram ram′
+unfolding Alike
+same-ram cs ram e c t = ap (λ (m : List ℕ). getD m c 0) e
+
+-- what it leaves of the RAM's cells and of the settings
+Leaves : State → BusOutcome → Type 0
+Leaves s o =
+    Alike (cellsLeft (s .device) (s .ram)) (s .ram) (o .ram) × (settingsOf (o .registers) ≡ settingsOf (s .device .registers))
+
+quiet-by : (s : State) (e : Event) → Harmless (s .ram) (s .device .registers) (cellsLeft (s .device) (s .ram)) (effectOf s e) → Quiet s e
+unfolding Leaves hearEvent taken
+quiet-by s e h =
+    let p : Leaves s (busEvent (s .device .bus) (s .device .registers) (s .ram) e) =
+    by-event (Leaves s) (s .device .bus) (s .device .registers) (s .ram) e
+    (same-ram (cellsLeft (s .device) (s .ram)) (s .ram) refl, refl) (h .keeps, h .same)
+    in
+    record { cells = p .0; settings = p .1 }
+
+quiet-as : (s : State) (e : Event) (f : Effect) → effectOf s e ≡ f
+    → Harmless (s .ram) (s .device .registers) (cellsLeft (s .device) (s .ram)) f → Quiet s e
+quiet-as s e f q h = quiet-by s e (subst (Harmless (s .ram) (s .device .registers) (cellsLeft (s .device) (s .ram))) (sym q) h)
+
+-- ---- the kinds of events
+
+nothing-stored : (ram : List ℕ) (r : Registers) (cs : List ℕ) (f : Effect) → NoStore f → Harmless ram r cs f
+unfolding NoStore ramWith registersWith
+nothing-stored ram r cs Acknowledge n = record { keeps = same-ram cs ram refl; same = refl }
+nothing-stored ram r cs Ignore n = record { keeps = same-ram cs ram refl; same = refl }
+nothing-stored ram r cs (Store a x) n = absurd n
+nothing-stored ram r cs (Load a) n = record { keeps = same-ram cs ram refl; same = refl }
+
+module _ (ram : List ℕ) (r : Registers) (cs : List ℕ) (a x : ℕ) where
+  -- a store below 3FF0 leaves the registers, one from 400 on the RAM
+  no-register : a < 0x3FF0 → registersWith (Store a x) r ≡ r
+  unfolding registersWith
+  no-register h = rw (lt-leb 0x3FF0 a h)
+
+  no-cell : 0x400 ≤ a → ramWith (Store a x) ram ≡ ram
+  unfolding ramWith
+  no-cell h = rw (le-ltb a 0x400 h)
+
+  cell-set : a < 0x400 → ramWith (Store a x) ram ≡ set ram a x
+  unfolding ramWith
+  cell-set h = rw (lt-ltb a 0x400 h)
+
+  register-set : 0x3FF0 ≤ a → registersWith (Store a x) r ≡ stored r (a - 0x3FF0) x
+  unfolding registersWith
+  register-set h = rw (le-leb 0x3FF0 a h)
+
+  -- a cell that none of the lines read
+  unread-cell : a < 0x400 → among a cs ≡ false → Harmless ram r cs (Store a x)
+  unread-cell h n =
+      record {
+        keeps = unfold Alike in λ c t. ap (λ (m : List ℕ). getD m c 0) (cell-set h) ∙ getD-set-other ram a c x 0 (λ e. apart c t e);
+        same = ap settingsOf (no-register (omega arith));
+      }
+    where
+      apart : (c : ℕ) → T (among c cs) → c ≡ a → ⊥
+      apart c t e = subst T (ap (λ (y : ℕ). among y cs) e ∙ n) t
+
+  same-cell : a < 0x400 → getD ram a 0 ≡ x → Harmless ram r cs (Store a x)
+  same-cell h e =
+      record {
+        keeps = same-ram cs ram (cell-set h ∙ ap (set ram a) (sym e) ∙ set-getD ram a 0);
+        same = ap settingsOf (no-register (omega arith));
+      }
+
+  empty-address : 0x400 ≤ a → a < 0x3FF0 → Harmless ram r cs (Store a x)
+  empty-address h l = record { keeps = same-ram cs ram (no-cell h); same = ap settingsOf (no-register l) }
+
+  register-kept : 0x3FF0 ≤ a → settingsOf (stored r (a - 0x3FF0) x) ≡ settingsOf r → Harmless ram r cs (Store a x)
+  register-kept h e = record { keeps = same-ram cs ram (no-cell (omega arith)); same = ap settingsOf (register-set h) ∙ e }
+
+-- ---- the registers
+
+-- a register from 4 on holds no setting
+later-settings : (r : Registers) (i x : ℕ) → 4 ≤ i % 16 → settingsOf (stored r i x) ≡ settingsOf r
+unfolding settingsOf
+later-settings r i x h =
+    rw (
+      getD-set-other (r .bytes) (i % 16) 0 (bitAnd x (getD kept (i % 16) 0)) 0 (omega arith),
+      getD-set-other (r .bytes) (i % 16) 1 (bitAnd x (getD kept (i % 16) 0)) 0 (omega arith),
+      getD-set-other (r .bytes) (i % 16) 2 (bitAnd x (getD kept (i % 16) 0)) 0 (omega arith),
+      getD-set-other (r .bytes) (i % 16) 3 (bitAnd x (getD kept (i % 16) 0)) 0 (omega arith),
+    )
+
+-- VSP and HSP lie above LD
+edges-at : (l : List ℕ) (x : ℕ) → x % 64 ≡ getD l 0 0 % 64 → settingsOf (record { bytes = set l 0 (bitAnd x 0xFF) }) ≡ settingsOf (record { bytes = l })
+unfolding settingsOf
+edges-at [] x e = refl
+edges-at (y ∷ l) x e =
+    let m : bitAnd x 0xFF % 64 ≡ y % 64 = omega (arith, and-mask x 8) in
+    ap (λ (v : ℕ). with-ld v (settingsOf (record { bytes = y ∷ l }))) m
+  where
+    with-ld : ℕ → Settings → Settings
+    with-ld v s = record { ld = v; dd = s .dd; ch = s .ch; osd = s .osd; fbk = s .fbk; fl = s .fl }
+
+upper : (x d : ℕ) → x / 16 % 16 ≡ d / 16 % 16 → bitAnd x 0xF7 / 16 ≡ d / 16 % 16
+upper x d e = and-shr x 0xF7 4 ∙ and-mask (x / 16) 4 ∙ e
+
+-- P lies below OSD, FBK and FL
+page-at : (l : List ℕ) (x : ℕ) → x / 16 % 16 ≡ getD l 3 0 / 16 % 16 → settingsOf (record { bytes = set l 3 (bitAnd x 0xF7) }) ≡ settingsOf (record { bytes = l })
+unfolding settingsOf
+page-at [] x e = refl
+page-at (a ∷ []) x e = refl
+page-at (a ∷ b ∷ []) x e = refl
+page-at (a ∷ b ∷ c ∷ []) x e = refl
+page-at (a ∷ b ∷ c ∷ d ∷ l) x e =
+    let u : bitAnd x 0xF7 / 16 ≡ d / 16 % 16 = upper x d e in
+    let o : bitAnd x 0xF7 / 128 % 2 ≡ d / 128 % 2 = omega arith in
+    let k : bitAnd x 0xF7 / 64 % 2 ≡ d / 64 % 2 = omega arith in
+    let f : bitAnd x 0xF7 / 16 % 4 ≡ d / 16 % 4 = omega arith in
+    λ i. record { ld = a % 64; dd = b; ch = c % 64; osd = eqb (o i) 1; fbk = k i; fl = f i }
+
+-- ---- the question
+
+-- a reply that is no refusal and no yes
+says-no : (badRam badCell reads : Bool) → cond badRam (refused RamLength) (cond badCell (refused CellRange) (accepted (cond reads 1 0))) ≡ accepted 0
+    → (badRam ≡ false) × (badCell ≡ false) × (reads ≡ false)
+says-no true badCell reads e = absurd (eqb-false 1 0 refl (ap (λ (r : Reply). r .refusal) e))
+says-no false true reads e = absurd (eqb-false 8 0 refl (ap (λ (r : Reply). r .refusal) e))
+says-no false false true e = absurd (eqb-false 1 0 refl (ap (λ (r : Reply). r .value) e))
+says-no false false false e = (refl, refl, refl)
+
+-- a data byte goes to the address that the counter holds
+data-byte : (b : Bus) (x : ℕ) → b .state ≡ Write → step b (Byte x) .effect ≡ Store (address b) x
+unfolding step
+data-byte b x e = ap (λ (t : Step). t .effect) (sym (byte-at b x e))
+
+pub quiet-events : QuietEvents
+quiet-events =
     record {
-      cells = λ c t. ap (λ (m : List ℕ). getD m c 0) (busEvent-ram (s .device .bus) (s .device .registers) (s .ram) e n);
-      settings = ap settingsOf (busEvent-registers (s .device .bus) (s .device .registers) (s .ram) e n);
+      asked-no = λ s x w q. answered s x w (unfold askCell in says-no _ _ _ q);
+      no-store = λ s e n. quiet-by s e (nothing-stored _ _ _ (effectOf s e) n);
+      same-byte = λ s e a x q h g. quiet-as s e (Store a x) q (same-cell _ _ _ a x h g);
+      empty = λ s e a x q h l. quiet-as s e (Store a x) q (empty-address _ _ _ a x h l);
+      other-register = λ s e a x q h l. quiet-as s e (Store a x) q (register-kept _ _ _ a x (omega arith) (later-settings _ (a - 0x3FF0) x (omega arith)));
+      sync-edges = λ s e x q g. quiet-as s e (Store 0x3FF0 x) q (register-kept _ _ _ 0x3FF0 x (omega arith) (edges-at (s .device .registers .bytes) x g));
+      page = λ s e x q g. quiet-as s e (Store 0x3FF3 x) q (register-kept _ _ _ 0x3FF3 x (omega arith) (page-at (s .device .registers .bytes) x g));
     }
+  where
+    answered : (s : State) (x : ℕ) → s .device .bus .state ≡ Write
+        → (not (eqb (length (s .ram)) 1024) ≡ false) × (leb 1024 (address (s .device .bus)) ≡ false)
+        × (among (address (s .device .bus)) (cellsLeft (s .device) (s .ram)) ≡ false)
+        → Quiet s (Byte x)
+    answered s x w n =
+        quiet-as s (Byte x) (Store (address (s .device .bus)) x) (data-byte (s .device .bus) x w)
+        (unread-cell _ _ _ (address (s .device .bus)) x (leb-false 1024 (address (s .device .bus)) (n .1)) (n .2))

@@ -1,23 +1,22 @@
 -- The calls that a host makes: what each returns and leaves, refused calls too. Of document 01: the reset of "Registers", the frame
 -- start of "Walk of a frame", "Refusal numbers" with their order, and the cell question.
 -- Assumes nothing.
-use Prim.Native.Nat.{ℕ, zero, suc, _+_, _-_, _*_, _%_}
+use Prim.Native.Nat.{ℕ, _+_, _-_, _%_}
 use mathlib.Core.Bool.{Bool, true, false, not, cond, _||_}
 use mathlib.Core.List.{List, [], _∷_, _++_}
 use lib.Dec.{eqb, leb, ltb}
 use lib.ListN.{length, drop}
-use Rattle.cells.specs.Reading.{Reading, done, bind, value, cells, among}
+use Rattle.cells.specs.Reading.{Reading, value, cells, among}
 use Rattle.refusals.specs.declared.Refusal.{Refusal}
 use Rattle.refusals.specs.declared.Refusal.the-variants.{RamLength, FontLength, LineLength, NoLine, FrameLines, CellRange}
 use Rattle.refusals.specs.Refusals.{Reply, accepted, refused}
-use Rattle.registers.specs.declared.Settings.{Settings}
 use Rattle.registers.specs.Registers.{freshRegisters, settingsOf, pageOf}
 use Rattle.raster.specs.Raster.{widthOf}
 use Rattle.bus.specs.declared.Event.{Event}
 use Rattle.bus.specs.Bus.{freshBus, BusOutcome, busEvent, busReply}
-use Rattle.walk.specs.declared.Walk.{Walk}
 use Rattle.walk.specs.Walk.{walkFrom}
 use Rattle.line.specs.Line.{Scanned, scan, paint}
+use Rattle.ahead.specs.Ahead.{remaining}
 use Rattle.device.specs.declared.Frame.{Frame}
 use Rattle.device.specs.declared.Device.{Device}
 use Rattle.device.specs.declared.EventDone.{EventDone}
@@ -165,11 +164,6 @@ abbrev pub drawOutcome : DrawDone → List ℕ → DrawOutcome
 drawOutcome d line = record { device = d .device; line = line; reply = drawReply (d .answer) }
 
 -- ---- cell question
-
--- the frame's remaining lines: the walk goes on, with the settings as they stand
-unfoldable pub remaining : Settings → ℕ → Walk → Reading Walk
-remaining s zero w = done w
-remaining s (suc n) w = bind (scan s w) λ x. remaining s n (x .walk)
 
 -- every cell that these lines read, with RAM and registers as they stand and nothing written on the way
 unfoldable pub cellsLeft : Device → List ℕ → List ℕ

@@ -2,7 +2,7 @@
 ghost use mathlib.Core.Path.{_≡_};
 ghost use Rattle.refusals.specs.declared.Refusal.the-variants.{FrameLines};
 ghost use Rattle.refusals.specs.Refusals.{refused};
-ghost use Rattle.device.specs.Device.{freshDevice, eventOutcome, hearEvent, startOutcome, startFrame, drawOutcome, drawLine, startReply, drawReply};
+ghost use Rattle.device.specs.Device.{freshDevice, eventOutcome, hearEvent, startOutcome, startFrame, drawOutcome, drawLine, askCell, startReply, drawReply, cellReply};
 use bus::Bus;
 use bus::BusAnswer;
 use bus::Event;
@@ -182,6 +182,25 @@ impl Device {
         }
     }
 
+    // The cell question: do the frame's remaining lines read the cell? Refusals 1, then 8.
+    pub fn ask(self, ram: &[u8], cell: u32) -> CellAnswer
+        ensures { λ r. ⌜ cellReply r ≡ askCell self (now (ram .entry)) cell ⌝ }
+    {
+        if ram.len() != RAM_LENGTH {
+            return CellAnswer::Refused(Refusal::RamLength);
+        }
+        if cell >= 1024 {
+            return CellAnswer::Refused(Refusal::CellRange);
+        }
+        let registers = self.registers;
+        let frame = self.frame;
+        let walk = frame.walk;
+        if ahead::reads(ram, registers.settings(), frame.left, walk, cell as u16) {
+            return CellAnswer::Yes;
+        }
+        CellAnswer::No
+    }
+
     fn not_drawn(self, refusal: Refusal) -> DrawDone
         ensures { λ r. ⌜ (r .device ≡ self) × (drawReply (r .answer) ≡ refused refusal) ⌝ }
     {
@@ -222,6 +241,30 @@ impl DrawAnswer {
         match self {
             DrawAnswer::Drawn(n) => n,
             DrawAnswer::Refused(r) => r.value() as u16,
+        }
+    }
+}
+
+impl CellAnswer {
+    // The refusal's number; 0 with yes and no.
+    pub fn refusal(self) -> u8
+        ensures { λ r. ⌜ r ≡ cellReply self .refusal ⌝ }
+    {
+        match self {
+            CellAnswer::Yes => 0,
+            CellAnswer::No => 0,
+            CellAnswer::Refused(r) => r.number(),
+        }
+    }
+
+    // 1 for yes, 0 for no and with a refusal.
+    pub fn value(self) -> u8
+        ensures { λ r. ⌜ r ≡ cellReply self .value ⌝ }
+    {
+        match self {
+            CellAnswer::Yes => 1,
+            CellAnswer::No => 0,
+            CellAnswer::Refused(r) => r.value(),
         }
     }
 }

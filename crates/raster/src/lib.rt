@@ -1,6 +1,6 @@
 // The geometry of a line: which slice a scan line shows, how wide a line is, where its characters start, and what flashes.
 ghost use mathlib.Core.Path.{_≡_};
-ghost use Rattle.raster.specs.Raster.{stripLines, InStrip, unzoomed, interpolated, widthOf, firstPixelOf, hiddenIn};
+ghost use Rattle.raster.specs.Raster.{stripLines, InStrip, unzoomed, interpolated, widthOf, firstPixelOf, columnsOf, hiddenIn};
 
 // A scan line of a strip, counted from 1; 0 before the first.
 pub struct ScanLine(pub u16);
@@ -9,7 +9,7 @@ pub struct ScanLine(pub u16);
 pub struct Slice(pub u8);
 
 // The line counted without zoom: half of it, rounded up.
-fn unzoom(line: u16, zoom: bool) -> u16
+pub fn unzoom(line: u16, zoom: bool) -> u16
     ensures { λ r. ⌜ r ≡ unzoomed zoom line ⌝ }
 {
     if zoom {
@@ -53,6 +53,18 @@ pub fn first_pixel(dd: u8) -> u16
         return 3 * (4 + 8);
     }
     3 * (dd as u16 + 8)
+}
+
+// How many characters there is room to start on a line.
+pub fn columns(ld: u8, dd: u8) -> u16
+    ensures { λ r. ⌜ r ≡ columnsOf ld dd ⌝ }
+{
+    let w = width(ld);
+    let first = first_pixel(dd);
+    if w <= first {
+        return 0;
+    }
+    (w - first + 11) / 12
 }
 
 // Is a flashing character hidden in this frame?

@@ -41,6 +41,11 @@ unfoldable pub over : Strip → Bool
 over (Spacing left) = eqb left 0
 over (Characters address height zoom enabled line) = leb (stripLines height zoom) (line .0)
 
+-- how many lines it has left
+unfoldable pub linesLeft : Strip → ℕ
+linesLeft (Spacing left) = left
+linesLeft (Characters address height zoom enabled line) = stripLines height zoom - line .0
+
 -- a descriptor is read at the first line of its strip, and CH is taken there
 unfoldable pub begun : ℕ → Walk → Reading Walk
 begun ch w =

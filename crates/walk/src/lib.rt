@@ -1,8 +1,9 @@
 // The walk of a frame over its descriptors: which strip is on screen, and which of its lines.
 ghost use mathlib.Core.Path.{_≡_};
 ghost use mathlib.Core.Bool.{false};
+ghost use Prim.Native.Nat.{_-_};
 ghost use lib.ListN.{length};
-ghost use Rattle.walk.specs.Walk.{even, walkFrom, atLeastOne, stripOf, over, advanced, walked};
+ghost use Rattle.walk.specs.Walk.{even, walkFrom, atLeastOne, stripOf, over, linesLeft, advanced, walked};
 use raster::ScanLine;
 
 // The strip on screen. One with no line left gives way to the next descriptor at the next line.
@@ -53,6 +54,16 @@ fn at_least_one(n: u8) -> u8
     n
 }
 
+// What is left of a number after some, or 0.
+pub fn rest(all: u16, some: u16) -> u16
+    ensures { λ r. ⌜ r ≡ all - some ⌝ }
+{
+    if all <= some {
+        return 0;
+    }
+    all - some
+}
+
 impl Strip {
     // The strip of a descriptor, before its first line.
     pub fn of_descriptor(ch: u8, low: u8, high: u8) -> Strip
@@ -84,6 +95,22 @@ impl Strip {
                 enabled: _,
                 line,
             } => raster::strip_lines(height, zoom) <= line.0,
+        }
+    }
+
+    // How many lines the strip has left.
+    pub fn lines_left(self) -> u16
+        ensures { λ r. ⌜ r ≡ linesLeft self ⌝ }
+    {
+        match self {
+            Strip::Spacing { left } => left as u16,
+            Strip::Characters {
+                address: _,
+                height,
+                zoom,
+                enabled: _,
+                line,
+            } => rest(raster::strip_lines(height, zoom), line.0),
         }
     }
 

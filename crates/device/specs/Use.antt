@@ -1,0 +1,42 @@
+-- What a host can act on: events that are quiet (specs/OnePage.antt), stated for every device record and RAM.
+-- Assumes nothing.
+use Prim.Native.Nat.{ℕ, _/_, _%_, _≤_, _<_}
+use mathlib.Core.Path.{_≡_}
+use lib.ListN.{getD}
+use Rattle.refusals.specs.Refusals.{accepted}
+use Rattle.bus.specs.declared.Event.{Event}
+use Rattle.bus.specs.declared.Event.the-variants.{Byte}
+use Rattle.bus.specs.declared.Effect.{Effect}
+use Rattle.bus.specs.declared.Effect.the-variants.{Acknowledge, Ignore, Store, Load}
+use Rattle.bus.specs.declared.State.the-variants.{Write}
+use Rattle.bus.specs.Bus.{address, step}
+use Rattle.device.specs.Device.{askCell}
+use Rattle.device.specs.OnePage.{State, Quiet}
+
+-- what an event asks of the cells
+abbrev pub effectOf : State → Event → Effect
+effectOf s e = step (s .device .bus) e .effect
+
+-- the event stores nothing
+unfoldable pub NoStore : Effect → Type 0
+NoStore Acknowledge = Unit
+NoStore Ignore = Unit
+NoStore (Store a x) = ⊥
+NoStore (Load a) = Unit
+
+pub record QuietEvents : Type 0 where
+  -- a data byte to a cell of which the question says no
+  pub asked-no : (s : State) (x : ℕ) → s .device .bus .state ≡ Write → askCell (s .device) (s .ram) (address (s .device .bus)) ≡ accepted 0
+      → Quiet s (Byte x)
+  -- a start, a stop, a fetch, a slave or internal address byte, and every event that is not acknowledged
+  pub no-store : (s : State) (e : Event) → NoStore (effectOf s e) → Quiet s e
+  -- the byte that is already there
+  pub same-byte : (s : State) (e : Event) (a x : ℕ) → effectOf s e ≡ Store a x → a < 0x400 → getD (s .ram) a 0 ≡ x → Quiet s e
+  -- an empty address
+  pub empty : (s : State) (e : Event) (a x : ℕ) → effectOf s e ≡ Store a x → 0x400 ≤ a → a < 0x3FF0 → Quiet s e
+  -- registers 3FF4 to 3FFF
+  pub other-register : (s : State) (e : Event) (a x : ℕ) → effectOf s e ≡ Store a x → 0x3FF4 ≤ a → a < 0x4000 → Quiet s e
+  -- VSP and HSP, LD as it is
+  pub sync-edges : (s : State) (e : Event) (x : ℕ) → effectOf s e ≡ Store 0x3FF0 x → x % 64 ≡ getD (s .device .registers .bytes) 0 0 % 64 → Quiet s e
+  -- P, with OSD, FBK and FL as they are
+  pub page : (s : State) (e : Event) (x : ℕ) → effectOf s e ≡ Store 0x3FF3 x → x / 16 % 16 ≡ getD (s .device .registers .bytes) 3 0 / 16 % 16 → Quiet s e
