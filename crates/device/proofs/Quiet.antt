@@ -23,7 +23,7 @@ use Rattle.bus.specs.declared.Effect.the-variants.{Acknowledge, Ignore, Store, 
 use Rattle.bus.specs.declared.State.the-variants.{Write}
 use Rattle.bus.specs.declared.Bus.{Bus}
 use Rattle.bus.specs.declared.Step.{Step}
-use Rattle.bus.specs.Bus.{BusOutcome, busEvent, step, byteAt, address, taken, ramWith, registersWith, isRam, isRegister}
+use Rattle.bus.specs.Bus.{BusOutcome, busEvent, step, byteAt, address, taken, ramWith, registersWith, answerTo, busReply}
 use Rattle.bus.proofs.Laws.{by-event, byte-at}
 use Rattle.device.specs.declared.Device.{Device}
 use Rattle.device.specs.Device.{hearEvent, askCell, cellsLeft}
@@ -59,14 +59,35 @@ quiet-as : (s : State) (e : Event) (f : Effect) → effectOf s e ≡ f
     → Harmless (s .ram) (s .device .registers) (cellsLeft (s .device) (s .ram)) f → Quiet s e
 quiet-as s e f q h = quiet-by s e (subst (Harmless (s .ram) (s .device .registers) (cellsLeft (s .device) (s .ram))) (sym q) h)
 
--- ---- the kinds of events
-
 nothing-stored : (ram : List ℕ) (r : Registers) (cs : List ℕ) (f : Effect) → NoStore f → Harmless ram r cs f
 unfolding NoStore ramWith registersWith
 nothing-stored ram r cs Acknowledge n = record { keeps = same-ram cs ram refl; same = refl }
 nothing-stored ram r cs Ignore n = record { keeps = same-ram cs ram refl; same = refl }
 nothing-stored ram r cs (Store a x) n = absurd n
 nothing-stored ram r cs (Load a) n = record { keeps = same-ram cs ram refl; same = refl }
+
+-- a refused event, for whatever reason
+taken-refused : (s : State) (e : Event) (f : Effect) → (busReply (answerTo f (s .device .registers) (s .ram)) .refusal ≡ 0 → ⊥) → NoStore f
+unfolding answerTo NoStore
+taken-refused s e Acknowledge h = tt
+taken-refused s e Ignore h = tt
+taken-refused s e (Store a x) h = absurd (h refl)
+taken-refused s e (Load a) h = tt
+
+quiet-refused : (s : State) (e : Event) → (hearEvent (s .device) (s .ram) e .reply .refusal ≡ 0 → ⊥) → Quiet s e
+unfolding Leaves hearEvent taken
+quiet-refused s e =
+    λ h.
+    let p : Leaves s (busEvent (s .device .bus) (s .device .registers) (s .ram) e) =
+    by-event (λ (o : BusOutcome). (o .reply .refusal ≡ 0 → ⊥) → Leaves s o) (s .device .bus) (s .device .registers) (s .ram) e
+    (λ _. (same-ram (cellsLeft (s .device) (s .ram)) (s .ram) refl, refl))
+    (λ k.
+    let n = nothing-stored (s .ram) (s .device .registers) (cellsLeft (s .device) (s .ram)) (effectOf s e) (taken-refused s e (effectOf s e) k) in
+    (n .keeps, n .same)) h
+    in
+    record { cells = p .0; settings = p .1 }
+
+-- ---- the kinds of events
 
 module _ (ram : List ℕ) (r : Registers) (cs : List ℕ) (a x : ℕ) where
   -- a store below 3FF0 leaves the registers, one from 400 on the RAM
@@ -137,6 +158,39 @@ edges-at (y ∷ l) x e =
 upper : (x d : ℕ) → x / 16 % 16 ≡ d / 16 % 16 → bitAnd x 0xF7 / 16 ≡ d / 16 % 16
 upper x d e = and-shr x 0xF7 4 ∙ and-mask (x / 16) 4 ∙ e
 
+-- DD and CH as they are
+delay-at : (l : List ℕ) (x : ℕ) → x % 256 ≡ getD l 1 0 → settingsOf (record { bytes = set l 1 (bitAnd x 0xFF) }) ≡ settingsOf (record { bytes = l })
+unfolding settingsOf
+delay-at [] x e = refl
+delay-at (a ∷ []) x e = refl
+delay-at (a ∷ b ∷ l) x e =
+    λ i.
+    record {
+      ld = a % 64;
+      dd = (and-mask x 8 ∙ e) i;
+      ch = getD l 0 0 % 64;
+      osd = eqb (getD l 1 0 / 128 % 2) 1;
+      fbk = getD l 1 0 / 64 % 2;
+      fl = getD l 1 0 / 16 % 4;
+    }
+
+height-at : (l : List ℕ) (x : ℕ) → x % 64 ≡ getD l 2 0 % 64 → settingsOf (record { bytes = set l 2 (bitAnd x 0x3F) }) ≡ settingsOf (record { bytes = l })
+unfolding settingsOf
+height-at [] x e = refl
+height-at (a ∷ []) x e = refl
+height-at (a ∷ b ∷ []) x e = refl
+height-at (a ∷ b ∷ c ∷ l) x e =
+    let m : bitAnd x 0x3F % 64 ≡ c % 64 = omega (arith, and-mask x 6) in
+    λ i.
+    record {
+      ld = a % 64;
+      dd = b;
+      ch = m i;
+      osd = eqb (getD l 0 0 / 128 % 2) 1;
+      fbk = getD l 0 0 / 64 % 2;
+      fl = getD l 0 0 / 16 % 4;
+    }
+
 -- P lies below OSD, FBK and FL
 page-at : (l : List ℕ) (x : ℕ) → x / 16 % 16 ≡ getD l 3 0 / 16 % 16 → settingsOf (record { bytes = set l 3 (bitAnd x 0xF7) }) ≡ settingsOf (record { bytes = l })
 unfolding settingsOf
@@ -170,6 +224,9 @@ pub quiet-events : QuietEvents
 quiet-events =
     record {
       asked-no = λ s x w q. answered s x w (unfold askCell in says-no _ _ _ q);
+      refused = quiet-refused;
+      same-delay = λ s e x q g. quiet-as s e (Store 0x3FF1 x) q (register-kept _ _ _ 0x3FF1 x (omega arith) (delay-at (s .device .registers .bytes) x g));
+      same-height = λ s e x q g. quiet-as s e (Store 0x3FF2 x) q (register-kept _ _ _ 0x3FF2 x (omega arith) (height-at (s .device .registers .bytes) x g));
       no-store = λ s e n. quiet-by s e (nothing-stored _ _ _ (effectOf s e) n);
       same-byte = λ s e a x q h g. quiet-as s e (Store a x) q (same-cell _ _ _ a x h g);
       empty = λ s e a x q h l. quiet-as s e (Store a x) q (empty-address _ _ _ a x h l);

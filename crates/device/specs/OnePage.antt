@@ -78,7 +78,7 @@ othersOf cs = select (λ c. not (isEvent c)) cs
 
 -- an event is quiet (the order's term, condition 3) if it changes no cell that the frame's remaining lines read, given RAM and
 -- registers as they stand, and none of the settings LD, DD, CH, OSD, FBK and FL. Only a write can change any: of every other event
--- it holds by itself (proofs/Quiet.antt), so asking it of each event asks it of each bus write
+-- it holds by itself (specs/Use.antt, no-store and refused), so asking it of each event asks it of each bus write
 pub record Quiet (s : State) (e : Event) : Type 0 where
   pub cells : Alike (cellsLeft (s .device) (s .ram)) (s .ram) (hearEvent (s .device) (s .ram) e .ram)
   pub settings : settingsOf (hearEvent (s .device) (s .ram) e .device .registers) ≡ settingsOf (s .device .registers)

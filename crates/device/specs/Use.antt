@@ -10,7 +10,7 @@ use Rattle.bus.specs.declared.Effect.{Effect}
 use Rattle.bus.specs.declared.Effect.the-variants.{Acknowledge, Ignore, Store, Load}
 use Rattle.bus.specs.declared.State.the-variants.{Write}
 use Rattle.bus.specs.Bus.{address, step}
-use Rattle.device.specs.Device.{askCell}
+use Rattle.device.specs.Device.{hearEvent, askCell}
 use Rattle.device.specs.OnePage.{State, Quiet}
 
 -- what an event asks of the cells
@@ -28,10 +28,14 @@ pub record QuietEvents : Type 0 where
   -- a data byte to a cell of which the question says no
   pub asked-no : (s : State) (x : ℕ) → s .device .bus .state ≡ Write → askCell (s .device) (s .ram) (address (s .device .bus)) ≡ accepted 0
       → Quiet s (Byte x)
-  -- a start, a stop, a fetch, a slave or internal address byte, and every event that is not acknowledged
+  -- every refused event: not acknowledged, or RAM of another length
+  pub refused : (s : State) (e : Event) → (hearEvent (s .device) (s .ram) e .reply .refusal ≡ 0 → ⊥) → Quiet s e
+  -- a start, a stop, a fetch, a slave or internal address byte
   pub no-store : (s : State) (e : Event) → NoStore (effectOf s e) → Quiet s e
-  -- the byte that is already there
+  -- the byte that is already there: in RAM, in DD and in CH (for the other registers see below)
   pub same-byte : (s : State) (e : Event) (a x : ℕ) → effectOf s e ≡ Store a x → a < 0x400 → getD (s .ram) a 0 ≡ x → Quiet s e
+  pub same-delay : (s : State) (e : Event) (x : ℕ) → effectOf s e ≡ Store 0x3FF1 x → x % 256 ≡ getD (s .device .registers .bytes) 1 0 → Quiet s e
+  pub same-height : (s : State) (e : Event) (x : ℕ) → effectOf s e ≡ Store 0x3FF2 x → x % 64 ≡ getD (s .device .registers .bytes) 2 0 % 64 → Quiet s e
   -- an empty address
   pub empty : (s : State) (e : Event) (a x : ℕ) → effectOf s e ≡ Store a x → 0x400 ≤ a → a < 0x3FF0 → Quiet s e
   -- registers 3FF4 to 3FFF
