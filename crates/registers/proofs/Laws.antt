@@ -1,10 +1,10 @@
 -- The laws of the registers: the ranges of the settings, and that unused bits read 0.
 -- Assumes nothing.
 use Prim.Native.Nat.{ℕ, zero, suc, _+_, _*_, _/_, _%_, _≤_, _<_, min}
-use mathlib.Core.Path.{_≡_, sym, ap, _∙_, subst}
+use mathlib.Core.Path.{_≡_, refl, sym, ap, _∙_, subst}
 use mathlib.Core.Bool.{Bool, true, false, _&&_}
-use mathlib.Core.List.{List, [], _∷_}
-use native.Mathlib.Nat.{le-refl}
+use mathlib.Core.List.{List, [], _∷_, zipWith}
+use native.Mathlib.Nat.{le-refl, not-suc-le-zero, le-of-suc-le-suc}
 use native.Mathlib.Decide.{decLt, ℕ-discrete}
 use native.Mathlib.Omega.{arith}
 use lib.Dec.{T, eqb, eqb→eq}
@@ -12,7 +12,7 @@ use lib.ListN.{getD, set, length}
 use lib.Seq.{getD-set-same, getD-set-other, set-out}
 use lib.Bits.{bitAnd, and-step, and-zero-l}
 use Rattle.registers.specs.declared.Registers.{Registers}
-use Rattle.registers.specs.Registers.{kept, freshRegisters, stored, fetched, settingsOf, pageOf}
+use Rattle.registers.specs.Registers.{kept, freshRegisters, loaded, stored, fetched, settingsOf, pageOf}
 
 -- ---- ranges
 
@@ -100,3 +100,29 @@ within-at (x ∷ xs) (k ∷ ks) t (suc i) = within-at xs ks (both (eqb (bitAnd x
 pub fresh-masked : Masked freshRegisters
 unfolding Masked within
 fresh-masked i = within-at (freshRegisters .bytes) kept tt (i % 16)
+
+-- ---- all sixteen from their bytes
+
+pub zip-length : (bs ks : List ℕ) → length (zipWith bitAnd bs ks) ≡ min (length bs) (length ks)
+unfolding zipWith
+zip-length [] ks = omega arith
+zip-length (b ∷ bs) [] = omega arith
+zip-length (b ∷ bs) (k ∷ ks) = omega (arith, zip-length bs ks)
+
+pub zip-at : (bs ks : List ℕ) (i : ℕ) → i < length bs → i < length ks → getD (zipWith bitAnd bs ks) i 0 ≡ bitAnd (getD bs i 0) (getD ks i 0)
+unfolding zipWith
+zip-at [] ks i h l = absurd (not-suc-le-zero h)
+zip-at (b ∷ bs) [] i h l = absurd (not-suc-le-zero l)
+zip-at (b ∷ bs) (k ∷ ks) zero h l = refl
+zip-at (b ∷ bs) (k ∷ ks) (suc i) h l = zip-at bs ks i (le-of-suc-le-suc h) (le-of-suc-le-suc l)
+
+zip-within : (bs ks : List ℕ) (i : ℕ) → bitAnd (getD (zipWith bitAnd bs ks) i 0) (getD ks i 0) ≡ getD (zipWith bitAnd bs ks) i 0
+unfolding zipWith
+zip-within [] ks i = and-zero-l (getD ks i 0)
+zip-within (b ∷ bs) [] i = and-zero-l 0
+zip-within (b ∷ bs) (k ∷ ks) zero = and-twice b b k (le-refl b)
+zip-within (b ∷ bs) (k ∷ ks) (suc i) = zip-within bs ks i
+
+pub loaded-masked : (bytes : List ℕ) → Masked (loaded bytes)
+unfolding Masked loaded
+loaded-masked bytes i = zip-within bytes kept (i % 16)

@@ -1,7 +1,7 @@
 -- Document 01, "Registers". Register i, 0 to 15, stands at address 3FF0 + i; a larger number is taken modulo 16.
 -- Assumes nothing.
 use Prim.Native.Nat.{ℕ, _/_, _%_}
-use mathlib.Core.List.{List, [], _∷_}
+use mathlib.Core.List.{List, [], _∷_, zipWith}
 use lib.Dec.{eqb}
 use lib.ListN.{getD, set}
 use lib.Bits.{bitAnd}
@@ -19,6 +19,10 @@ kept = 0xFF ∷ 0xFF ∷ 0x3F ∷ 0xF7 ∷ 0xF7 ∷ 0x77 ∷ 0xFF ∷ 0x0F ∷ 0
 -- a reset sets the sixteen registers to these values
 abbrev pub freshRegisters : Registers
 freshRegisters = record { bytes = reset }
+
+-- all sixteen from their bytes, in the order of their addresses, each with its kept bits only
+unfoldable pub loaded : List ℕ → Registers
+loaded bytes = record { bytes = zipWith bitAnd bytes kept }
 
 -- a store keeps the kept bits of the byte; unused bits are 0
 abbrev pub stored : Registers → ℕ → ℕ → Registers

@@ -1,6 +1,7 @@
 // The sixteen registers, and the settings that a line is drawn by.
 ghost use mathlib.Core.Path.{_≡_};
-ghost use Rattle.registers.specs.Registers.{freshRegisters, stored, fetched, settingsOf, pageOf};
+ghost use lib.ListN.{length};
+ghost use Rattle.registers.specs.Registers.{freshRegisters, loaded, stored, fetched, settingsOf, pageOf};
 
 pub struct Registers {
     pub bytes: [u8; 16],
@@ -59,6 +60,20 @@ impl Registers {
         ensures { λ r. ⌜ r ≡ freshRegisters ⌝ }
     {
         Registers { bytes: Self::RESET }
+    }
+
+    // All sixteen at once, each stored with its kept bits only.
+    pub fn load(bytes: &[u8]) -> Registers
+        requires { ⌜ length (now bytes) ≡ 16 ⌝ }
+        ensures { λ r. ⌜ r ≡ loaded (now (bytes .entry)) ⌝ }
+    {
+        let mut next = Self::RESET;
+        let mut i = 0;
+        while i < 16 {
+            next[i] = bytes[i] & Self::KEPT[i];
+            i += 1;
+        }
+        Registers { bytes: next }
     }
 
     // Registers are numbered 0 to 15; a larger number is taken modulo 16.

@@ -1,0 +1,74 @@
+-- `copy_digits`: the digits that are left and what is written from i on are all the digits.
+-- Assumes nothing.
+use Prim.Native.Nat.{_-_, _≤_}
+use mathlib.Core.Path.{_≡_, refl, ap, _∙_}
+use mathlib.Core.List.{List, _++_, append-nil}
+use Prim.Native.Nat.{ℕ}
+use native.Mathlib.Omega.{arith}
+use denote.Ref.{now}
+use lib.ListN.{length, drop, length-set}
+use lib.Seq.{drop-length}
+use Rattle.report.specs.Report.{digits}
+use Rattle.report.proofs.Texts.{digits-more, digits-whole}
+use borrow.Author.Needs.{needs}
+use Rattle.report.proofs.copy_digits.Statement.{statement}
+use Rattle.report.proofs.copy_digits.Tie as tie
+use Rattle.report.proofs.copy_digits.Reads as reads
+use Rattle.report.proofs.copy_digits.Lts as lts
+
+abbrev Inv-loop : tie.InvT-loop
+Inv-loop out₀ number i₀ rest₀ out i rest =
+    (i ≤ length out₀) × (length out ≡ length out₀) × (digits i rest ++ drop i out ≡ digits (length out₀) number)
+
+abbrev μ-loop : tie.MeasureT-loop
+μ-loop out₀ number i₀ rest₀ out i rest = i
+
+loop-holds : tie.Need-loop-holds Inv-loop μ-loop
+loop-holds c =
+    let out = now (c .args .out) in
+    (search needs, search needs, ap (λ (l : List ℕ). digits (length out) (c .args .number) ++ l) (drop-length out) ∙ append-nil _)
+
+sub-i : tie.Need-sub-i Inv-loop μ-loop
+sub-i c = search needs
+
+cast-out : tie.Need-cast-out Inv-loop μ-loop
+cast-out c = search needs
+
+add-out : tie.Need-add-out Inv-loop μ-loop
+add-out c = search needs
+
+slice-write-out : tie.Need-slice-write-out Inv-loop μ-loop
+slice-write-out c = search needs
+
+loop-less : tie.Need-loop-less Inv-loop μ-loop
+loop-less c = search needs
+
+loop-again : tie.Need-loop-again Inv-loop μ-loop
+loop-again c =
+    let l = c .before .loop in (
+      search needs,
+      length-set (l .out) _ _ ∙ l .inv .1,
+      digits-more _ (l .out) (l .i) (l .rest) _ (omega arith) (omega arith) refl (l .inv .2),
+    )
+
+same-length : tie.Need-same-length Inv-loop μ-loop
+same-length c = search needs
+
+returns : tie.Need-returns Inv-loop μ-loop
+returns c = digits-whole _ _ (c .before .loop .i) (c .before .loop .rest) (omega arith) (c .before .loop .inv .2)
+
+pub copy-digits-spec : {M : Type 1} → statement M
+copy-digits-spec =
+    tie.close
+    (tie.spec
+    Inv-loop
+    μ-loop
+    loop-holds
+    sub-i
+    cast-out
+    add-out
+    slice-write-out
+    loop-less
+    loop-again
+    same-length
+    returns)

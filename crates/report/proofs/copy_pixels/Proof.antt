@@ -1,0 +1,76 @@
+-- `copy_pixels`: what is written and the digits that are left are all of them.
+-- Assumes nothing.
+use Prim.Native.Nat.{_-_, _≤_}
+use mathlib.Core.Path.{_≡_, refl, sym, _∙_}
+use mathlib.Core.List.{_++_, map}
+use native.Mathlib.Omega.{arith}
+use denote.Ref.{now}
+use lib.ListN.{length, take, drop, length-set}
+use Rattle.registers.proofs.Written.{written-more, written-whole}
+use Rattle.report.specs.Report.{hexDigit}
+use Rattle.report.proofs.Texts.{map-length, map-at}
+use borrow.Author.Needs.{needs}
+use Rattle.report.proofs.copy_pixels.Statement.{statement}
+use Rattle.report.proofs.copy_pixels.Tie as tie
+use Rattle.report.proofs.copy_pixels.Reads as reads
+use Rattle.report.proofs.copy_pixels.Lts as lts
+use Rattle.report.proofs.hex_digit.Reads as hex-digit-reads
+
+abbrev Inv-loop : tie.InvT-loop
+Inv-loop out₀ pixels i₀ out i =
+    (i ≤ length out₀) × (length out ≡ length out₀) × (take i out ++ drop i (map hexDigit pixels) ≡ map hexDigit pixels)
+
+abbrev μ-loop : tie.MeasureT-loop
+μ-loop out₀ pixels i₀ out i = length out₀ - i
+
+loop-holds : tie.Need-loop-holds Inv-loop μ-loop
+loop-holds c = (search needs, search needs, refl)
+
+shared-slice-read-hex-digit : tie.Need-shared-slice-read-hex-digit Inv-loop μ-loop
+shared-slice-read-hex-digit c = search needs
+
+hex-digit-requires : tie.Need-hex-digit-requires Inv-loop μ-loop
+hex-digit-requires c κs = search needs
+
+slice-write-out : tie.Need-slice-write-out Inv-loop μ-loop
+slice-write-out c = search needs
+
+add-i : tie.Need-add-i Inv-loop μ-loop
+add-i c = search needs
+
+loop-less : tie.Need-loop-less Inv-loop μ-loop
+loop-less c = search needs
+
+loop-again : tie.Need-loop-again Inv-loop μ-loop
+loop-again c =
+    let l = c .before .before .before .loop in
+    let pixels = now (c .before .before .before .before .before .before .args .pixels) in (
+      search needs,
+      length-set (l .out) _ _ ∙ l .inv .1,
+      written-more (map hexDigit pixels) (l .out) (l .i) _ (omega arith) (omega (arith, map-length pixels)) (l .inv .2)
+          (c .hex-digit .ensures ∙ sym (map-at pixels (l .i) (omega arith))),
+    )
+
+same-length : tie.Need-same-length Inv-loop μ-loop
+same-length c = search needs
+
+returns : tie.Need-returns Inv-loop μ-loop
+returns c =
+    let pixels = now (c .before .before .before .before .args .pixels) in
+    written-whole (map hexDigit pixels) _ (c .before .loop .i) (omega arith) (omega (arith, map-length pixels)) (c .before .loop .inv .2)
+
+pub copy-pixels-spec : {M : Type 1} → statement M
+copy-pixels-spec =
+    tie.close
+    (tie.spec
+    Inv-loop
+    μ-loop
+    loop-holds
+    shared-slice-read-hex-digit
+    hex-digit-requires
+    slice-write-out
+    add-i
+    loop-less
+    loop-again
+    same-length
+    returns)

@@ -1,0 +1,56 @@
+-- `next_line`: the draw into a buffer of W bytes.
+-- Assumes nothing.
+use mathlib.Core.Path.{sym, ap, _∙_}
+use mathlib.Core.List.{List}
+use Prim.Native.Nat.{ℕ, _≤_}
+use native.Mathlib.Omega.{arith}
+use lib.ListN.{length, replicate, length-replicate}
+use denote.Ref.{now}
+use Rattle.device.specs.Device.{drawLine}
+use Rattle.report.specs.Report.{textOf}
+use Rattle.report.proofs.Texts.{width-most, blank}
+use borrow.Author.Needs.{needs}
+use Rattle.report.proofs.next_line.Statement.{statement}
+use Rattle.report.proofs.next_line.Tie as tie
+
+width-of-requires : tie.Need-width-of-requires
+width-of-requires c κs = search needs
+
+cast-width : tie.Need-cast-width
+cast-width c = search needs
+
+array-borrow-prefix-line : tie.Need-array-borrow-prefix-line
+array-borrow-prefix-line c = omega (arith, c .width-of .ensures, width-most (c .before .before .before .before .args .device))
+
+slice-aggregate-draw-text : tie.Need-slice-aggregate-draw-text
+slice-aggregate-draw-text c =
+    let w = c .before .width-of .result in
+    let h : w ≤ 768 = omega (arith, c .before .width-of .ensures, width-most (c .before .before .before .before .before .args .device)) in
+    sym (ap length (blank w h) ∙ length-replicate w 0)
+
+draw-text-requires : tie.Need-draw-text-requires
+draw-text-requires c κs = search needs
+
+same-length : tie.Need-same-length
+same-length c = search needs
+
+returns : tie.Need-returns
+returns c =
+    let a = c .before .before .before .before .before .before .before .before .before .before .args in
+    let w = c .before .before .before .before .before .before .width-of .result in
+    let h : w ≤ 768 = omega (arith, c .before .before .before .before .before .before .width-of .ensures, width-most (a .device)) in
+    c .before .before .before .draw-text .ensures
+    ∙ ap (λ (line : List ℕ). textOf (drawLine (a .device) (now (a .ram)) (now (a .font)) line) (now (a .out)))
+    (blank w h ∙ ap (λ (n : ℕ). replicate n 0) (c .before .before .before .before .before .before .width-of .ensures))
+
+pub next-line-spec : {M : Type 1} → statement M
+next-line-spec =
+    tie.close
+    (tie.spec
+    width-of-requires
+    cast-width
+    array-borrow-prefix-line
+    slice-aggregate-draw-text
+    draw-text-requires
+    same-length
+    returns)
