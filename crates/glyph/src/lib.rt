@@ -1,6 +1,6 @@
 // Character codes and glyphs: which two bytes a code shows in a slice.
 ghost use mathlib.Core.Path.{_≡_};
-ghost use Prim.Native.Nat.{_≤_};
+ghost use Prim.Native.Nat.{_≤_, _<_};
 ghost use lib.ListN.{length};
 ghost use Rattle.glyph.specs.Glyph.{twelve, slicePart, Lent, Sliced, shownIn};
 use raster::Slice;
@@ -31,7 +31,8 @@ pub fn slice_bytes<'a>(ram: &'a [u8], font: &'a [u8], high: u8, slice: Slice) ->
 }
 
 fn bits_of(first: u8, second: u8) -> u16
-    ensures { λ r. ⌜ r ≡ twelve first second ⌝ }
+    ensures number { λ r. ⌜ r ≡ twelve first second ⌝ }
+    ensures bits { λ r. ⌜ r < 4096 ⌝ }
 {
     (second % 16) as u16 * 256 + first as u16
 }
@@ -40,7 +41,8 @@ fn bits_of(first: u8, second: u8) -> u16
 pub fn lookup<'a>(ram: &'a [u8], font: &'a [u8], high: u8, slice: Slice) -> Shown
     requires { ⌜ Lent (now ram) (now font) ⌝ }
     requires { ⌜ slice .0 ≤ 18 ⌝ }
-    ensures { λ r. ⌜ r ≡ shownIn (now (ram .entry)) (now (font .entry)) high slice ⌝ }
+    ensures shown { λ r. ⌜ r ≡ shownIn (now (ram .entry)) (now (font .entry)) high slice ⌝ }
+    ensures twelve { λ r. ⌜ r .bits < 4096 ⌝ }
 {
     if high / 128 % 2 == 0 {
         if slice.0 == 0 {

@@ -43,18 +43,26 @@ columns-from zero ink bits left h = absurd (not-suc-le-zero h)
 columns-from (suc n) ink bits left h =
     ap (λ (m : ℕ). pixel ink (bits / 2 ^ m % 2) left ∷ columns m ink bits (bits / 2 ^ m % 2)) (sym (sub-one (suc n)))
 
+-- the bit to the left of column i
+abbrev pub beside : ℕ → ℕ → ℕ
+beside bits i = bits / 2 ^ (12 - i) % 2
+
+-- nothing stands to the left of the first
+pub beside-first : (bits : ℕ) → bits < 4096 → beside bits 0 ≡ 0
+beside-first bits h = omega arith
+
 -- one column more
-pub columns-again : (ink : Ink) (bits left : ℕ) (out all : List ℕ) (i v : ℕ) → i < length out → i < 12
-    → take i out ++ columns (12 - i) ink bits left ≡ all → v ≡ pixel ink (bits / 2 ^ (11 - i) % 2) left
-    → take (i + 1) (set out i v) ++ columns (12 - (i + 1)) ink bits (bits / 2 ^ (11 - i) % 2) ≡ all
-columns-again ink bits left out all i v h k e p =
+pub columns-again : (ink : Ink) (bits : ℕ) (out all : List ℕ) (i v : ℕ) → i < length out → i < 12
+    → take i out ++ columns (12 - i) ink bits (beside bits i) ≡ all → v ≡ pixel ink (bits / 2 ^ (11 - i) % 2) (beside bits i)
+    → take (i + 1) (set out i v) ++ columns (12 - (i + 1)) ink bits (beside bits (i + 1)) ≡ all
+columns-again ink bits out all i v h k e p =
     let m : 12 - i - 1 ≡ 11 - i = omega arith in
     let m′ : 12 - (i + 1) ≡ 11 - i = omega arith in
     rw (m′, add-one, take-suc-set out i v h)
     (append-assoc (take i out) (v ∷ []) (columns (11 - i) ink bits (bits / 2 ^ (11 - i) % 2))
     ∙ ap (λ (x : ℕ). take i out ++ (x ∷ columns (11 - i) ink bits (bits / 2 ^ (11 - i) % 2))) p
-    ∙ ap (λ (n : ℕ). take i out ++ (pixel ink (bits / 2 ^ n % 2) left ∷ columns n ink bits (bits / 2 ^ n % 2))) (sym m)
-    ∙ ap (λ (l : List ℕ). take i out ++ l) (sym (columns-from (12 - i) ink bits left (omega arith)))
+    ∙ ap (λ (n : ℕ). take i out ++ (pixel ink (bits / 2 ^ n % 2) (beside bits i) ∷ columns n ink bits (bits / 2 ^ n % 2))) (sym m)
+    ∙ ap (λ (l : List ℕ). take i out ++ l) (sym (columns-from (12 - i) ink bits (beside bits i) (omega arith)))
     ∙ e)
 
 pub columns-done : (ink : Ink) (bits left : ℕ) (out all : List ℕ) (i : ℕ) → i ≡ length out

@@ -89,22 +89,22 @@ fn ink_of(plain: u8, low: u8) -> Ink
 
 // The columns of a character from its leftmost on, as many as there is room for.
 fn draw_columns(out: &mut [u8], pixels: Ink, bits: u16)
-    requires { ⌜ length (now out) ≤ 12 ⌝ }
+    requires { ⌜ (length (now out) ≤ 12) × (bits < 4096) ⌝ }
     ensures { λ _. ⌜ now (out .exit) ≡ take (length (now (out .entry))) (columns 12 pixels bits 0) ⌝ }
 {
     let mut i = 0;
-    let mut left: u16 = 0;
     while i < out.len() {
+        let left = (bits >> (12 - i)) % 2;
         let bit = (bits >> (11 - i)) % 2;
         out[i] = pick(bit, pixels.fore, pick(left, pixels.cast, pixels.back));
-        left = bit;
         i += 1;
     }
 }
 
 // The bits that a character shows: none where it is hidden.
 fn bits_shown(hidden: bool, low: u8, bits: u16) -> u16
-    ensures { λ r. ⌜ r ≡ shownBits hidden low bits ⌝ }
+    ensures shown { λ r. ⌜ r ≡ shownBits hidden low bits ⌝ }
+    ensures most { λ r. ⌜ r ≤ bits ⌝ }
 {
     if low / 128 % 2 == 1 {
         if hidden {

@@ -1,6 +1,7 @@
 -- `draw_character`: the columns of what the lookup shows.
 -- Assumes nothing.
 use mathlib.Core.Path.{ap, _∙_}
+use native.Mathlib.Omega.{arith}
 use Rattle.glyph.specs.declared.Shown.{Shown}
 use Rattle.glyph.specs.Glyph.{shownIn}
 use Rattle.line.specs.Line.{character}
@@ -18,7 +19,8 @@ bits-shown-requires : tie.Need-bits-shown-requires
 bits-shown-requires c κs = search needs
 
 draw-columns-requires : tie.Need-draw-columns-requires
-draw-columns-requires c κs = search needs
+draw-columns-requires c κs =
+    (search needs, omega (arith, c .bits-shown .ensures .1, c .before .before .before .lookup .ensures .1))
 
 same-length : tie.Need-same-length
 same-length c = search needs
@@ -27,9 +29,9 @@ returns : tie.Need-returns
 unfolding character shownIn
 returns c =
     let k = c .before .before in
-    let s = k .before .before .before .before .lookup .ensures in
+    let s = k .before .before .before .before .lookup .ensures .0 in
     record {
-      pixels = k .draw-columns .ensures ∙ rw (k .before .before .ink-of .ensures, k .before .bits-shown .ensures, s);
+      pixels = k .draw-columns .ensures ∙ rw (k .before .before .ink-of .ensures, k .before .bits-shown .ensures .0, s);
       reads = ap (λ (x : Shown). x .cells) s;
     }
 
