@@ -29,6 +29,10 @@ freshBus = record { state = Idle; counter = 0 }
 abbrev pub freshRam : List ℕ
 freshRam = replicate 1024 0
 
+-- an event by its number, for those who number them: 0 start, 1 a byte from the host, 2 a fetch, else stop
+abbrev pub eventOf : ℕ → ℕ → Event
+eventOf kind byte = cond (eqb kind 0) Start (cond (eqb kind 1) (Byte byte) (cond (eqb kind 2) Fetch Stop))
+
 -- ---- the state and the counter
 
 -- the address that the counter holds, 0000 to 3FFF

@@ -1,7 +1,7 @@
 // The two-wire bus: what an event does to the bus, the registers and the lent RAM, and how it is answered.
 ghost use mathlib.Core.Path.{_≡_};
 ghost use lib.ListN.{length};
-ghost use Rattle.bus.specs.Bus.{freshBus, freshRam, goes, steps, slave, byteAt, fetchAt, step, registersWith, ramWith, byteIn, busEvent, outcomeOf, busReply};
+ghost use Rattle.bus.specs.Bus.{freshBus, freshRam, eventOf, goes, steps, slave, byteAt, fetchAt, step, registersWith, ramWith, byteIn, busEvent, outcomeOf, busReply};
 use refusals::Refusal;
 use registers::Registers;
 
@@ -63,6 +63,20 @@ pub struct Heard {
     pub bus: Bus,
     pub registers: Registers,
     pub answer: BusAnswer,
+}
+
+impl Event {
+    // The event of a number: 0 start, 1 a byte from the host, 2 a fetch, else stop.
+    pub fn of_kind(kind: u8, byte: u8) -> Event
+        ensures { λ r. ⌜ r ≡ eventOf kind byte ⌝ }
+    {
+        match kind {
+            0 => Event::Start,
+            1 => Event::Byte(byte),
+            2 => Event::Fetch,
+            _ => Event::Stop,
+        }
+    }
 }
 
 // The RAM of a fresh device, to be lent to bus and drawing.

@@ -67,7 +67,7 @@ fn length(choice: u8) -> usize {
 fn heard(host: Host, ram: &mut [u8], kind: u8, byte: u8) -> Host {
     let bus = host.bus;
     let registers = host.registers;
-    let h = bus::hear(bus, registers, ram, event(kind, byte));
+    let h = bus::hear(bus, registers, ram, Event::of_kind(kind, byte));
     name(kind, byte);
     let answer = h.answer;
     show(answer);
@@ -77,15 +77,6 @@ fn heard(host: Host, ram: &mut [u8], kind: u8, byte: u8) -> Host {
         bus: next,
         registers: kept,
         lent: host.lent,
-    }
-}
-
-fn event(kind: u8, byte: u8) -> Event {
-    match kind {
-        0 => Event::Start,
-        1 => Event::Byte(byte),
-        2 => Event::Fetch,
-        _ => Event::Stop,
     }
 }
 

@@ -115,7 +115,7 @@ fn call(host: Host, ram: &mut [u8], step: Step) -> Host {
     let device = host.device;
     let kind = step.kind;
     match kind {
-        0 => host.with(hear(device, ram, event(step.a, step.b))),
+        0 => host.with(hear(device, ram, Event::of_kind(step.a, step.b))),
         1 => host.with(write(device, ram, step)),
         2 => host.with(start(device, step)),
         _ => host.with(device.reset()),
@@ -142,15 +142,6 @@ impl Host {
             font: self.font,
             sum: sum,
         }
-    }
-}
-
-fn event(kind: u8, byte: u8) -> Event {
-    match kind {
-        0 => Event::Start,
-        1 => Event::Byte(byte),
-        2 => Event::Fetch,
-        _ => Event::Stop,
     }
 }
 

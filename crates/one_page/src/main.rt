@@ -172,7 +172,7 @@ fn wanted(which: u8, kind: u8) -> bool {
 // Kinds 0 to 3 are bus events, 4 to 9 other calls, and the rest set up and print.
 fn turn(host: Host, step: Step, ram: &mut [u8], font: &mut [u8]) -> Host {
     if step.kind < 4 {
-        return heard(host, event(step.kind, step.a), ram);
+        return heard(host, Event::of_kind(step.kind, step.a), ram);
     }
     if step.kind < 10 {
         return called(host, step, ram, font);
@@ -237,15 +237,6 @@ fn print(host: Host, kind: u8, ram: &[u8]) -> Host {
 
 fn number(step: Step) -> u32 {
     step.a as u32 + 256 * (step.b as u32)
-}
-
-fn event(kind: u8, byte: u8) -> Event {
-    match kind {
-        0 => Event::Start,
-        1 => Event::Byte(byte),
-        2 => Event::Fetch,
-        _ => Event::Stop,
-    }
 }
 
 fn heard(host: Host, event: Event, ram: &mut [u8]) -> Host {

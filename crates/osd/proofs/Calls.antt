@@ -1,0 +1,216 @@
+-- Each call of the interface, from what the device's function returned: the cases of the definitions.
+-- Assumes nothing.
+use Prim.Native.Nat.{ℕ, suc, _+_, _-_, _%_, _≤_, _<_}
+use mathlib.Core.Path.{_≡_, refl, sym, ap, ap₂, _∙_}
+use mathlib.Core.Bool.{Bool, true, false, cond}
+use mathlib.Core.List.{List, _∷_, _++_}
+use native.Mathlib.Omega.{arith}
+use borrow.Author.Tests.{eq-eqb, ne-eqb, lt-ltb, le-ltb}
+use lib.Dec.{eqb}
+use lib.Bits.{bitAnd}
+use lib.ListN.{length, getD, take, drop, set, take-append-drop, length-take, length-drop}
+use lib.Seq.{drop-drop, set-append-left, length-take-le, getD-take, getD-drop}
+use Rattle.refusals.specs.declared.Refusal.{Refusal}
+use Rattle.refusals.specs.declared.Refusal.the-variants.{RamLength, FontLength, LineLength, NoLine, NotAcknowledged, FrameLines, BenchLength, CellRange}
+use Rattle.refusals.specs.Refusals.{numberOf, refused}
+use Rattle.registers.specs.declared.Registers.{Registers}
+use Rattle.registers.specs.Registers.{kept, stored}
+use Rattle.bus.specs.declared.Bus.{Bus}
+use Rattle.bus.specs.declared.Step.{Step}
+use Rattle.bus.specs.declared.Event.{Event}
+use Rattle.bus.specs.declared.Effect.{Effect}
+use Rattle.bus.specs.declared.Effect.the-variants.{Acknowledge, Ignore, Store, Load}
+use Rattle.bus.specs.Bus.{eventOf, step, isRegister, registersWith, ramWith, answerTo, taken, busEvent, byteIn}
+use Rattle.device.specs.declared.Device.{Device}
+use Rattle.device.specs.declared.StartDone.{StartDone}
+use Rattle.device.specs.declared.DrawDone.{DrawDone}
+use Rattle.device.specs.declared.StartAnswer.the-variants as start
+use Rattle.device.specs.declared.DrawAnswer.the-variants as draw
+use Rattle.device.specs.Device.{freshDevice, hearEvent, startOutcome, startFrame, drawOutcome, drawLine, askCell}
+use Rattle.layout.specs.Layout.{busBytes, busIn, registersIn, frameBytes, deviceBytes, deviceIn}
+use Rattle.osd.specs.Interface as osd
+use Rattle.osd.specs.Interface.{answerOf, notTaken, freshOn, ignoredOn, heardOn, touched, busOn, storedOn, startedOn, startOn, drawnOn, drawOn, cellOn}
+
+-- a refusal's number is not 0
+not-zero : (r : Refusal) → eqb (numberOf r) 0 ≡ false
+not-zero RamLength = refl
+not-zero FontLength = refl
+not-zero LineLength = refl
+not-zero NoLine = refl
+not-zero NotAcknowledged = refl
+not-zero FrameLines = refl
+not-zero BenchLength = refl
+not-zero CellRange = refl
+
+-- ---- fresh, and reset
+
+pub fresh-not : (xs : List ℕ) → (length xs ≡ 32 → ⊥) → _≡_ {A = osd.Done} (record { device = xs; answer = notTaken }) (freshOn xs)
+unfolding freshOn
+fresh-not xs h = rw (ne-eqb _ _ h)
+
+pub fresh-done : (xs ys : List ℕ) → length xs ≡ 32 → ys ≡ deviceBytes freshDevice → _≡_ {A = osd.Done} (record { device = ys; answer = 0 }) (freshOn xs)
+unfolding freshOn
+fresh-done xs ys h e = rw (eq-eqb _ _ h) (ap (λ (l : List ℕ). record { device = l; answer = 0 }) e)
+
+-- ---- frame start
+
+pub start-not : (xs : List ℕ) (lines : ℕ) → (length xs ≡ 32 → ⊥) → _≡_ {A = osd.Done} (record { device = xs; answer = notTaken }) (startOn xs lines)
+unfolding startOn
+start-not xs lines h = rw (ne-eqb _ _ h)
+
+module _ (xs : List ℕ) (lines : ℕ) (x : Device) (d : StartDone) (h : length xs ≡ 32) (u : x ≡ deviceIn xs) (e : startOutcome d ≡ startFrame x lines) where
+  start-is : startedOn xs (startOutcome d) ≡ startOn xs lines
+  unfolding startOn
+  start-is = rw (eq-eqb _ _ h) (ap (startedOn xs) (e ∙ ap (λ (y : Device). startFrame y lines) u))
+
+  pub start-done : (ys : List ℕ) → d .answer ≡ start.Started → ys ≡ take 20 xs ++ (d .device .next ∷ frameBytes (d .device .frame))
+      → _≡_ {A = osd.Done} (record { device = ys; answer = 0 }) (startOn xs lines)
+  unfolding startedOn
+  start-done ys q p = by ∙ start-is
+    where
+      by : _≡_ {A = osd.Done} (record { device = ys; answer = 0 }) (startedOn xs (startOutcome d))
+      by = rw q (ap (λ (l : List ℕ). record { device = l; answer = 0 }) p)
+
+  pub start-refused : (r : Refusal) (a : ℕ) → d .answer ≡ start.Refused r → a ≡ answerOf (refused r)
+      → _≡_ {A = osd.Done} (record { device = xs; answer = a }) (startOn xs lines)
+  unfolding startedOn
+  start-refused r a q p = by ∙ start-is
+    where
+      by : _≡_ {A = osd.Done} (record { device = xs; answer = a }) (startedOn xs (startOutcome d))
+      by = rw (q, not-zero r) (ap (λ (n : ℕ). record { device = xs; answer = n }) p)
+
+-- ---- draw
+
+pub draw-not : (xs ram font line : List ℕ) → (length xs ≡ 32 → ⊥)
+    → _≡_ {A = osd.DrawDone} (record { device = xs; line = line; answer = notTaken }) (drawOn xs ram font line)
+unfolding drawOn
+draw-not xs ram font line h = rw (ne-eqb _ _ h)
+
+module _ (xs ram font line line′ : List ℕ) (x : Device) (d : DrawDone) (h : length xs ≡ 32) (u : x ≡ deviceIn xs)
+    (e : drawOutcome d line′ ≡ drawLine x ram font line) where
+  draw-is : drawnOn xs (drawOutcome d line′) ≡ drawOn xs ram font line
+  unfolding drawOn
+  draw-is = rw (eq-eqb _ _ h) (ap (drawnOn xs) (e ∙ ap (λ (y : Device). drawLine y ram font line) u))
+
+  pub draw-done : (ys : List ℕ) (n : ℕ) → d .answer ≡ draw.Drawn n → ys ≡ take 21 xs ++ frameBytes (d .device .frame)
+      → _≡_ {A = osd.DrawDone} (record { device = ys; line = line′; answer = n }) (drawOn xs ram font line)
+  unfolding drawnOn
+  draw-done ys n q p = by ∙ draw-is
+    where
+      by : _≡_ {A = osd.DrawDone} (record { device = ys; line = line′; answer = n }) (drawnOn xs (drawOutcome d line′))
+      by = let z : n ≡ 0 + n = omega arith in rw q (λ i. record { device = p i; line = line′; answer = z i })
+
+  pub draw-refused : (r : Refusal) (a : ℕ) → d .answer ≡ draw.Refused r → a ≡ answerOf (refused r)
+      → _≡_ {A = osd.DrawDone} (record { device = xs; line = line′; answer = a }) (drawOn xs ram font line)
+  unfolding drawnOn
+  draw-refused r a q p = by ∙ draw-is
+    where
+      by : _≡_ {A = osd.DrawDone} (record { device = xs; line = line′; answer = a }) (drawnOn xs (drawOutcome d line′))
+      by = rw (q, not-zero r) (ap (λ (n : ℕ). record { device = xs; line = line′; answer = n }) p)
+
+-- ---- cell question
+
+pub cell-not : (xs ram : List ℕ) (cell : ℕ) → (length xs ≡ 32 → ⊥) → notTaken ≡ cellOn xs ram cell
+unfolding cellOn
+cell-not xs ram cell h = rw (ne-eqb _ _ h)
+
+pub cell-done : (xs ram : List ℕ) (cell a : ℕ) → length xs ≡ 32 → a ≡ answerOf (askCell (deviceIn xs) ram cell) → a ≡ cellOn xs ram cell
+unfolding cellOn
+cell-done xs ram cell a h e = rw (eq-eqb _ _ h) e
+
+-- ---- the registers in their place
+
+rest-is : (xs : List ℕ) → take 16 (drop 4 xs) ++ drop 20 xs ≡ drop 4 xs
+rest-is xs = ap (λ (l : List ℕ). take 16 (drop 4 xs) ++ l) (sym (drop-drop 16 4 xs)) ∙ take-append-drop 16 (drop 4 xs)
+
+set-in-place : (xs : List ℕ) (i v : ℕ) → length xs ≡ 32 → i < 16 → set (drop 4 xs) i v ≡ set (take 16 (drop 4 xs)) i v ++ drop 20 xs
+set-in-place xs i v h k =
+    ap (λ (l : List ℕ). set l i v) (sym (rest-is xs))
+    ∙ set-append-left (take 16 (drop 4 xs)) (drop 20 xs) i v (omega (arith, length-take 16 (drop 4 xs), length-drop 4 xs))
+
+stored-in-place : (b : Bus) (xs : List ℕ) (a x : ℕ) → length xs ≡ 32
+    → storedOn a x (busBytes b ++ drop 4 xs) ≡ busBytes b ++ (registersWith (Store a x) (registersIn xs) .bytes ++ drop 20 xs)
+unfolding registersWith
+stored-in-place b xs a x h = by (isRegister a)
+  where
+    i : ℕ
+    i = (a - 0x3FF0) % 16
+
+    v : ℕ
+    v = bitAnd x (getD kept i 0)
+
+    by : (t : Bool)
+        → cond t (set (busBytes b ++ drop 4 xs) (4 + i) v) (busBytes b ++ drop 4 xs)
+        ≡ busBytes b ++ (cond t (stored (registersIn xs) (a - 0x3FF0) x) (registersIn xs) .bytes ++ drop 20 xs)
+    by true =
+        let four : 4 + i ≡ suc (suc (suc (suc i))) = omega arith in
+        rw four (ap (λ (l : List ℕ). busBytes b ++ l) (set-in-place xs i v h (omega arith)))
+    by false = ap (λ (l : List ℕ). busBytes b ++ l) (sym (rest-is xs))
+
+-- the byte of a register, in its place
+pub fetched-in-place : (xs : List ℕ) (i : ℕ) → i < 16 → getD xs (4 + i) 0 ≡ getD (take 16 (drop 4 xs)) i 0
+fetched-in-place xs i k = sym (getD-take 16 (drop 4 xs) i 0 k ∙ getD-drop 4 xs i 0)
+
+-- ---- what the bus asks of the cells
+
+module _ (xs ram ys : List ℕ) (s : Step) (h : length xs ≡ 32) (e : ys ≡ busBytes (s .bus) ++ drop 4 xs) where
+  pub applied-acknowledge : s .effect ≡ Acknowledge
+      → _≡_ {A = osd.BusDone} (record { device = ys; ram = ram; answer = 0 }) (heardOn xs (taken s (registersIn xs) ram))
+  unfolding heardOn taken registersWith ramWith answerTo
+  applied-acknowledge q =
+      rw q (ap (λ (l : List ℕ). record { device = l; ram = ram; answer = 0 }) (e ∙ ap (λ (l : List ℕ). busBytes (s .bus) ++ l) (sym (rest-is xs))))
+
+  pub applied-store : (a x : ℕ) (zs ram′ : List ℕ) → s .effect ≡ Store a x → zs ≡ storedOn a x ys → ram′ ≡ ramWith (Store a x) ram
+      → _≡_ {A = osd.BusDone} (record { device = zs; ram = ram′; answer = 0 }) (heardOn xs (taken s (registersIn xs) ram))
+  unfolding heardOn taken answerTo
+  applied-store a x zs ram′ q p r =
+      let place = p ∙ ap (storedOn a x) e ∙ stored-in-place (s .bus) xs a x h in
+      rw q (λ i. record { device = place i; ram = r i; answer = 0 })
+
+  pub applied-load : (a byte : ℕ) → s .effect ≡ Load a → byte ≡ byteIn a (registersIn xs) ram
+      → _≡_ {A = osd.BusDone} (record { device = ys; ram = ram; answer = byte }) (heardOn xs (taken s (registersIn xs) ram))
+  unfolding heardOn taken registersWith ramWith answerTo
+  applied-load a byte q p =
+      let stay = e ∙ ap (λ (l : List ℕ). busBytes (s .bus) ++ l) (sym (rest-is xs)) in
+      let z : byte ≡ 0 + byteIn a (registersIn xs) ram = omega (arith, p) in
+      rw q (λ i. record { device = stay i; ram = ram; answer = z i })
+
+pub applied-ignore : (xs ram ys : List ℕ) (s : Step) (a : ℕ) → s .effect ≡ Ignore → ys ≡ ignoredOn (s .bus .state) xs → a ≡ answerOf (refused NotAcknowledged)
+    → _≡_ {A = osd.BusDone} (record { device = ys; ram = ram; answer = a }) (heardOn xs (taken s (registersIn xs) ram))
+unfolding heardOn taken registersWith ramWith answerTo
+applied-ignore xs ram ys s a q e p = rw q (λ i. record { device = e i; ram = ram; answer = p i })
+
+-- ---- bus event
+
+pub bus-not-record : (xs ram : List ℕ) (kind byte : ℕ) → (length xs ≡ 32 → ⊥)
+    → _≡_ {A = osd.BusDone} (record { device = xs; ram = ram; answer = notTaken }) (busOn xs ram kind byte)
+unfolding busOn
+bus-not-record xs ram kind byte h = rw (ne-eqb _ _ h)
+
+pub bus-not-kind : (xs ram : List ℕ) (kind byte : ℕ) → length xs ≡ 32 → 3 < kind
+    → _≡_ {A = osd.BusDone} (record { device = xs; ram = ram; answer = notTaken }) (busOn xs ram kind byte)
+unfolding busOn
+bus-not-kind xs ram kind byte h k = rw (eq-eqb _ _ h, lt-ltb _ _ k)
+
+module _ (xs ram : List ℕ) (kind byte : ℕ) (h : length xs ≡ 32) (k : kind ≤ 3) where
+  bus-is : heardOn xs (busEvent (busIn xs) (registersIn xs) ram (eventOf kind byte)) ≡ busOn xs ram kind byte
+  unfolding busOn hearEvent
+  bus-is = rw (eq-eqb _ _ h, le-ltb _ _ k)
+
+  -- refused for the RAM's length
+  pub bus-refused : (a : ℕ) → (length ram ≡ 1024 → ⊥) → a ≡ answerOf (refused RamLength)
+      → _≡_ {A = osd.BusDone} (record { device = xs; ram = ram; answer = a }) (busOn xs ram kind byte)
+  unfolding heardOn busEvent
+  bus-refused a r p = by ∙ bus-is
+    where
+      by : _≡_ {A = osd.BusDone} (record { device = xs; ram = ram; answer = a }) (heardOn xs (busEvent (busIn xs) (registersIn xs) ram (eventOf kind byte)))
+      by = rw (ne-eqb _ _ r) (ap (λ (n : ℕ). record { device = xs; ram = ram; answer = n }) p)
+
+  -- heard: the step of the bus, applied
+  pub bus-heard : (b : Bus) (e : Event) (s : Step) (o : osd.BusDone) → length ram ≡ 1024 → b ≡ busIn xs → e ≡ eventOf kind byte → s ≡ step b e
+      → o ≡ heardOn xs (taken s (registersIn xs) ram) → o ≡ busOn xs ram kind byte
+  unfolding busEvent
+  bus-heard b e s o r p q t u = u ∙ ap (λ (x : Step). heardOn xs (taken x (registersIn xs) ram)) (t ∙ ap₂ step p q) ∙ by ∙ bus-is
+    where
+      by : heardOn xs (taken (step (busIn xs) (eventOf kind byte)) (registersIn xs) ram) ≡ heardOn xs (busEvent (busIn xs) (registersIn xs) ram (eventOf kind byte))
+      by = rw (eq-eqb _ _ r)

@@ -1,0 +1,44 @@
+-- `load`: the tests on the address pick the case of `byteIn`.
+-- Assumes nothing.
+use Prim.Native.Nat.{_-_, _%_}
+use native.Mathlib.Omega.{arith}
+use denote.Ref.{now}
+use borrow.Author.Tests.{lt-ltb, le-ltb, le-leb, lt-leb}
+use borrow.Author.Needs.{needs}
+use Rattle.osd.proofs.Calls.{fetched-in-place}
+use Rattle.osd.proofs.load.Statement.{statement}
+use Rattle.osd.proofs.load.Tie as tie
+
+shared-slice-read-result : tie.Need-shared-slice-read-result
+shared-slice-read-result c = search needs
+
+returns : tie.Need-returns
+returns c = rw (lt-ltb _ _ (c .before .if1 .taken))
+
+cast-i : tie.Need-cast-i
+cast-i c = search needs
+
+add-result : tie.Need-add-result
+add-result c = search needs
+
+shared-slice-read-result-2 : tie.Need-shared-slice-read-result-2
+shared-slice-read-result-2 c = search needs
+
+returns-2 : tie.Need-returns-2
+returns-2 c =
+    rw (le-ltb _ _ (c .before .before .if1 .left), le-leb _ _ (c .before .if2 .taken)) (fetched-in-place (now (c .before .before .before .args .device)) ((c .before .before .before .args .address - 0x3FF0) % 16) (omega arith))
+
+returns-3 : tie.Need-returns-3
+returns-3 c = rw (le-ltb _ _ (c .before .if1 .left), lt-leb _ _ (c .if2 .left))
+
+pub load-spec : {M : Type 1} → statement M
+load-spec =
+    tie.close
+    (tie.spec
+    shared-slice-read-result
+    returns
+    cast-i
+    add-result
+    shared-slice-read-result-2
+    returns-2
+    returns-3)

@@ -1,0 +1,59 @@
+-- `osd_bus`: refused, or the step of the bus applied.
+-- Assumes nothing.
+use borrow.Author.Needs.{needs}
+use Rattle.osd.proofs.Calls.{bus-not-record, bus-not-kind, bus-refused, bus-heard}
+use Rattle.osd.proofs.osd_bus.Statement.{statement}
+use Rattle.osd.proofs.osd_bus.Tie as tie
+
+returns : tie.Need-returns
+returns c = bus-not-record _ _ _ _ (c .if1 .taken)
+
+returns-2 : tie.Need-returns-2
+returns-2 c = bus-not-kind _ _ _ _ (c .before .if1 .left) (c .if2 .taken)
+
+refuse-requires : tie.Need-refuse-requires
+refuse-requires c κs = search needs
+
+returns-3 : tie.Need-returns-3
+returns-3 c = bus-refused _ _ _ _ (c .before .before .before .if1 .left) (c .before .before .if2 .left) _ (c .before .if3 .taken) (c .refuse .ensures)
+
+bus-in-requires : tie.Need-bus-in-requires
+bus-in-requires c κs = search needs
+
+of-kind-requires : tie.Need-of-kind-requires
+of-kind-requires c κs = search needs
+
+take-requires : tie.Need-take-requires
+take-requires c κs = search needs
+
+apply-requires : tie.Need-apply-requires
+apply-requires c κs = search needs
+
+same-length : tie.Need-same-length
+same-length c = search needs
+
+same-length-2 : tie.Need-same-length-2
+same-length-2 c = search needs
+
+returns-4 : tie.Need-returns-4
+returns-4 c =
+    let k = c .before .before .before .before in
+    let b = k .before .before .before .before .before in
+    bus-heard _ _ _ _ (b .before .before .before .before .if1 .left) (b .before .before .before .if2 .left) (b .bus-in .result) (k .before .before .of-kind .result) (k .before .take .result) _
+    (b .before .before .if3 .left) (b .bus-in .ensures) (k .before .before .of-kind .ensures) (k .before .take .ensures) (k .apply .ensures)
+
+pub osd-bus-spec : {M : Type 1} → statement M
+osd-bus-spec =
+    tie.close
+    (tie.spec
+    returns
+    returns-2
+    refuse-requires
+    returns-3
+    bus-in-requires
+    of-kind-requires
+    take-requires
+    apply-requires
+    same-length
+    same-length-2
+    returns-4)

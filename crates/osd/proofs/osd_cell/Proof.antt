@@ -1,0 +1,54 @@
+-- `osd_cell`: refused, or the answer of the question.
+-- Assumes nothing.
+use Prim.Native.Nat.{ℕ, _+_, _*_}
+use mathlib.Core.Path.{ap, ap₂, _∙_}
+use denote.Ref.{now}
+use borrow.Author.Needs.{needs}
+use Rattle.device.specs.declared.Device.{Device}
+use Rattle.device.specs.Device.{askCell}
+use Rattle.osd.specs.Interface.{answerOf}
+use Rattle.osd.proofs.Calls.{cell-not, cell-done}
+use Rattle.osd.proofs.osd_cell.Statement.{statement}
+use Rattle.osd.proofs.osd_cell.Tie as tie
+
+returns : tie.Need-returns
+returns c = cell-not _ _ _ (c .if1 .taken)
+
+device-in-requires : tie.Need-device-in-requires
+device-in-requires c κs = search needs
+
+ask-requires : tie.Need-ask-requires
+ask-requires c κs = search needs
+
+refusal-requires : tie.Need-refusal-requires
+refusal-requires c κs = search needs
+
+value-requires : tie.Need-value-requires
+value-requires c κs = search needs
+
+cast-answer : tie.Need-cast-answer
+cast-answer c = search needs
+
+answer-requires : tie.Need-answer-requires
+answer-requires c κs = search needs
+
+returns-2 : tie.Need-returns-2
+returns-2 c =
+    let k = c .before .before .before in
+    let a = k .before .before .before .before .before .args in
+    cell-done _ _ _ _ (k .before .before .if1 .left)
+    (c .answer .ensures ∙ ap₂ (λ (r v : ℕ). r * 65536 + v) (c .before .before .refusal .ensures) (c .before .value .ensures)
+    ∙ ap answerOf (k .ask .ensures ∙ ap (λ (d : Device). askCell d (now (a .ram)) (a .cell)) (k .before .device-in .ensures)))
+
+pub osd-cell-spec : {M : Type 1} → statement M
+osd-cell-spec =
+    tie.close
+    (tie.spec
+    returns
+    device-in-requires
+    ask-requires
+    refusal-requires
+    value-requires
+    cast-answer
+    answer-requires
+    returns-2)

@@ -1,0 +1,214 @@
+// The device for firmware to link: include/osd.h has each function as C sees it. The record crosses as 32 lent bytes.
+ghost use mathlib.Core.Path.{_≡_};
+ghost use Prim.Native.Nat.{_+_, _*_};
+ghost use lib.ListN.{length};
+ghost use Rattle.refusals.specs.Refusals.{refused};
+ghost use Rattle.bus.specs.declared.Effect.the-variants.{Store};
+ghost use Rattle.bus.specs.Bus.{ramWith, byteIn, taken};
+ghost use Rattle.layout.specs.Layout.{registersIn};
+ghost use Rattle.osd.specs.Interface.{answerOf, freshOn, ignoredOn, heardOn, busOn, storedOn, startOn, drawOn, cellOn};
+use bus::Bus;
+use bus::Effect;
+use bus::Event;
+use bus::State;
+use bus::Step;
+use device::Device;
+use device::DrawAnswer;
+use device::StartAnswer;
+use refusals::Refusal;
+use registers::Registers;
+
+const DEVICE_LENGTH: usize = 32;
+
+const RAM_LENGTH: usize = 1024;
+
+// Refusal 255, the interface's own.
+const NOT_TAKEN: u32 = 0xFF0000;
+
+// The refusal's number above, the value below.
+fn answer(refusal: u8, value: u16) -> u32
+    ensures { λ r. ⌜ r ≡ refusal * 65536 + value ⌝ }
+{
+    refusal as u32 * 65536 + value as u32
+}
+
+fn refuse(refusal: Refusal) -> u32
+    ensures { λ r. ⌜ r ≡ answerOf (refused refusal) ⌝ }
+{
+    answer(refusal.number(), refusal.value() as u16)
+}
+
+#[no_mangle]
+pub extern "C" fn osd_device_len() -> u32
+    ensures { λ r. ⌜ r ≡ 32 ⌝ }
+{
+    32
+}
+
+#[no_mangle]
+pub extern "C" fn osd_fresh(device: &mut [u8]) -> u32
+    ensures { λ r. ⌜ record { device = now (device .exit); answer = r } ≡ freshOn (now (device .entry)) ⌝ }
+{
+    if device.len() != DEVICE_LENGTH {
+        return NOT_TAKEN;
+    }
+    layout::write_device(device, Device::fresh());
+    0
+}
+
+// RAM is not touched: none is lent.
+#[no_mangle]
+pub extern "C" fn osd_reset(device: &mut [u8]) -> u32
+    ensures { λ r. ⌜ record { device = now (device .exit); answer = r } ≡ freshOn (now (device .entry)) ⌝ }
+{
+    if device.len() != DEVICE_LENGTH {
+        return NOT_TAKEN;
+    }
+    layout::write_device(device, layout::device_in(device).reset());
+    0
+}
+
+// A byte to an address: a RAM cell, a register in its place, or nothing.
+fn store(device: &mut [u8], ram: &mut [u8], address: u16, x: u8)
+    requires { ⌜ (length (now device) ≡ 32) × (length (now ram) ≡ 1024) ⌝ }
+    ensures registers { λ _. ⌜ now (device .exit) ≡ storedOn address x (now (device .entry)) ⌝ }
+    ensures cells { λ _. ⌜ now (ram .exit) ≡ ramWith (Store address x) (now (ram .entry)) ⌝ }
+{
+    if address < 0x400 {
+        ram[address as usize] = x;
+        return;
+    }
+    if address >= 0x3FF0 {
+        let i = (address - 0x3FF0) as usize % 16;
+        device[4 + i] = x & Registers::KEPT[i];
+    }
+}
+
+// The byte at an address: a RAM cell's, a register's, or 0.
+fn load(device: &[u8], ram: &[u8], address: u16) -> u8
+    requires { ⌜ (length (now device) ≡ 32) × (length (now ram) ≡ 1024) ⌝ }
+    ensures { λ r. ⌜ r ≡ byteIn address (registersIn (now (device .entry))) (now (ram .entry)) ⌝ }
+{
+    if address < 0x400 {
+        return ram[address as usize];
+    }
+    if address >= 0x3FF0 {
+        let i = (address - 0x3FF0) as usize % 16;
+        return device[4 + i];
+    }
+    0
+}
+
+// An event that is not acknowledged writes no byte, unless the device turns deaf.
+fn ignore(device: &mut [u8], state: State)
+    requires { ⌜ length (now device) ≡ 32 ⌝ }
+    ensures { λ _. ⌜ now (device .exit) ≡ ignoredOn state (now (device .entry)) ⌝ }
+{
+    if layout::state_number(state) == 1 {
+        device[0] = 1;
+    }
+}
+
+// What the bus asks of the cells, done in place.
+fn apply(device: &mut [u8], ram: &mut [u8], step: Step) -> u32
+    requires { ⌜ (length (now device) ≡ 32) × (length (now ram) ≡ 1024) ⌝ }
+    ensures { λ r. ⌜ record { device = now (device .exit); ram = now (ram .exit); answer = r } ≡ heardOn (now (device .entry)) (taken step (registersIn (now (device .entry))) (now (ram .entry))) ⌝ }
+{
+    let next = step.bus;
+    let effect = step.effect;
+    match effect {
+        Effect::Acknowledge => {
+            layout::write_bus(device, next);
+            0
+        }
+        Effect::Ignore => {
+            let state = next.state;
+            ignore(device, state);
+            refuse(Refusal::NotAcknowledged)
+        }
+        Effect::Store(address, x) => {
+            layout::write_bus(device, next);
+            store(device, ram, address, x);
+            0
+        }
+        Effect::Load(address) => {
+            let byte = load(device, ram, address);
+            layout::write_bus(device, next);
+            byte as u32
+        }
+    }
+}
+
+// Only the bus part and one register are read and written: the rest of the record stays where it is.
+#[no_mangle]
+pub extern "C" fn osd_bus(device: &mut [u8], ram: &mut [u8], kind: u8, byte: u8) -> u32
+    ensures { λ r. ⌜ record { device = now (device .exit); ram = now (ram .exit); answer = r } ≡ busOn (now (device .entry)) (now (ram .entry)) kind byte ⌝ }
+{
+    if device.len() != DEVICE_LENGTH {
+        return NOT_TAKEN;
+    }
+    if kind > 3 {
+        return NOT_TAKEN;
+    }
+    if ram.len() != RAM_LENGTH {
+        return refuse(Refusal::RamLength);
+    }
+    let bus = layout::bus_in(device);
+    apply(device, ram, bus.take(Event::of_kind(kind, byte)))
+}
+
+#[no_mangle]
+pub extern "C" fn osd_frame_start(device: &mut [u8], lines: u32) -> u32
+    ensures { λ r. ⌜ record { device = now (device .exit); answer = r } ≡ startOn (now (device .entry)) lines ⌝ }
+{
+    if device.len() != DEVICE_LENGTH {
+        return NOT_TAKEN;
+    }
+    let done = layout::device_in(device).start_frame(lines);
+    let answer = done.answer;
+    match answer {
+        StartAnswer::Started => {
+            let next = done.device;
+            let frame = next.frame;
+            layout::write_start(device, next.next, frame);
+            0
+        }
+        StartAnswer::Refused(refusal) => refuse(refusal),
+    }
+}
+
+#[no_mangle]
+pub extern "C" fn osd_draw<'a>(
+    device: &mut [u8],
+    ram: &'a [u8],
+    font: &'a [u8],
+    line: &mut [u8],
+) -> u32
+    ensures { λ r. ⌜ record { device = now (device .exit); line = now (line .exit); answer = r } ≡ drawOn (now (device .entry)) (now (ram .entry)) (now (font .entry)) (now (line .entry)) ⌝ }
+{
+    if device.len() != DEVICE_LENGTH {
+        return NOT_TAKEN;
+    }
+    let done = layout::device_in(device).draw_line(ram, font, line);
+    let answer = done.answer;
+    match answer {
+        DrawAnswer::Drawn(cells) => {
+            let next = done.device;
+            let frame = next.frame;
+            layout::write_frame(device, frame);
+            cells as u32
+        }
+        DrawAnswer::Refused(refusal) => refuse(refusal),
+    }
+}
+
+#[no_mangle]
+pub extern "C" fn osd_cell(device: &[u8], ram: &[u8], cell: u32) -> u32
+    ensures { λ r. ⌜ r ≡ cellOn (now (device .entry)) (now (ram .entry)) cell ⌝ }
+{
+    if device.len() != DEVICE_LENGTH {
+        return NOT_TAKEN;
+    }
+    let reply = layout::device_in(device).ask(ram, cell);
+    answer(reply.refusal(), reply.value() as u16)
+}
