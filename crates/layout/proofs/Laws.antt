@@ -55,7 +55,7 @@ whole p q r s = λ i. record { bus = p i; registers = q i; frame = r i; next = s
 behind : (p q : List ℕ) (n k : ℕ) → length p ≡ n → getD (p ++ q) (n + k) 0 ≡ getD q k 0
 behind p q n k h = ap (λ (m : ℕ). getD (p ++ q) (m + k) 0) (sym h) ∙ getD-append-add p q k 0
 
-frame-alike : (xs ys : List ℕ) → ((k : ℕ) → getD xs (21 + k) 0 ≡ getD ys (21 + k) 0) → frameIn xs ≡ frameIn ys
+pub frame-alike : (xs ys : List ℕ) → ((k : ℕ) → getD xs (21 + k) 0 ≡ getD ys (21 + k) 0) → frameIn xs ≡ frameIn ys
 frame-alike xs ys h = rw (h 0, h 1, h 2, h 3, h 4, h 5, h 6, h 7, h 8, h 9, h 10)
 
 pub frame-back : (p : List ℕ) (f : Frame) → length p ≡ 21 → frameIn (p ++ frameBytes f) ≡ f

@@ -1,7 +1,8 @@
 -- The interface for firmware (include/osd.h): each function does on the bytes of the record what the device's function does on the
 -- record that they are read as.
 -- Assumes nothing.
-use Prim.Native.Nat.{ℕ, _+_, _-_, _*_, _%_}
+use Prim.Native.Nat.{ℕ, _+_, _-_, _*_, _%_, _≤_}
+use mathlib.Core.Path.{_≡_}
 use mathlib.Core.Bool.{Bool, not, cond, _&&_}
 use mathlib.Core.List.{List, _∷_, _++_}
 use lib.Dec.{eqb, ltb}
@@ -10,9 +11,10 @@ use lib.Bits.{bitAnd}
 use Rattle.refusals.specs.Refusals.{Reply}
 use Rattle.registers.specs.Registers.{kept}
 use Rattle.bus.specs.declared.State.{State}
+use Rattle.bus.specs.declared.State.the-variants.{Slave}
 use Rattle.bus.specs.Bus.{eventOf, isRegister, BusOutcome}
 use Rattle.device.specs.Device.{freshDevice, EventOutcome, hearEvent, StartOutcome, startFrame, DrawOutcome, drawLine, askCell}
-use Rattle.layout.specs.Layout.{stateNumber, busBytes, frameBytes, deviceBytes, deviceIn}
+use Rattle.layout.specs.Layout.{stateNumber, busBytes, busIn, frameBytes, deviceBytes, deviceIn}
 
 -- ---- answers: refusal × 65,536 + value
 
@@ -113,3 +115,16 @@ drawOn xs ram font line =
 
 unfoldable pub cellOn : List ℕ → List ℕ → ℕ → ℕ
 cellOn xs ram cell = cond (isRecord xs) (answerOf (askCell (deviceIn xs) ram cell)) notTaken
+
+-- ---- what the bytes hold after a call is read as the record that the device's function leaves
+
+pub record Crossing : Type 0 where
+  pub fresh : (xs : List ℕ) → length xs ≡ 32 → deviceIn (freshOn xs .device) ≡ freshDevice
+  pub bus : (xs ram : List ℕ) (kind byte : ℕ) → length xs ≡ 32 → kind ≤ 3
+      → deviceIn (busOn xs ram kind byte .device) ≡ hearEvent (deviceIn xs) ram (eventOf kind byte) .device
+  pub start : (xs : List ℕ) (lines : ℕ) → length xs ≡ 32 → deviceIn (startOn xs lines .device) ≡ startFrame (deviceIn xs) lines .device
+  pub draw : (xs ram font line : List ℕ) → length xs ≡ 32
+      → deviceIn (drawOn xs ram font line .device) ≡ drawLine (deviceIn xs) ram font line .device
+  -- a refused event writes no byte of the record, unless a byte comes where the slave address is awaited
+  pub silent : (xs ram : List ℕ) (kind byte : ℕ) → (kind ≡ 1 → busIn xs .state ≡ Slave → ⊥)
+      → (hearEvent (deviceIn xs) ram (eventOf kind byte) .reply .refusal ≡ 0 → ⊥) → busOn xs ram kind byte .device ≡ xs

@@ -1,0 +1,261 @@
+-- What the bytes hold after a call is read as the record that the device's function leaves.
+-- Assumes nothing.
+use Prim.Native.Nat.{ℕ, _+_, _-_, _*_, _%_, _≤_, _<_}
+use mathlib.Core.Path.{_≡_, refl, sym, ap, _∙_}
+use mathlib.Core.Bool.{Bool, true, false, not, cond, _&&_, _||_}
+use mathlib.Core.List.{List, _∷_, _++_}
+use native.Mathlib.Omega.{arith}
+use borrow.Author.Tests.{eq-eqb, ne-eqb, le-ltb, eqb-true}
+use lib.Dec.{T, eqb, ltb}
+use lib.ListN.{length, getD, take, drop, set, length-set, length-take, length-drop}
+use lib.Seq.{set-getD, getD-set-same, getD-set-other, drop-set-lt}
+use Rattle.refusals.specs.Refusals.{accepted, refused}
+use Rattle.refusals.specs.declared.Refusal.the-variants.{RamLength, FontLength, LineLength, NoLine, FrameLines}
+use Rattle.registers.specs.declared.Registers.{Registers}
+use Rattle.registers.specs.Registers.{stored}
+use Rattle.bus.specs.declared.State.{State}
+use Rattle.bus.specs.declared.State.the-variants.{Idle, Deaf, Slave, High, Low, Write, Read}
+use Rattle.bus.specs.declared.Bus.{Bus}
+use Rattle.bus.specs.declared.Step.{Step}
+use Rattle.bus.specs.declared.Event.{Event}
+use Rattle.bus.specs.declared.Event.the-variants.{Start, Byte, Fetch, Stop}
+use Rattle.bus.specs.declared.Effect.{Effect}
+use Rattle.bus.specs.declared.Effect.the-variants.{Acknowledge, Ignore, Store, Load}
+use Rattle.bus.specs.Bus.{eventOf, goes, byteAt, fetchAt, step, isRegister, registersWith, ramWith, answerTo, BusOutcome, taken, busEvent}
+use Rattle.device.specs.declared.Device.{Device}
+use Rattle.device.specs.Device.{freshDevice, hearEvent, StartOutcome, inFrame, startFrame, DrawOutcome, notDrawn, lineOn, lineWidth, lineDrawn, drawLine}
+use Rattle.layout.specs.Layout.{stateNumber, stateOf, busBytes, busIn, registersIn, frameBytes, frameIn, deviceBytes, deviceIn}
+use Rattle.layout.proofs.Laws.{frame-alike, read-back, event-back, start-back, draw-back}
+use Rattle.osd.specs.Interface.{notTaken, freshOn, ignoredOn, heardOn, busOn, startedOn, startOn, drawnOn, drawOn, Crossing}
+
+-- ---- an event that is not acknowledged
+
+-- deaf is number 1, and no other number is deaf
+deaf-by : (a b c d e f : Bool) (held : ℕ)
+    → eqb (stateNumber (cond a Deaf (cond b Slave (cond c High (cond d (Low held) (cond e Write (cond f Read Idle))))))) 1 ≡ a
+deaf-by true b c d e f held = refl
+deaf-by false true c d e f held = refl
+deaf-by false false true d e f held = refl
+deaf-by false false false true e f held = refl
+deaf-by false false false false true f held = refl
+deaf-by false false false false false true held = refl
+deaf-by false false false false false false held = refl
+
+-- where the state stays, no byte changes
+ignored-same : (xs : List ℕ) → ignoredOn (busIn xs .state) xs ≡ xs
+ignored-same xs = rw (deaf-by (eqb n 1) (eqb n 2) (eqb n 3) (eqb n 4) (eqb n 5) (eqb n 6) (getD xs 1 0)) (by (eqb n 1) refl)
+  where
+    n : ℕ
+    n = getD xs 0 0
+
+    by : (t : Bool) → eqb n 1 ≡ t → cond t (set xs 0 1) xs ≡ xs
+    by true p = ap (set xs 0) (sym (eqb-true n 1 p)) ∙ set-getD xs 0 0
+    by false p = refl
+
+abbrev isIgnore : Effect → Bool
+isIgnore Acknowledge = false
+isIgnore Ignore = true
+isIgnore (Store a x) = false
+isIgnore (Load a) = false
+
+abbrev isByte : Event → Bool
+isByte Start = false
+isByte (Byte x) = true
+isByte Fetch = false
+isByte Stop = false
+
+-- how a bus that does not acknowledge goes on
+data Ignored (b : Bus) (e : Event) (next : Bus) : Type 0 where
+  stays : next ≡ b → Ignored b e next
+  deafens : T (isByte e) → b .state ≡ Slave → next ≡ record { state = Deaf; counter = b .counter } → Ignored b e next
+
+how-byte : (s : State) (c x : ℕ) → let b : Bus = record { state = s; counter = c } in T (isIgnore (byteAt s b x .effect)) → Ignored b (Byte x) (byteAt s b x .bus)
+how-byte Idle c x t = stays refl
+how-byte Deaf c x t = stays refl
+how-byte Slave c x t = by (eqb x 0xBA) (eqb x 0xBB) t
+  where
+    b : Bus
+    b = record { state = Slave; counter = c }
+
+    by : (p q : Bool) → let s : Step = cond p (goes b High Acknowledge) (cond q (goes b Read Acknowledge) (goes b Deaf Ignore)) in T (isIgnore (s .effect)) → Ignored b (Byte x) (s .bus)
+    by true q t = absurd t
+    by false true t = absurd t
+    by false false t = deafens tt refl refl
+how-byte High c x t = absurd t
+how-byte (Low high) c x t = absurd t
+how-byte Write c x t = absurd t
+how-byte Read c x t = stays refl
+
+how-fetch : (s : State) (c : ℕ) → let b : Bus = record { state = s; counter = c } in T (isIgnore (fetchAt s b .effect)) → Ignored b Fetch (fetchAt s b .bus)
+how-fetch Idle c t = stays refl
+how-fetch Deaf c t = stays refl
+how-fetch Slave c t = stays refl
+how-fetch High c t = stays refl
+how-fetch (Low high) c t = stays refl
+how-fetch Write c t = stays refl
+how-fetch Read c t = absurd t
+
+how : (b : Bus) (e : Event) → T (isIgnore (step b e .effect)) → Ignored b e (step b e .bus)
+unfolding step
+how b Start t = absurd t
+how b (Byte x) t = how-byte (b .state) (b .counter) x t
+how b Fetch t = how-fetch (b .state) (b .counter) t
+how b Stop t = absurd t
+
+byte-kind : (kind byte : ℕ) → T (isByte (eventOf kind byte)) → kind ≡ 1
+byte-kind kind byte = by (eqb kind 0) (eqb kind 1) (eqb kind 2) refl
+  where
+    by : (a b c : Bool) → eqb kind 1 ≡ b → T (isByte (cond a Start (cond b (Byte byte) (cond c Fetch Stop)))) → kind ≡ 1
+    by true b c p t = absurd t
+    by false true c p t = eqb-true kind 1 p
+    by false false true p t = absurd t
+    by false false false p t = absurd t
+
+-- ---- the record after an event
+
+-- what an event leaves, read back: the bus and the registers are new, the rest stays
+abbrev After : List ℕ → Bus → Registers → Device
+After xs b r = record { bus = b; registers = r; frame = frameIn xs; next = getD xs 20 0 }
+
+still-sixteen : (xs : List ℕ) (f : Effect) → length xs ≡ 32 → length (registersWith f (registersIn xs) .bytes) ≡ 16
+unfolding registersWith
+still-sixteen xs Acknowledge h = omega (arith, length-take 16 (drop 4 xs), length-drop 4 xs)
+still-sixteen xs Ignore h = omega (arith, length-take 16 (drop 4 xs), length-drop 4 xs)
+still-sixteen xs (Load a) h = omega (arith, length-take 16 (drop 4 xs), length-drop 4 xs)
+still-sixteen xs (Store a x) h = by (isRegister a)
+  where
+    sixteen : length (take 16 (drop 4 xs)) ≡ 16
+    sixteen = omega (arith, length-take 16 (drop 4 xs), length-drop 4 xs)
+
+    by : (t : Bool) → length (cond t (stored (registersIn xs) (a - 0x3FF0) x) (registersIn xs) .bytes) ≡ 16
+    by true = length-set (take 16 (drop 4 xs)) _ _ ∙ sixteen
+    by false = sixteen
+
+-- the deaf bus, read back
+deaf-back : (xs : List ℕ) → length xs ≡ 32 → deviceIn (set xs 0 1) ≡ After xs (record { state = Deaf; counter = busIn xs .counter }) (registersIn xs)
+deaf-back xs h = λ i. record { bus = bus i; registers = registers i; frame = frame-alike (set xs 0 1) xs (λ (k : ℕ). other (21 + k) (omega arith)) i; next = other 20 (omega arith) i }
+  where
+    other : (k : ℕ) → 0 < k → getD (set xs 0 1) k 0 ≡ getD xs k 0
+    other k p = getD-set-other xs 0 k 1 0 (λ (q : k ≡ 0). omega (arith, p, q))
+
+    bus : busIn (set xs 0 1) ≡ record { state = Deaf; counter = busIn xs .counter }
+    bus = rw (getD-set-same xs 0 1 0 (omega arith), other 2 (omega arith), other 3 (omega arith))
+
+    registers : registersIn (set xs 0 1) ≡ registersIn xs
+    registers = ap (λ (l : List ℕ). record { bytes = take 16 l }) (drop-set-lt 4 xs 0 1 (omega arith))
+
+ignored-back : (xs : List ℕ) (e : Event) (next : Bus) → length xs ≡ 32 → Ignored (busIn xs) e next
+    → deviceIn (ignoredOn (next .state) xs) ≡ After xs next (registersIn xs)
+ignored-back xs e next h (stays p) =
+    ap (λ (b : Bus). deviceIn (ignoredOn (b .state) xs)) p ∙ ap deviceIn (ignored-same xs) ∙ ap (λ (b : Bus). After xs b (registersIn xs)) (sym p)
+ignored-back xs e next h (deafens t q p) =
+    ap (λ (b : Bus). deviceIn (ignoredOn (b .state) xs)) p ∙ deaf-back xs h ∙ ap (λ (b : Bus). After xs b (registersIn xs)) (sym p)
+
+-- by what the step asks of the cells
+heard-back : (xs ram : List ℕ) (next : Bus) (f : Effect) → length xs ≡ 32
+    → (T (isIgnore f) → deviceIn (ignoredOn (next .state) xs) ≡ After xs next (registersIn xs))
+    → deviceIn (heardOn xs (taken (record { bus = next; effect = f }) (registersIn xs) ram) .device) ≡ After xs next (registersWith f (registersIn xs))
+unfolding heardOn taken registersWith answerTo
+heard-back xs ram next Acknowledge h i = event-back next (registersIn xs) xs (still-sixteen xs Acknowledge h)
+heard-back xs ram next Ignore h i = i tt
+heard-back xs ram next (Store a x) h i = event-back next (registersWith (Store a x) (registersIn xs)) xs (still-sixteen xs (Store a x) h)
+heard-back xs ram next (Load a) h i = event-back next (registersIn xs) xs (still-sixteen xs (Load a) h)
+
+cross-bus : (xs ram : List ℕ) (kind byte : ℕ) → length xs ≡ 32 → kind ≤ 3
+    → deviceIn (busOn xs ram kind byte .device) ≡ hearEvent (deviceIn xs) ram (eventOf kind byte) .device
+unfolding busOn heardOn hearEvent busEvent taken
+cross-bus xs ram kind byte h k = rw (eq-eqb _ _ h, le-ltb _ _ k) (by (not (eqb (length ram) 1024)))
+  where
+    s : Step
+    s = step (busIn xs) (eventOf kind byte)
+
+    r : BusOutcome
+    r = record { bus = busIn xs; registers = registersIn xs; ram = ram; reply = refused RamLength }
+
+    by : (t : Bool) → let o : BusOutcome = cond t r (taken s (registersIn xs) ram) in deviceIn (heardOn xs o .device) ≡ After xs (o .bus) (o .registers)
+    by true = refl
+    by false = heard-back xs ram (s .bus) (s .effect) h (λ t. ignored-back xs (eventOf kind byte) (s .bus) h (how (busIn xs) (eventOf kind byte) t))
+
+-- ---- the record after a frame start and a draw
+
+cross-start : (xs : List ℕ) (lines : ℕ) → length xs ≡ 32 → deviceIn (startOn xs lines .device) ≡ startFrame (deviceIn xs) lines .device
+unfolding startOn startedOn startFrame inFrame
+cross-start xs lines h = rw (eq-eqb _ _ h) (by (eqb lines 0 || ltb 2048 lines))
+  where
+    d : Device
+    d = deviceIn xs
+
+    by : (t : Bool)
+        → let o : StartOutcome = cond t (record { device = d; reply = refused FrameLines }) (record { device = inFrame d lines; reply = accepted 0 }) in
+        deviceIn (startedOn xs o .device) ≡ o .device
+    by true = refl
+    by false = start-back xs (inFrame d lines .next) (inFrame d lines .frame) h
+
+cross-draw : (xs ram font line : List ℕ) → length xs ≡ 32 → deviceIn (drawOn xs ram font line .device) ≡ drawLine (deviceIn xs) ram font line .device
+unfolding drawOn drawnOn drawLine lineDrawn lineOn
+cross-draw xs ram font line h =
+    rw (eq-eqb _ _ h) (by (not (eqb (length ram) 1024)) (not (eqb (length font) 4608)) (eqb (deviceIn xs .frame .left) 0) (ltb (length line) (lineWidth (deviceIn xs))))
+  where
+    d : Device
+    d = deviceIn xs
+
+    by : (p q r t : Bool)
+        → let o : DrawOutcome =
+        cond p (notDrawn d line RamLength)
+        (cond q (notDrawn d line FontLength) (cond r (notDrawn d line NoLine) (cond t (notDrawn d line LineLength) (lineDrawn d ram font line)))) in
+        deviceIn (drawnOn xs o .device) ≡ o .device
+    by true q r t = refl
+    by false true r t = refl
+    by false false true t = refl
+    by false false false true = refl
+    by false false false false = draw-back xs (lineOn d ram .frame) h
+
+-- ---- a refused event
+
+silent-by : (xs ram : List ℕ) (next : Bus) (f : Effect) → (T (isIgnore f) → ignoredOn (next .state) xs ≡ xs)
+    → (taken (record { bus = next; effect = f }) (registersIn xs) ram .reply .refusal ≡ 0 → ⊥)
+    → heardOn xs (taken (record { bus = next; effect = f }) (registersIn xs) ram) .device ≡ xs
+unfolding heardOn taken answerTo
+silent-by xs ram next Acknowledge i n = absurd (n refl)
+silent-by xs ram next Ignore i n = i tt
+silent-by xs ram next (Store a x) i n = absurd (n refl)
+silent-by xs ram next (Load a) i n = absurd (n refl)
+
+ignored-silent : (xs : List ℕ) (e : Event) (next : Bus) → (T (isByte e) → busIn xs .state ≡ Slave → ⊥) → Ignored (busIn xs) e next
+    → ignoredOn (next .state) xs ≡ xs
+ignored-silent xs e next u (stays p) = ap (λ (b : Bus). ignoredOn (b .state) xs) p ∙ ignored-same xs
+ignored-silent xs e next u (deafens t q p) = absurd (u t q)
+
+silence : (xs ram : List ℕ) (kind byte : ℕ) → (kind ≡ 1 → busIn xs .state ≡ Slave → ⊥)
+    → (hearEvent (deviceIn xs) ram (eventOf kind byte) .reply .refusal ≡ 0 → ⊥) → busOn xs ram kind byte .device ≡ xs
+unfolding busOn heardOn hearEvent busEvent
+silence xs ram kind byte u = by (eqb (length xs) 32 && not (ltb 3 kind)) (not (eqb (length ram) 1024))
+  where
+    e : Event
+    e = eventOf kind byte
+
+    s : Step
+    s = step (busIn xs) e
+
+    r : BusOutcome
+    r = record { bus = busIn xs; registers = registersIn xs; ram = ram; reply = refused RamLength }
+
+    by : (p t : Bool)
+        → let o : BusOutcome = cond t r (taken s (registersIn xs) ram) in
+        (o .reply .refusal ≡ 0 → ⊥) → cond p (heardOn xs o) (record { device = xs; ram = ram; answer = notTaken }) .device ≡ xs
+    by false t n = refl
+    by true true n = refl
+    by true false n =
+        silent-by xs ram (s .bus) (s .effect)
+        (λ t. ignored-silent xs e (s .bus) (λ c. u (byte-kind kind byte c)) (how (busIn xs) e t)) n
+
+pub crossing : Crossing
+unfolding freshOn freshDevice
+crossing =
+    record {
+      fresh = λ xs h. rw (eq-eqb _ _ h) (read-back freshDevice refl);
+      bus = cross-bus;
+      start = cross-start;
+      draw = cross-draw;
+      silent = silence;
+    }
