@@ -84,13 +84,20 @@ fn held_high(state: State) -> u8
     }
 }
 
+pub fn counter_in(device: &[u8]) -> u16
+    requires { ⌜ length (now device) ≡ 32 ⌝ }
+    ensures { λ r. ⌜ r ≡ busIn (now (device .entry)) .counter ⌝ }
+{
+    word(device[2], device[3])
+}
+
 pub fn bus_in(device: &[u8]) -> Bus
     requires { ⌜ length (now device) ≡ 32 ⌝ }
     ensures { λ r. ⌜ r ≡ busIn (now (device .entry)) ⌝ }
 {
     Bus {
         state: state_of(device[0], device[1]),
-        counter: word(device[2], device[3]),
+        counter: counter_in(device),
     }
 }
 

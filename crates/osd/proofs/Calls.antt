@@ -15,9 +15,12 @@ use Rattle.refusals.specs.declared.Refusal.the-variants.{RamLength, FontLength,
 use Rattle.refusals.specs.Refusals.{numberOf, refused}
 use Rattle.registers.specs.declared.Registers.{Registers}
 use Rattle.registers.specs.Registers.{kept, stored}
+use Rattle.bus.specs.declared.State.{State}
+use Rattle.bus.specs.declared.State.the-variants.{Write, Read}
 use Rattle.bus.specs.declared.Bus.{Bus}
 use Rattle.bus.specs.declared.Step.{Step}
 use Rattle.bus.specs.declared.Event.{Event}
+use Rattle.bus.specs.declared.Event.the-variants.{Byte, Fetch}
 use Rattle.bus.specs.declared.Effect.{Effect}
 use Rattle.bus.specs.declared.Effect.the-variants.{Acknowledge, Ignore, Store, Load}
 use Rattle.bus.specs.Bus.{eventOf, step, isRegister, registersWith, ramWith, answerTo, taken, busEvent, byteIn}
@@ -29,7 +32,7 @@ use Rattle.device.specs.declared.DrawAnswer.the-variants as draw
 use Rattle.device.specs.Device.{freshDevice, hearEvent, startOutcome, startFrame, drawOutcome, drawLine, askCell}
 use Rattle.layout.specs.Layout.{busBytes, busIn, registersIn, frameBytes, deviceBytes, deviceIn}
 use Rattle.osd.specs.Interface as osd
-use Rattle.osd.specs.Interface.{answerOf, notTaken, freshOn, ignoredOn, heardOn, touched, busOn, storedOn, startedOn, startOn, drawnOn, drawOn, cellOn}
+use Rattle.osd.specs.Interface.{answerOf, notTaken, freshOn, ignoredOn, heardOn, stepOn, eventOn, touched, busOn, storedOn, startedOn, startOn, drawnOn, drawOn, cellOn}
 
 -- a refusal's number is not 0
 not-zero : (r : Refusal) → eqb (numberOf r) 0 ≡ false
@@ -180,6 +183,35 @@ pub applied-ignore : (xs ram ys : List ℕ) (s : Step) (a : ℕ) → s .effect �
 unfolding heardOn taken registersWith ramWith answerTo
 applied-ignore xs ram ys s a q e p = rw q (λ i. record { device = e i; ram = ram; answer = p i })
 
+-- ---- a data byte and a fetch, seen by the number of the state
+
+-- the bus with its counter gone up
+abbrev up : State → ℕ → Bus
+up s n = record { state = s; counter = (n % 0x4000 + 1) % 0x4000 }
+
+module _ (xs ram ys : List ℕ) (n : ℕ) (h : length xs ≡ 32) (p : n ≡ busIn xs .counter) where
+  pub written-next : (x : ℕ) (zs ram′ : List ℕ) → getD xs 0 0 ≡ 5 → ys ≡ busBytes (up Write n) ++ drop 4 xs → zs ≡ storedOn (n % 0x4000) x ys
+      → ram′ ≡ ramWith (Store (n % 0x4000) x) ram → _≡_ {A = osd.BusDone} (record { device = zs; ram = ram′; answer = 0 }) (eventOn xs ram (Byte x))
+  unfolding step
+  written-next x zs ram′ five e q r =
+      applied-store xs ram ys (record { bus = up Write n; effect = Store (n % 0x4000) x }) h e (n % 0x4000) x zs ram′ refl q r
+      ∙ ap (λ (m : ℕ). stepOn xs ram (record { bus = up Write m; effect = Store (m % 0x4000) x })) p
+      ∙ ap (stepOn xs ram) (sym by)
+    where
+      by : step (busIn xs) (Byte x) ≡ record { bus = up Write (busIn xs .counter); effect = Store (busIn xs .counter % 0x4000) x }
+      by = rw five
+
+  pub fetched-next : (byte : ℕ) → getD xs 0 0 ≡ 6 → ys ≡ busBytes (up Read n) ++ drop 4 xs → byte ≡ byteIn (n % 0x4000) (registersIn xs) ram
+      → _≡_ {A = osd.BusDone} (record { device = ys; ram = ram; answer = byte }) (eventOn xs ram Fetch)
+  unfolding step
+  fetched-next byte six e q =
+      applied-load xs ram ys (record { bus = up Read n; effect = Load (n % 0x4000) }) h e (n % 0x4000) byte refl q
+      ∙ ap (λ (m : ℕ). stepOn xs ram (record { bus = up Read m; effect = Load (m % 0x4000) })) p
+      ∙ ap (stepOn xs ram) (sym by)
+    where
+      by : step (busIn xs) Fetch ≡ record { bus = up Read (busIn xs .counter); effect = Load (busIn xs .counter % 0x4000) }
+      by = rw six
+
 -- ---- bus event
 
 pub bus-not-record : (xs ram : List ℕ) (kind byte : ℕ) → (length xs ≡ 32 → ⊥)
@@ -206,11 +238,15 @@ module _ (xs ram : List ℕ) (kind byte : ℕ) (h : length xs ≡ 32) (k : kind 
       by : _≡_ {A = osd.BusDone} (record { device = xs; ram = ram; answer = a }) (heardOn xs (busEvent (busIn xs) (registersIn xs) ram (eventOf kind byte)))
       by = rw (ne-eqb _ _ r) (ap (λ (n : ℕ). record { device = xs; ram = ram; answer = n }) p)
 
-  -- heard: the step of the bus, applied
-  pub bus-heard : (b : Bus) (e : Event) (s : Step) (o : osd.BusDone) → length ram ≡ 1024 → b ≡ busIn xs → e ≡ eventOf kind byte → s ≡ step b e
-      → o ≡ heardOn xs (taken s (registersIn xs) ram) → o ≡ busOn xs ram kind byte
+  -- heard: the event of that number
+  pub bus-heard : (e : Event) (o : osd.BusDone) → length ram ≡ 1024 → e ≡ eventOf kind byte → o ≡ eventOn xs ram e → o ≡ busOn xs ram kind byte
   unfolding busEvent
-  bus-heard b e s o r p q t u = u ∙ ap (λ (x : Step). heardOn xs (taken x (registersIn xs) ram)) (t ∙ ap₂ step p q) ∙ by ∙ bus-is
+  bus-heard e o r q u = u ∙ ap (eventOn xs ram) q ∙ by ∙ bus-is
     where
-      by : heardOn xs (taken (step (busIn xs) (eventOf kind byte)) (registersIn xs) ram) ≡ heardOn xs (busEvent (busIn xs) (registersIn xs) ram (eventOf kind byte))
+      by : eventOn xs ram (eventOf kind byte) ≡ heardOn xs (busEvent (busIn xs) (registersIn xs) ram (eventOf kind byte))
       by = rw (eq-eqb _ _ r)
+
+  -- the step of the bus, applied
+  pub bus-applied : (b : Bus) (e : Event) (s : Step) (o : osd.BusDone) → length ram ≡ 1024 → b ≡ busIn xs → e ≡ eventOf kind byte → s ≡ step b e
+      → o ≡ stepOn xs ram s → o ≡ busOn xs ram kind byte
+  bus-applied b e s o r p q t u = bus-heard (eventOf kind byte) o r refl (u ∙ ap (stepOn xs ram) (t ∙ ap₂ step p q))

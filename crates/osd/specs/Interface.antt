@@ -12,9 +12,11 @@ use Rattle.refusals.specs.Refusals.{Reply}
 use Rattle.registers.specs.Registers.{kept}
 use Rattle.bus.specs.declared.State.{State}
 use Rattle.bus.specs.declared.State.the-variants.{Slave}
-use Rattle.bus.specs.Bus.{eventOf, isRegister, BusOutcome}
+use Rattle.bus.specs.declared.Event.{Event}
+use Rattle.bus.specs.declared.Step.{Step}
+use Rattle.bus.specs.Bus.{eventOf, step, isRegister, BusOutcome, taken}
 use Rattle.device.specs.Device.{freshDevice, EventOutcome, hearEvent, StartOutcome, startFrame, DrawOutcome, drawLine, askCell}
-use Rattle.layout.specs.Layout.{stateNumber, busBytes, busIn, frameBytes, deviceBytes, deviceIn}
+use Rattle.layout.specs.Layout.{stateNumber, busBytes, busIn, registersIn, frameBytes, deviceBytes, deviceIn}
 
 -- ---- answers: refusal × 65,536 + value
 
@@ -64,6 +66,13 @@ heardOn xs o =
       ram = o .ram;
       answer = answerOf (o .reply);
     }
+
+-- a step of the bus, and an event to a record and RAM of the right lengths: what the promises of inner functions cite
+abbrev pub stepOn : List ℕ → List ℕ → Step → BusDone
+stepOn xs ram s = heardOn xs (taken s (registersIn xs) ram)
+
+abbrev pub eventOn : List ℕ → List ℕ → Event → BusDone
+eventOn xs ram e = stepOn xs ram (step (busIn xs) e)
 
 -- all that an event touches of a device
 abbrev pub touched : EventOutcome → BusOutcome

@@ -1,12 +1,13 @@
 // The device for firmware to link: include/osd.h has each function as C sees it. The record crosses as 32 lent bytes.
 ghost use mathlib.Core.Path.{_≡_};
 ghost use Prim.Native.Nat.{_+_, _*_};
-ghost use lib.ListN.{length};
+ghost use lib.ListN.{length, getD};
 ghost use Rattle.refusals.specs.Refusals.{refused};
+ghost use Rattle.bus.specs.declared.Event.the-variants.{Byte, Fetch};
 ghost use Rattle.bus.specs.declared.Effect.the-variants.{Store};
-ghost use Rattle.bus.specs.Bus.{ramWith, byteIn, taken};
+ghost use Rattle.bus.specs.Bus.{ramWith, byteIn};
 ghost use Rattle.layout.specs.Layout.{registersIn};
-ghost use Rattle.osd.specs.Interface.{answerOf, freshOn, ignoredOn, heardOn, busOn, storedOn, startOn, drawOn, cellOn};
+ghost use Rattle.osd.specs.Interface.{answerOf, freshOn, ignoredOn, stepOn, eventOn, busOn, storedOn, startOn, drawOn, cellOn};
 use bus::Bus;
 use bus::Effect;
 use bus::Event;
@@ -21,6 +22,11 @@ use registers::Registers;
 const DEVICE_LENGTH: usize = 32;
 
 const RAM_LENGTH: usize = 1024;
+
+// The bus states in which data bytes and fetches come, by their numbers.
+const WRITING: u8 = 5;
+
+const READING: u8 = 6;
 
 // Refusal 255, the interface's own.
 const NOT_TAKEN: u32 = 0xFF0000;
@@ -112,7 +118,7 @@ fn ignore(device: &mut [u8], state: State)
 // What the bus asks of the cells, done in place.
 fn apply(device: &mut [u8], ram: &mut [u8], step: Step) -> u32
     requires { ⌜ (length (now device) ≡ 32) × (length (now ram) ≡ 1024) ⌝ }
-    ensures { λ r. ⌜ record { device = now (device .exit); ram = now (ram .exit); answer = r } ≡ heardOn (now (device .entry)) (taken step (registersIn (now (device .entry))) (now (ram .entry))) ⌝ }
+    ensures { λ r. ⌜ record { device = now (device .exit); ram = now (ram .exit); answer = r } ≡ stepOn (now (device .entry)) (now (ram .entry)) step ⌝ }
 {
     let next = step.bus;
     let effect = step.effect;
@@ -139,7 +145,37 @@ fn apply(device: &mut [u8], ram: &mut [u8], step: Step) -> u32
     }
 }
 
-// Only the bus part and one register are read and written: the rest of the record stays where it is.
+// A data byte: stored at the counter, which goes up.
+fn write_next(device: &mut [u8], ram: &mut [u8], x: u8) -> u32
+    requires { ⌜ (length (now device) ≡ 32) × (length (now ram) ≡ 1024) × (getD (now device) 0 0 ≡ 5) ⌝ }
+    ensures { λ r. ⌜ record { device = now (device .exit); ram = now (ram .exit); answer = r } ≡ eventOn (now (device .entry)) (now (ram .entry)) (Byte x) ⌝ }
+{
+    let address = layout::counter_in(device) % 0x4000;
+    let next = Bus {
+        state: State::Write,
+        counter: (address + 1) % 0x4000,
+    };
+    layout::write_bus(device, next);
+    store(device, ram, address, x);
+    0
+}
+
+// A fetch: the byte at the counter, which goes up.
+fn read_next(device: &mut [u8], ram: &mut [u8]) -> u32
+    requires { ⌜ (length (now device) ≡ 32) × (length (now ram) ≡ 1024) × (getD (now device) 0 0 ≡ 6) ⌝ }
+    ensures { λ r. ⌜ record { device = now (device .exit); ram = now (ram .exit); answer = r } ≡ eventOn (now (device .entry)) (now (ram .entry)) Fetch ⌝ }
+{
+    let address = layout::counter_in(device) % 0x4000;
+    let next = Bus {
+        state: State::Read,
+        counter: (address + 1) % 0x4000,
+    };
+    layout::write_bus(device, next);
+    load(device, ram, address) as u32
+}
+
+// Only the bus part and one register are read and written: the rest of the record stays where it is. Data bytes and fetches come
+// most often, so they are looked for first.
 #[no_mangle]
 pub extern "C" fn osd_bus(device: &mut [u8], ram: &mut [u8], kind: u8, byte: u8) -> u32
     ensures { λ r. ⌜ record { device = now (device .exit); ram = now (ram .exit); answer = r } ≡ busOn (now (device .entry)) (now (ram .entry)) kind byte ⌝ }
@@ -152,6 +188,18 @@ pub extern "C" fn osd_bus(device: &mut [u8], ram: &mut [u8], kind: u8, byte: u8)
     }
     if ram.len() != RAM_LENGTH {
         return refuse(Refusal::RamLength);
+    }
+    let state = device[0];
+    if kind == 1 {
+        if state == WRITING {
+            return write_next(device, ram, byte);
+        }
+    } else {
+        if state == READING {
+            if kind == 2 {
+                return read_next(device, ram);
+            }
+        }
     }
     let bus = layout::bus_in(device);
     apply(device, ram, bus.take(Event::of_kind(kind, byte)))

@@ -13,17 +13,11 @@ shared-slice-read-state-of-2 c = search needs
 state-of-requires : tie.Need-state-of-requires
 state-of-requires c κs = search needs
 
-shared-slice-read-word : tie.Need-shared-slice-read-word
-shared-slice-read-word c = search needs
-
-shared-slice-read-word-2 : tie.Need-shared-slice-read-word-2
-shared-slice-read-word-2 c = search needs
-
-word-requires : tie.Need-word-requires
-word-requires c κs = search needs
+counter-in-requires : tie.Need-counter-in-requires
+counter-in-requires c κs = search needs
 
 returns : tie.Need-returns
-returns c = rw (c .word .ensures, c .before .before .before .state-of .ensures)
+returns c = rw (c .counter-in .ensures, c .before .state-of .ensures)
 
 pub bus-in-spec : {M : Type 1} → statement M
 bus-in-spec =
@@ -32,7 +26,5 @@ bus-in-spec =
     shared-slice-read-state-of
     shared-slice-read-state-of-2
     state-of-requires
-    shared-slice-read-word
-    shared-slice-read-word-2
-    word-requires
+    counter-in-requires
     returns)

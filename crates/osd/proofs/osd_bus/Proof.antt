@@ -1,7 +1,11 @@
 -- `osd_bus`: refused, or the step of the bus applied.
 -- Assumes nothing.
+use Prim.Native.Nat.{ℕ}
+use mathlib.Core.Path.{sym, ap}
 use borrow.Author.Needs.{needs}
-use Rattle.osd.proofs.Calls.{bus-not-record, bus-not-kind, bus-refused, bus-heard}
+use Rattle.bus.specs.declared.Event.the-variants.{Byte, Fetch}
+use Rattle.bus.specs.Bus.{eventOf}
+use Rattle.osd.proofs.Calls.{bus-not-record, bus-not-kind, bus-refused, bus-heard, bus-applied}
 use Rattle.osd.proofs.osd_bus.Statement.{statement}
 use Rattle.osd.proofs.osd_bus.Tie as tie
 
@@ -17,6 +21,45 @@ refuse-requires c κs = search needs
 returns-3 : tie.Need-returns-3
 returns-3 c = bus-refused _ _ _ _ (c .before .before .before .if1 .left) (c .before .before .if2 .left) _ (c .before .if3 .taken) (c .refuse .ensures)
 
+slice-read-state : tie.Need-slice-read-state
+slice-read-state c = search needs
+
+write-next-requires : tie.Need-write-next-requires
+write-next-requires c κs = search needs
+
+same-length : tie.Need-same-length
+same-length c = search needs
+
+same-length-2 : tie.Need-same-length-2
+same-length-2 c = search needs
+
+returns-4 : tie.Need-returns-4
+returns-4 c =
+    let k = c .before .before .before .before in
+    let t = k .before .before .before .before in
+    let l = t .before .before in
+    let b = (l .before .before .before .before .before .args .byte) in
+    bus-heard _ _ _ b (l .before .before .if1 .left) (l .before .if2 .left) (Byte b) _
+    (l .if3 .left) (ap (λ (n : ℕ). eventOf n b) (sym (t .if4 .taken))) (k .write-next .ensures)
+
+read-next-requires : tie.Need-read-next-requires
+read-next-requires c κs = search needs
+
+same-length-3 : tie.Need-same-length-3
+same-length-3 c = search needs
+
+same-length-4 : tie.Need-same-length-4
+same-length-4 c = search needs
+
+returns-5 : tie.Need-returns-5
+returns-5 c =
+    let k = c .before .before .before .before in
+    let t = k .before .before .before .before in
+    let l = t .before .before .before in
+    let b = (l .before .before .before .before .before .args .byte) in
+    bus-heard _ _ _ b (l .before .before .if1 .left) (l .before .if2 .left) Fetch _
+    (l .if3 .left) (ap (λ (n : ℕ). eventOf n b) (sym (k .before .before .before .if7 .taken))) (k .read-next .ensures)
+
 bus-in-requires : tie.Need-bus-in-requires
 bus-in-requires c κs = search needs
 
@@ -29,18 +72,19 @@ take-requires c κs = search needs
 apply-requires : tie.Need-apply-requires
 apply-requires c κs = search needs
 
-same-length : tie.Need-same-length
-same-length c = search needs
+same-length-5 : tie.Need-same-length-5
+same-length-5 c = search needs
 
-same-length-2 : tie.Need-same-length-2
-same-length-2 c = search needs
+same-length-6 : tie.Need-same-length-6
+same-length-6 c = search needs
 
-returns-4 : tie.Need-returns-4
-returns-4 c =
+returns-6 : tie.Need-returns-6
+returns-6 c =
     let k = c .before .before .before .before in
     let b = k .before .before .before .before .before in
-    bus-heard _ _ _ _ (b .before .before .before .before .if1 .left) (b .before .before .before .if2 .left) (b .bus-in .result) (k .before .before .of-kind .result) (k .before .take .result) _
-    (b .before .before .if3 .left) (b .bus-in .ensures) (k .before .before .of-kind .ensures) (k .before .take .ensures) (k .apply .ensures)
+    let l = b .before .before .before .before in
+    bus-applied _ _ _ _ (l .before .before .if1 .left) (l .before .if2 .left) (b .bus-in .result) (k .before .before .of-kind .result) (k .before .take .result) _
+    (l .if3 .left) (b .bus-in .ensures) (k .before .before .of-kind .ensures) (k .before .take .ensures) (k .apply .ensures)
 
 pub osd-bus-spec : {M : Type 1} → statement M
 osd-bus-spec =
@@ -50,10 +94,19 @@ osd-bus-spec =
     returns-2
     refuse-requires
     returns-3
+    slice-read-state
+    write-next-requires
+    same-length
+    same-length-2
+    returns-4
+    read-next-requires
+    same-length-3
+    same-length-4
+    returns-5
     bus-in-requires
     of-kind-requires
     take-requires
     apply-requires
-    same-length
-    same-length-2
-    returns-4)
+    same-length-5
+    same-length-6
+    returns-6)
