@@ -1,0 +1,252 @@
+//! Races the proved library against the independent implementation, side by side in one run, and prints a table of ratios.
+//!
+//!     speed [ROUNDS]
+//!
+//! Each figure is the least of ROUNDS rounds, in which the two take turns. A ratio below 1 means that the proved library is faster.
+
+use osd_model::{bus_bytes, Device, Event};
+use runner::linked;
+use runner::pages::{self, FIRST_USER, FONT, RAM};
+use runner::random::Random;
+use std::hint::black_box;
+use std::time::Instant;
+
+const LINES: u32 = 2048;
+const WORDS: usize = RAM / 2;
+
+type Record = [u8; 32];
+
+/// Both devices, in the same state.
+struct Pair {
+    ram: Vec<u8>,
+    font: Vec<u8>,
+    ours: Record,
+    model: Device,
+}
+
+impl Pair {
+    /// Registers 3FF0 to 3FF3 are written over the bus, as a host does it.
+    fn new(ram: Vec<u8>, font: &[u8], settings: [u8; 4]) -> Pair {
+        let mut pair = Pair { ram, font: font.to_vec(), ours: [0; 32], model: Device::fresh() };
+        linked::fresh(&mut pair.ours);
+        let [ld, dd, ch, control] = settings;
+        pair.event(0, 0);
+        for byte in [0xBA, 0x3F, 0xF0, ld, dd, ch, control] {
+            pair.event(1, byte);
+        }
+        pair.event(3, 0);
+        pair
+    }
+
+    fn event(&mut self, kind: u8, byte: u8) {
+        let event = [Event::Start, Event::Byte(byte), Event::Fetch, Event::Stop][usize::from(kind)];
+        assert_eq!(linked::bus(&mut self.ours, &mut self.ram, kind, byte), 0);
+        assert!(self.model.bus(&mut self.ram, event).is_ok());
+    }
+
+    fn start(&mut self) {
+        assert_eq!(linked::frame_start(&mut self.ours, LINES), 0);
+        assert!(self.model.frame_start(LINES).is_ok());
+    }
+}
+
+#[inline(never)]
+fn model_draw(device: &mut Device, ram: &[u8], font: &[u8], line: &mut [u8]) -> u32 {
+    device.draw(ram, font, line).unwrap_or(0)
+}
+
+#[inline(never)]
+fn model_cell(device: &Device, ram: &[u8], cell: u32) -> u32 {
+    u32::from(device.cell(ram, cell).unwrap_or(false))
+}
+
+/// The same byte layout as the library's, and a call that is not inlined, as the library's is not.
+#[inline(never)]
+fn model_bus(device: &mut Record, ram: &mut [u8], kind: u8, byte: u8) -> u32 {
+    bus_bytes(device, ram, kind, byte)
+}
+
+/// The least time of some rounds, in nanoseconds a turn, of two competitors that take turns.
+fn race(rounds: u32, turns: u32, mut ours: impl FnMut(), mut model: impl FnMut()) -> (f64, f64) {
+    let mut best = (f64::MAX, f64::MAX);
+    let time = |work: &mut dyn FnMut()| {
+        let start = Instant::now();
+        work();
+        start.elapsed().as_nanos() as f64 / f64::from(turns)
+    };
+    for _ in 0..rounds {
+        best.0 = best.0.min(time(&mut ours));
+        best.1 = best.1.min(time(&mut model));
+    }
+    best
+}
+
+fn row(name: &str, (ours, model): (f64, f64)) {
+    println!("| {name} | {ours:.1} | {model:.1} | {:.2} |", ours / model);
+}
+
+/// A frame of 2,048 lines.
+fn draw(name: &str, rounds: u32, mut pair: Pair) {
+    let mut line = [0; 768];
+    let mut model_line = [0; 768];
+    pair.start();
+    let (start, model_start) = (pair.ours, pair.model);
+    let Pair { ram, font, .. } = pair;
+    let figures = race(
+        rounds,
+        LINES,
+        || {
+            let mut device = start;
+            for _ in 0..LINES {
+                black_box(linked::draw(&mut device, &ram, &font, &mut line));
+            }
+        },
+        || {
+            let mut device = model_start;
+            for _ in 0..LINES {
+                black_box(model_draw(&mut device, &ram, &font, &mut model_line));
+            }
+        },
+    );
+    assert_eq!(line, model_line);
+    row(name, figures);
+}
+
+/// A host's transfer: start, slave address, internal address, sixty data bytes, stop.
+fn bus(name: &str, rounds: u32, font: &[u8], reads: bool) {
+    let pair = Pair::new(vec![0; RAM], font, [63, 4, 18, 0x80]);
+    let mut events = vec![(0, 0), (1, 0xBA), (1, 0x01), (1, 0x40)];
+    if reads {
+        events.extend([(0, 0), (1, 0xBB)]);
+        events.extend([(2, 0); 60]);
+    } else {
+        events.extend((0..60).map(|i| (1, i)));
+    }
+    events.push((3, 0));
+    const TIMES: u32 = 400;
+    let (mut ours, mut model) = (pair.ours, pair.ours);
+    let (mut ram, mut model_ram) = (pair.ram.clone(), pair.ram);
+    let figures = race(
+        rounds,
+        TIMES * events.len() as u32,
+        || {
+            for _ in 0..TIMES {
+                for &(kind, byte) in &events {
+                    black_box(linked::bus(&mut ours, &mut ram, kind, byte));
+                }
+            }
+        },
+        || {
+            for _ in 0..TIMES {
+                for &(kind, byte) in &events {
+                    black_box(model_bus(&mut model, &mut model_ram, kind, byte));
+                }
+            }
+        },
+    );
+    assert_eq!((ours, ram), (model, model_ram));
+    row(name, figures);
+}
+
+/// Every cell at the start of a frame: the mean over all, and the cell that takes longest.
+fn cells(name: &str, rounds: u32, mut pair: Pair) {
+    const TIMES: u32 = 32;
+    pair.start();
+    let Pair { ram, ours, model, .. } = pair;
+    let mut worst = (0f64, 0f64);
+    for cell in 0..RAM as u32 {
+        assert_eq!(linked::cell(&ours, &ram, cell), model_cell(&model, &ram, cell));
+        let (a, b) = race(
+            rounds / 4,
+            TIMES,
+            || (0..TIMES).for_each(|_| drop(black_box(linked::cell(&ours, &ram, black_box(cell))))),
+            || (0..TIMES).for_each(|_| drop(black_box(model_cell(&model, &ram, black_box(cell))))),
+        );
+        worst = (worst.0.max(a), worst.1.max(b));
+    }
+    let mean = race(
+        rounds,
+        RAM as u32,
+        || (0..RAM as u32).for_each(|cell| drop(black_box(linked::cell(&ours, &ram, cell)))),
+        || (0..RAM as u32).for_each(|cell| drop(black_box(model_cell(&model, &ram, cell)))),
+    );
+    row(&format!("{name}, worst"), worst);
+    row(&format!("{name}, mean"), mean);
+}
+
+/// Every descriptor shows the row of 61 codes at word 256.
+fn full_page(mut code: impl FnMut() -> (u8, u8)) -> Vec<u8> {
+    let mut ram = vec![0; RAM];
+    for word in 0..256 {
+        pages::characters(&mut ram, word, 256, true, false);
+    }
+    for word in 256..WORDS {
+        let (attributes, high) = code();
+        pages::code(&mut ram, word, attributes, high);
+    }
+    ram
+}
+
+/// Two short texts with much transparent picture between them, as a door monitor shows them.
+fn stop_page(random: &mut Random) -> Vec<u8> {
+    let mut ram = vec![0; RAM];
+    for page in 0..8 {
+        let word = 4 * page;
+        pages::spacing(&mut ram, word, 20);
+        pages::characters(&mut ram, word + 1, 256, true, true);
+        pages::spacing(&mut ram, word + 2, 180);
+        pages::characters(&mut ram, word + 3, 300, true, false);
+    }
+    for word in 32..256 {
+        pages::spacing(&mut ram, word, 255);
+    }
+    for (row, length) in [(256, 24), (300, 16)] {
+        for word in row..row + length {
+            pages::code(&mut ram, word, 0x7A, 32 + random.below(90) as u8);
+        }
+        pages::code(&mut ram, row + length, 0, pages::END_OF_LINE);
+    }
+    ram
+}
+
+/// Every word is the descriptor of an enabled strip, each with a row of its own.
+fn all_descriptors() -> Vec<u8> {
+    let mut ram = vec![0; RAM];
+    for word in 0..WORDS {
+        pages::characters(&mut ram, word, 7 * word, true, false);
+    }
+    ram
+}
+
+fn main() {
+    let rounds = std::env::args().nth(1).map_or(60, |word| word.parse().expect("a number"));
+    let mut random = Random::new(9425);
+    let mut font = vec![0; FONT];
+    random.fill(&mut font);
+    let mut noise = vec![0; RAM];
+    random.fill(&mut noise);
+    let font_page = full_page(|| (random.byte() & 0x77, random.below(128) as u8));
+    let mut random = Random::new(9426);
+    let user_page = full_page(|| (random.byte() & 0x77, FIRST_USER + random.below(26) as u8));
+    let mut random = Random::new(9427);
+    let shadowed = full_page(|| (0x0A | random.byte() & 0x70, random.below(128) as u8));
+    let stop = stop_page(&mut random);
+
+    println!("| Row | Proved, ns | Rust, ns | Ratio |");
+    println!("|---|---|---|---|");
+    let wide = |ram: &Vec<u8>| Pair::new(ram.clone(), &font, [63, 4, 18, 0x80]);
+    draw("a line of 61 font characters", rounds, wide(&font_page));
+    draw("a line of 61 user characters", rounds, wide(&user_page));
+    draw("a line of 61 shadowed characters", rounds, wide(&shadowed));
+    draw("a line of a stop page, mostly transparent", rounds, wide(&stop));
+    draw("a line over noise RAM", rounds, wide(&noise));
+    draw("a narrow line, 48 pixels", rounds, Pair::new(font_page.clone(), &font, [3, 4, 18, 0x80]));
+    bus("a bus event, writing", rounds, &font, false);
+    bus("a bus event, reading", rounds, &font, true);
+    for ch in [1, 18, 63] {
+        for (name, ram) in [("full page", &font_page), ("stop page", &stop), ("noise", &noise), ("all descriptors", &all_descriptors())] {
+            let pair = Pair::new(ram.clone(), &font, [63, 4, ch, 0x80]);
+            cells(&format!("a cell question, CH {ch}, {name}"), rounds, pair);
+        }
+    }
+}

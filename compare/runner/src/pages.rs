@@ -1,0 +1,63 @@
+//! Pages in RAM: structured ones, and noise.
+
+use crate::random::Random;
+
+pub const RAM: usize = 1024;
+pub const FONT: usize = 4608;
+
+/// High bytes of codes.
+pub const END_OF_LINE: u8 = 0xFF;
+pub const FIRST_USER: u8 = 0x80;
+
+fn put(ram: &mut [u8], word: usize, low: u8, high: u8) {
+    let at = 2 * (word % (RAM / 2));
+    ram[at] = low;
+    ram[at + 1] = high;
+}
+
+/// A descriptor of a strip of characters at a word of RAM.
+pub fn characters(ram: &mut [u8], word: usize, row: usize, enabled: bool, zoom: bool) {
+    let address = 2 * (row % (RAM / 2));
+    let high = 0x80 | u8::from(enabled) << 6 | u8::from(zoom) << 5 | (address >> 8) as u8;
+    put(ram, word, address as u8, high);
+}
+
+pub fn spacing(ram: &mut [u8], word: usize, lines: u8) {
+    put(ram, word, lines, 0);
+}
+
+pub fn code(ram: &mut [u8], word: usize, attributes: u8, high: u8) {
+    put(ram, word, attributes, high);
+}
+
+/// A page as a host would write it: some descriptors, some rows, some end of line codes; or noise; or in between.
+pub fn random_page(random: &mut Random, ram: &mut [u8]) {
+    random.fill(ram);
+    if random.one_in(3) {
+        return;
+    }
+    let descriptors = 1 + random.below(40) as usize;
+    let first = 32 * random.below(8) as usize;
+    let rows = 1 + random.below(6) as usize;
+    let start = random.below(512) as usize;
+    let columns = 1 + random.below(64) as usize;
+    for row in 0..rows {
+        for column in 0..columns {
+            let high = match random.below(8) {
+                0 => FIRST_USER + random.below(26) as u8,
+                1 => random.byte(),
+                _ => random.below(128) as u8,
+            };
+            code(ram, start + row * (columns + 1) + column, random.byte(), high);
+        }
+        code(ram, start + row * (columns + 1) + columns, random.byte(), END_OF_LINE);
+    }
+    for i in 0..descriptors {
+        if random.one_in(3) {
+            spacing(ram, first + i, random.below(30) as u8);
+        } else {
+            let row = start + random.below(rows as u64) as usize * (columns + 1);
+            characters(ram, first + i, row, !random.one_in(8), random.one_in(4));
+        }
+    }
+}

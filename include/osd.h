@@ -1,0 +1,148 @@
+/*
+ * osd.h - a software stand-in for the on-screen display controller STV9425/26.
+ *
+ * The library (libosd.a, x86-64) takes a host's two-wire traffic, keeps 1,024 cells of RAM and sixteen registers, reads a lent
+ * font, and hands out each scan line's red, green, blue and fast blanking. It allocates nothing, calls nothing, and keeps no state
+ * outside the buffers that you lend it. Every function is proved to end and to stay within these buffers for any bytes in them.
+ *
+ * Buffers. You own all of them; the library keeps no pointer after a call has returned.
+ *
+ *     device   OSD_DEVICE_LEN bytes, any alignment: the device's record. Make it with osd_fresh, then keep it as it is. It may be
+ *              copied, saved and restored byte by byte. Bytes that were corrupted are some other device, and cause no fault.
+ *     ram      OSD_RAM_LEN bytes. Noise is fine. Changed by osd_bus alone.
+ *     font     OSD_FONT_LEN bytes, only read. 128 characters of 18 slices of two bytes: first PX7 to PX0, then PX11 to PX8 in the
+ *              low bits; PX11 is the leftmost pixel.
+ *     line     at least as many bytes as the line has pixels, 12 * (LD + 1): OSD_LINE_MAX is always enough. One byte a pixel,
+ *              OSD_FBLK | OSD_R | OSD_G | OSD_B. Bytes behind the line stay as they are.
+ *
+ * Give each buffer with its length: another length is refused, not overrun. A pointer may be NULL where its length is 0. A buffer
+ * that a call may write (no const) must overlap no other buffer of that call.
+ *
+ * Answers. Every function but osd_device_len answers one number, refusal * 65,536 + value: OSD_REFUSAL(answer) is 0 where the call
+ * was accepted, OSD_VALUE(answer) is then its value. A refused call changes no byte of any buffer, except that a bus event with an
+ * unknown slave address leaves the device deaf until the next start or stop. Where several refusals fit, the one that is named
+ * first at the function is given.
+ *
+ * Example: a frame of 288 lines.
+ *
+ *     static uint8_t device[OSD_DEVICE_LEN], ram[OSD_RAM_LEN], line[OSD_LINE_MAX];
+ *     extern const uint8_t font[OSD_FONT_LEN];
+ *
+ *     osd_fresh(device, sizeof device);
+ *     osd_bus(device, sizeof device, ram, sizeof ram, OSD_START, 0);          // the host writes OSD on, page 0, to register 3FF3
+ *     osd_bus(device, sizeof device, ram, sizeof ram, OSD_BYTE, 0xBA);
+ *     osd_bus(device, sizeof device, ram, sizeof ram, OSD_BYTE, 0x3F);
+ *     osd_bus(device, sizeof device, ram, sizeof ram, OSD_BYTE, 0xF3);
+ *     osd_bus(device, sizeof device, ram, sizeof ram, OSD_BYTE, 0x80);
+ *     osd_bus(device, sizeof device, ram, sizeof ram, OSD_STOP, 0);
+ *     osd_frame_start(device, sizeof device, 288);
+ *     for (int i = 0; i < 288; i++) {
+ *         osd_draw(device, sizeof device, ram, sizeof ram, font, sizeof font, line, sizeof line);
+ *         show(line);                                                         // where OSD_FBLK is set, the overlay; else the camera
+ *     }
+ *
+ * Writing during a frame. A byte stored to a cell that the frame's remaining lines read can show in them. Ask osd_cell first: a store
+ * to a cell of which it answers 0 changes no remaining line of the frame, nor does a store to a register that leaves LD, DD, CH,
+ * OSD, FBK and FL as they are. To show a new page, write it to cells that the present one does not use and change P: P counts from
+ * the next frame start.
+ */
+#ifndef OSD_H
+#define OSD_H
+
+#include <stddef.h>
+#include <stdint.h>
+
+#ifdef __cplusplus
+extern "C" {
+#endif
+
+/* Lengths, in bytes. */
+#define OSD_DEVICE_LEN 32
+#define OSD_RAM_LEN 1024
+#define OSD_FONT_LEN 4608
+#define OSD_LINE_MAX 768
+
+/* The most lines that a frame can have. */
+#define OSD_FRAME_LINES_MAX 2048
+
+/* A pixel. */
+#define OSD_FBLK 8 /* fast blanking: the overlay is shown */
+#define OSD_R 4
+#define OSD_G 2
+#define OSD_B 1
+
+/* Kinds of bus events. */
+#define OSD_START 0
+#define OSD_BYTE 1  /* a byte from the host */
+#define OSD_FETCH 2 /* the host reads a byte */
+#define OSD_STOP 3
+
+/* The parts of an answer. */
+#define OSD_REFUSAL(answer) ((answer) >> 16)
+#define OSD_VALUE(answer) ((answer) & 0xFFFF)
+
+/* Refusals. */
+#define OSD_ACCEPTED 0
+#define OSD_RAM_LENGTH 1       /* ram is not OSD_RAM_LEN bytes */
+#define OSD_FONT_LENGTH 2      /* font is not OSD_FONT_LEN bytes */
+#define OSD_LINE_LENGTH 3      /* line is shorter than the line's pixels */
+#define OSD_NO_LINE 4          /* no frame, or all its lines are drawn */
+#define OSD_NOT_ACKNOWLEDGED 5 /* the event is not acknowledged; the value is 255 */
+#define OSD_FRAME_LINES 6      /* lines is 0 or above OSD_FRAME_LINES_MAX */
+#define OSD_CELL_RANGE 8       /* cell is OSD_RAM_LEN or above */
+#define OSD_NOT_TAKEN 255      /* device is not OSD_DEVICE_LEN bytes, or kind is above OSD_STOP */
+
+/*
+ * The device's record. Numbers of two bytes have their low byte first.
+ *
+ *     0       bus state: 0 idle, 1 deaf, 2 slave address next, 3 high byte next, 4 low byte next, 5 writing, 6 reading
+ *     1       the high byte that state 4 holds, else 0
+ *     2, 3    address counter
+ *     4 - 19  registers 3FF0 to 3FFF
+ *     20      next frame number
+ *     21      frame number
+ *     22, 23  lines of the frame left; 0: no frame, or all its lines drawn
+ *     24, 25  address of the next descriptor
+ *     26      strip on screen: bit 0 characters (else spacing), bit 1 ZY, bit 2 DE
+ *     27      characters: height (CH as taken); spacing: lines left
+ *     28, 29  characters: code address; spacing: 0
+ *     30, 31  characters: scan line of the strip, 0 before the first; spacing: 0
+ */
+
+/* The length of a device's record: OSD_DEVICE_LEN of the library that is linked. */
+uint32_t osd_device_len(void);
+
+/* Makes a fresh device, whatever the bytes were. Clear the RAM yourself if you want it clear. Refusal: OSD_NOT_TAKEN. Value 0. */
+uint32_t osd_fresh(uint8_t *device, size_t device_len);
+
+/* Resets: registers to their reset values, bus idle, counter 0, no frame, next frame number 0. Refusal: OSD_NOT_TAKEN. Value 0. */
+uint32_t osd_reset(uint8_t *device, size_t device_len);
+
+/*
+ * One event on the two-wire bus. `byte` is ignored unless kind is OSD_BYTE.
+ * Refusals: OSD_NOT_TAKEN, OSD_RAM_LENGTH, OSD_NOT_ACKNOWLEDGED. Value: the byte that a fetch reads; 0 with other events, 255 where
+ * the event is not acknowledged.
+ */
+uint32_t osd_bus(uint8_t *device, size_t device_len, uint8_t *ram, size_t ram_len, uint8_t kind, uint8_t byte);
+
+/* Starts a frame of 1 to 2,048 lines; a running frame is broken off. Refusals: OSD_NOT_TAKEN, OSD_FRAME_LINES. Value 0. */
+uint32_t osd_frame_start(uint8_t *device, size_t device_len, uint32_t lines);
+
+/*
+ * Draws the frame's next line into `line`.
+ * Refusals: OSD_NOT_TAKEN, OSD_RAM_LENGTH, OSD_FONT_LENGTH, OSD_NO_LINE, OSD_LINE_LENGTH. Value: how many RAM cells the line read.
+ */
+uint32_t osd_draw(uint8_t *device, size_t device_len, const uint8_t *ram, size_t ram_len, const uint8_t *font, size_t font_len,
+                  uint8_t *line, size_t line_len);
+
+/*
+ * Do the frame's remaining lines read this cell, with RAM and registers as they stand?
+ * Refusals: OSD_NOT_TAKEN, OSD_RAM_LENGTH, OSD_CELL_RANGE. Value: 1 yes, 0 no (and without a running frame).
+ */
+uint32_t osd_cell(const uint8_t *device, size_t device_len, const uint8_t *ram, size_t ram_len, uint32_t cell);
+
+#ifdef __cplusplus
+}
+#endif
+
+#endif
