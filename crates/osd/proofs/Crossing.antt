@@ -5,12 +5,12 @@ use mathlib.Core.Path.{_≡_, refl, sym, ap, _∙_}
 use mathlib.Core.Bool.{Bool, true, false, not, cond, _&&_, _||_}
 use mathlib.Core.List.{List, _∷_, _++_}
 use native.Mathlib.Omega.{arith}
-use borrow.Author.Tests.{eq-eqb, ne-eqb, le-ltb, eqb-true}
+use borrow.Author.Tests.{eq-eqb, ne-eqb, lt-ltb, le-ltb, eqb-true, not-false}
 use lib.Dec.{T, eqb, ltb}
 use lib.ListN.{length, getD, take, drop, set, length-set, length-take, length-drop}
 use lib.Seq.{set-getD, getD-set-same, getD-set-other, drop-set-lt}
 use Rattle.refusals.specs.Refusals.{accepted, refused}
-use Rattle.refusals.specs.declared.Refusal.the-variants.{RamLength, FontLength, LineLength, NoLine, FrameLines}
+use Rattle.refusals.specs.declared.Refusal.the-variants.{RamLength, FontLength, LineLength, NoLine, NotAcknowledged, FrameLines}
 use Rattle.registers.specs.declared.Registers.{Registers}
 use Rattle.registers.specs.Registers.{stored}
 use Rattle.bus.specs.declared.State.{State}
@@ -23,10 +23,11 @@ use Rattle.bus.specs.declared.Effect.{Effect}
 use Rattle.bus.specs.declared.Effect.the-variants.{Acknowledge, Ignore, Store, Load}
 use Rattle.bus.specs.Bus.{eventOf, goes, byteAt, fetchAt, step, isRegister, registersWith, ramWith, answerTo, BusOutcome, taken, busEvent}
 use Rattle.device.specs.declared.Device.{Device}
-use Rattle.device.specs.Device.{freshDevice, hearEvent, StartOutcome, inFrame, startFrame, DrawOutcome, notDrawn, lineOn, lineWidth, lineDrawn, drawLine}
+use Rattle.device.specs.Device.{freshDevice, EventOutcome, hearEvent, StartOutcome, inFrame, startFrame, DrawOutcome, notDrawn, lineOn, lineWidth, lineDrawn, drawLine, askCell}
 use Rattle.layout.specs.Layout.{stateNumber, stateOf, busBytes, busIn, registersIn, frameBytes, frameIn, deviceBytes, deviceIn}
 use Rattle.layout.proofs.Laws.{frame-alike, read-back, event-back, start-back, draw-back}
-use Rattle.osd.specs.Interface.{notTaken, freshOn, ignoredOn, heardOn, busOn, startedOn, startOn, drawnOn, drawOn, Crossing}
+use Rattle.osd.specs.Interface.{answerOf, notTaken, Done, freshOn, BusDone, ignoredOn, heardOn, touched, busOn, startedOn, startOn, DrawDone, drawnOn, drawOn, cellOn, Crossing}
+use Rattle.osd.proofs.Calls.{fresh-not, bus-not-record, start-not, draw-not, cell-not}
 
 -- ---- an event that is not acknowledged
 
@@ -226,36 +227,117 @@ ignored-silent : (xs : List ℕ) (e : Event) (next : Bus) → (T (isByte e) → 
 ignored-silent xs e next u (stays p) = ap (λ (b : Bus). ignoredOn (b .state) xs) p ∙ ignored-same xs
 ignored-silent xs e next u (deafens t q p) = absurd (u t q)
 
-silence : (xs ram : List ℕ) (kind byte : ℕ) → (kind ≡ 1 → busIn xs .state ≡ Slave → ⊥)
+silence : (xs ram : List ℕ) (kind byte : ℕ) → (kind ≡ 1 → busIn xs .state ≡ Slave → length ram ≡ 1024 → ⊥)
     → (hearEvent (deviceIn xs) ram (eventOf kind byte) .reply .refusal ≡ 0 → ⊥) → busOn xs ram kind byte .device ≡ xs
 unfolding busOn heardOn hearEvent busEvent
-silence xs ram kind byte u = by (eqb (length xs) 32 && not (ltb 3 kind)) (not (eqb (length ram) 1024))
+silence xs ram kind byte u = by (eqb (length xs) 32 && not (ltb 3 kind)) (not (eqb (length ram) 1024)) refl
   where
     e : Event
     e = eventOf kind byte
-
     s : Step
     s = step (busIn xs) e
-
     r : BusOutcome
     r = record { bus = busIn xs; registers = registersIn xs; ram = ram; reply = refused RamLength }
-
-    by : (p t : Bool)
+    by : (p t : Bool) → not (eqb (length ram) 1024) ≡ t
         → let o : BusOutcome = cond t r (taken s (registersIn xs) ram) in
-        (o .reply .refusal ≡ 0 → ⊥) → cond p (heardOn xs o) (record { device = xs; ram = ram; answer = notTaken }) .device ≡ xs
+          (o .reply .refusal ≡ 0 → ⊥) → cond p (heardOn xs o) (record { device = xs; ram = ram; answer = notTaken }) .device ≡ xs
+    by false t q n = refl
+    by true true q n = refl
+    by true false q n =
+        silent-by xs ram (s .bus) (s .effect)
+        (λ t. ignored-silent xs e (s .bus) (λ c d. u (byte-kind kind byte c) d (eqb-true _ _ (not-false _ q))) (how (busIn xs) e t)) n
+
+start-silence : (xs : List ℕ) (lines : ℕ) → (startFrame (deviceIn xs) lines .reply .refusal ≡ 0 → ⊥) → startOn xs lines .device ≡ xs
+unfolding startOn startedOn startFrame
+start-silence xs lines = by (eqb (length xs) 32) (eqb lines 0 || ltb 2048 lines)
+  where
+    d : Device
+    d = deviceIn xs
+    by : (p t : Bool)
+        → let o : StartOutcome = cond t (record { device = d; reply = refused FrameLines }) (record { device = inFrame d lines; reply = accepted 0 }) in
+          (o .reply .refusal ≡ 0 → ⊥) → cond p (startedOn xs o) (record { device = xs; answer = notTaken }) .device ≡ xs
     by false t n = refl
     by true true n = refl
-    by true false n =
-        silent-by xs ram (s .bus) (s .effect)
-        (λ t. ignored-silent xs e (s .bus) (λ c. u (byte-kind kind byte c)) (how (busIn xs) e t)) n
+    by true false n = absurd (n refl)
+
+draw-silence : (xs ram font line : List ℕ) → (drawLine (deviceIn xs) ram font line .reply .refusal ≡ 0 → ⊥) → drawOn xs ram font line .device ≡ xs
+unfolding drawOn drawnOn drawLine lineDrawn
+draw-silence xs ram font line =
+    by (eqb (length xs) 32) (not (eqb (length ram) 1024)) (not (eqb (length font) 4608)) (eqb (d .frame .left) 0) (ltb (length line) (lineWidth d))
+  where
+    d : Device
+    d = deviceIn xs
+    by : (a p q r t : Bool)
+        → let o : DrawOutcome =
+              cond p (notDrawn d line RamLength)
+              (cond q (notDrawn d line FontLength) (cond r (notDrawn d line NoLine) (cond t (notDrawn d line LineLength) (lineDrawn d ram font line)))) in
+          (o .reply .refusal ≡ 0 → ⊥) → cond a (drawnOn xs o) (record { device = xs; line = line; answer = notTaken }) .device ≡ xs
+    by false p q r t n = refl
+    by true true q r t n = refl
+    by true false true r t n = refl
+    by true false false true t n = refl
+    by true false false false true n = refl
+    by true false false false false n = absurd (n refl)
+
+deafness : (xs ram : List ℕ) (byte : ℕ) → length xs ≡ 32 → length ram ≡ 1024 → busIn xs .state ≡ Slave → (byte ≡ 0xBA → ⊥) → (byte ≡ 0xBB → ⊥)
+    → busOn xs ram 1 byte ≡ record { device = set xs 0 1; ram = ram; answer = answerOf (refused NotAcknowledged) }
+unfolding busOn heardOn hearEvent busEvent taken step ramWith answerTo
+deafness xs ram byte h k s a b = rw (eq-eqb _ _ h, eq-eqb _ _ k, s, ne-eqb _ _ a, ne-eqb _ _ b)
+
+-- ---- the answers, and the other buffers
+
+bus-rest : (xs ram : List ℕ) (kind byte : ℕ) → length xs ≡ 32 → kind ≤ 3
+    → let o : EventOutcome = hearEvent (deviceIn xs) ram (eventOf kind byte) in
+      let r : BusDone = busOn xs ram kind byte in (r .ram ≡ o .ram) × (r .answer ≡ answerOf (o .reply))
+unfolding busOn heardOn
+bus-rest xs ram kind byte h k = rw (eq-eqb _ _ h, le-ltb _ _ k) (refl, refl)
+
+start-rest : (xs : List ℕ) (lines : ℕ) → length xs ≡ 32 → startOn xs lines .answer ≡ answerOf (startFrame (deviceIn xs) lines .reply)
+unfolding startOn startedOn
+start-rest xs lines h = rw (eq-eqb _ _ h)
+
+draw-rest : (xs ram font line : List ℕ) → length xs ≡ 32
+    → let o : DrawOutcome = drawLine (deviceIn xs) ram font line in
+      let r : DrawDone = drawOn xs ram font line in (r .line ≡ o .line) × (r .answer ≡ answerOf (o .reply))
+unfolding drawOn drawnOn
+draw-rest xs ram font line h = rw (eq-eqb _ _ h) (refl, refl)
+
+cell-rest : (xs ram : List ℕ) (c : ℕ) → length xs ≡ 32 → cellOn xs ram c ≡ answerOf (askCell (deviceIn xs) ram c)
+unfolding cellOn
+cell-rest xs ram c h = rw (eq-eqb _ _ h)
+
+no-kind : (xs ram : List ℕ) (kind byte : ℕ) → 3 < kind → busOn xs ram kind byte ≡ record { device = xs; ram = ram; answer = notTaken }
+unfolding busOn
+no-kind xs ram kind byte k = rw (lt-ltb _ _ k) (by (eqb (length xs) 32))
+  where
+    o : BusDone
+    o = record { device = xs; ram = ram; answer = notTaken }
+    by : (t : Bool) → cond (t && false) (heardOn xs (touched (hearEvent (deviceIn xs) ram (eventOf kind byte)))) o ≡ o
+    by true = refl
+    by false = refl
+
+fresh-read : (xs : List ℕ) → length xs ≡ 32 → (deviceIn (freshOn xs .device) ≡ freshDevice) × (freshOn xs .answer ≡ 0)
+unfolding freshOn freshDevice
+fresh-read xs h = rw (eq-eqb _ _ h) (read-back freshDevice refl, refl)
 
 pub crossing : Crossing
-unfolding freshOn freshDevice
 crossing =
     record {
-      fresh = λ xs h. rw (eq-eqb _ _ h) (read-back freshDevice refl);
-      bus = cross-bus;
-      start = cross-start;
-      draw = cross-draw;
-      silent = silence;
+      fresh = fresh-read;
+      bus = λ xs ram kind byte h k. (cross-bus xs ram kind byte h k, bus-rest xs ram kind byte h k .0, bus-rest xs ram kind byte h k .1);
+      start = λ xs lines h. (cross-start xs lines h, start-rest xs lines h);
+      draw = λ xs ram font line h. (cross-draw xs ram font line h, draw-rest xs ram font line h .0, draw-rest xs ram font line h .1);
+      cell = cell-rest;
+      not-taken = λ xs ram font line kind byte lines c h. (
+        sym (fresh-not xs h),
+        sym (bus-not-record xs ram kind byte h),
+        sym (start-not xs lines h),
+        sym (draw-not xs ram font line h),
+        sym (cell-not xs ram c h),
+      );
+      no-kind = no-kind;
+      silent-start = start-silence;
+      silent-draw = draw-silence;
+      silent-bus = silence;
+      deaf = deafness;
     }

@@ -1,14 +1,15 @@
 -- The interface for firmware (include/osd.h): each function does on the bytes of the record what the device's function does on the
 -- record that they are read as.
 -- Assumes nothing.
-use Prim.Native.Nat.{ℕ, _+_, _-_, _*_, _%_, _≤_}
+use Prim.Native.Nat.{ℕ, _+_, _-_, _*_, _%_, _≤_, _<_}
 use mathlib.Core.Path.{_≡_}
 use mathlib.Core.Bool.{Bool, not, cond, _&&_}
 use mathlib.Core.List.{List, _∷_, _++_}
 use lib.Dec.{eqb, ltb}
 use lib.ListN.{length, getD, take, drop, set}
 use lib.Bits.{bitAnd}
-use Rattle.refusals.specs.Refusals.{Reply}
+use Rattle.refusals.specs.declared.Refusal.the-variants.{NotAcknowledged}
+use Rattle.refusals.specs.Refusals.{Reply, refused}
 use Rattle.registers.specs.Registers.{kept}
 use Rattle.bus.specs.declared.State.{State}
 use Rattle.bus.specs.declared.State.the-variants.{Slave}
@@ -55,7 +56,7 @@ pub record BusDone : Type 0 where
 abbrev pub ignoredOn : State → List ℕ → List ℕ
 ignoredOn s xs = cond (eqb (stateNumber s) 1) (set xs 0 1) xs
 
--- an acknowledged event writes the bus part and the registers; refused for the RAM's length, it writes no byte
+-- an acknowledged event writes the bus part and the registers; an event refused for the RAM's length writes no byte
 unfoldable pub heardOn : List ℕ → BusOutcome → BusDone
 heardOn xs o =
     record {
@@ -125,15 +126,34 @@ drawOn xs ram font line =
 unfoldable pub cellOn : List ℕ → List ℕ → ℕ → ℕ
 cellOn xs ram cell = cond (isRecord xs) (answerOf (askCell (deviceIn xs) ram cell)) notTaken
 
--- ---- what the bytes hold after a call is read as the record that the device's function leaves
+-- ---- the claim: each function does on the bytes exactly what the device's function does on the record that they are read as
 
 pub record Crossing : Type 0 where
-  pub fresh : (xs : List ℕ) → length xs ≡ 32 → deviceIn (freshOn xs .device) ≡ freshDevice
+  -- reset has the same definition: a device's reset leaves a fresh device
+  pub fresh : (xs : List ℕ) → length xs ≡ 32 → (deviceIn (freshOn xs .device) ≡ freshDevice) × (freshOn xs .answer ≡ 0)
   pub bus : (xs ram : List ℕ) (kind byte : ℕ) → length xs ≡ 32 → kind ≤ 3
-      → deviceIn (busOn xs ram kind byte .device) ≡ hearEvent (deviceIn xs) ram (eventOf kind byte) .device
-  pub start : (xs : List ℕ) (lines : ℕ) → length xs ≡ 32 → deviceIn (startOn xs lines .device) ≡ startFrame (deviceIn xs) lines .device
+      → let o : EventOutcome = hearEvent (deviceIn xs) ram (eventOf kind byte) in
+        let r : BusDone = busOn xs ram kind byte in (deviceIn (r .device) ≡ o .device) × (r .ram ≡ o .ram) × (r .answer ≡ answerOf (o .reply))
+  pub start : (xs : List ℕ) (lines : ℕ) → length xs ≡ 32
+      → let o : StartOutcome = startFrame (deviceIn xs) lines in
+        let r : Done = startOn xs lines in (deviceIn (r .device) ≡ o .device) × (r .answer ≡ answerOf (o .reply))
   pub draw : (xs ram font line : List ℕ) → length xs ≡ 32
-      → deviceIn (drawOn xs ram font line .device) ≡ drawLine (deviceIn xs) ram font line .device
-  -- a refused event writes no byte of the record, unless a byte comes where the slave address is awaited
-  pub silent : (xs ram : List ℕ) (kind byte : ℕ) → (kind ≡ 1 → busIn xs .state ≡ Slave → ⊥)
+      → let o : DrawOutcome = drawLine (deviceIn xs) ram font line in
+        let r : DrawDone = drawOn xs ram font line in (deviceIn (r .device) ≡ o .device) × (r .line ≡ o .line) × (r .answer ≡ answerOf (o .reply))
+  pub cell : (xs ram : List ℕ) (c : ℕ) → length xs ≡ 32 → cellOn xs ram c ≡ answerOf (askCell (deviceIn xs) ram c)
+  -- refused with 255: nothing changes
+  pub not-taken : (xs ram font line : List ℕ) (kind byte lines c : ℕ) → (length xs ≡ 32 → ⊥)
+      → (freshOn xs ≡ record { device = xs; answer = notTaken })
+      × (busOn xs ram kind byte ≡ record { device = xs; ram = ram; answer = notTaken })
+      × (startOn xs lines ≡ record { device = xs; answer = notTaken })
+      × (drawOn xs ram font line ≡ record { device = xs; line = line; answer = notTaken })
+      × (cellOn xs ram c ≡ notTaken)
+  pub no-kind : (xs ram : List ℕ) (kind byte : ℕ) → 3 < kind → busOn xs ram kind byte ≡ record { device = xs; ram = ram; answer = notTaken }
+  -- a call that the device's function refuses writes no byte of the record ..
+  pub silent-start : (xs : List ℕ) (lines : ℕ) → (startFrame (deviceIn xs) lines .reply .refusal ≡ 0 → ⊥) → startOn xs lines .device ≡ xs
+  pub silent-draw : (xs ram font line : List ℕ) → (drawLine (deviceIn xs) ram font line .reply .refusal ≡ 0 → ⊥) → drawOn xs ram font line .device ≡ xs
+  pub silent-bus : (xs ram : List ℕ) (kind byte : ℕ) → (kind ≡ 1 → busIn xs .state ≡ Slave → length ram ≡ 1024 → ⊥)
       → (hearEvent (deviceIn xs) ram (eventOf kind byte) .reply .refusal ≡ 0 → ⊥) → busOn xs ram kind byte .device ≡ xs
+  -- .. except deaf after an unknown slave address: byte 0 alone
+  pub deaf : (xs ram : List ℕ) (byte : ℕ) → length xs ≡ 32 → length ram ≡ 1024 → busIn xs .state ≡ Slave → (byte ≡ 0xBA → ⊥) → (byte ≡ 0xBB → ⊥)
+      → busOn xs ram 1 byte ≡ record { device = set xs 0 1; ram = ram; answer = answerOf (refused NotAcknowledged) }
