@@ -1,1 +1,2 @@
 pub mod Glyph
+pub mod Words

@@ -3,3 +3,4 @@ pub mod Example
 pub mod Laws
 pub mod Strips
 pub mod Turns
+pub mod Spread

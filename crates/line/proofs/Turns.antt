@@ -7,7 +7,7 @@ use native.Mathlib.Nat.{not-suc-le-zero}
 use native.Mathlib.Numerals.{add-one, sub-one}
 use native.Mathlib.Omega.{arith}
 use mathlib.Core.Bool.{Bool, true, false, cond}
-use mir.Syntax.{w16}
+use mir.Syntax.{w32}
 use mir.Val.{Fits}
 use lib.ListN.{length, getD, take, drop, set, replicate, length-append, length-take, length-drop, take-append-drop}
 use native.Mathlib.Decide.{decLe}
@@ -19,14 +19,17 @@ use Rattle.cells.proofs.Laws.{value-bind, cells-bind, value-fmap, cells-fmap}
 use Rattle.cells.proofs.Bounds.{atMost-length}
 use Rattle.raster.specs.declared.Slice.{Slice}
 use Rattle.walk.specs.Walk.{even, next}
-use Rattle.glyph.specs.Glyph.{Glyph, endsLine, glyphOf}
+use Rattle.glyph.specs.declared.Shown.{Shown}
+use Rattle.glyph.specs.declared.Word.{Word}
+use Rattle.glyph.specs.Glyph.{Glyph, endsLine, glyphOf, shownIn}
+use Rattle.glyph.specs.Words.{WordShown}
 use Rattle.glyph.proofs.Laws.{glyphOf-most}
 use Rattle.line.specs.declared.Ink.{Ink}
 use Rattle.line.specs.declared.Pen.{Pen}
 use Rattle.line.proofs.Laws.{codes-most, character-length}
 use Rattle.line.specs.declared.Coded.{Coded}
 use Rattle.line.specs.Contracts.{CodeDrawn, RowDrawn}
-use Rattle.line.specs.Line.{Place, pixel, columns, character, codes, painted}
+use Rattle.line.specs.Line.{Place, inkOf, pixel, columns, shownBits, character, codes, painted}
 
 -- ---- filling
 
@@ -74,7 +77,7 @@ columns-done ink bits left out all i h e =
 -- ---- the codes of a row
 
 -- the count of a code's cells fits
-pub code-fits : (n : ℕ) (ram : List ℕ) (high : ℕ) (s : Slice) → n ≡ length (cells ram (glyphOf high s)) → Fits w16 (2 + n)
+pub code-fits : (n : ℕ) (ram : List ℕ) (high : ℕ) (s : Slice) → n ≡ length (cells ram (glyphOf high s)) → Fits w32 (2 + n)
 code-fits n ram high s e = omega (arith, atMost-length 2 ram (glyphOf high s) (glyphOf-most high s))
 
 either-few : (t : Bool) (g : ℕ) → g ≤ 2 → cond t 0 g ≤ 2
@@ -86,6 +89,34 @@ pub code-few : (ram font : List ℕ) (at : ℕ) (pen : Pen) (part : List ℕ) (c
 code-few ram font at pen part c part′ d =
     let g = glyphOf (getD ram (at + 1) 0) (pen .slice) in
     omega (arith, d .reads, either-few (c .ended) (length (cells ram g)) (atMost-length 2 ram g (glyphOf-most (getD ram (at + 1) 0) (pen .slice))))
+
+-- ---- a code whose word was looked up
+
+-- the count of its cells fits
+pub word-fits : (ram font : List ℕ) (high : ℕ) (s : Slice) (w : Word) → WordShown ram font high s w → Fits w32 (2 + w .cells)
+unfolding shownIn
+word-fits ram font high s w h = code-fits (w .cells) ram high s (ap (λ (x : Shown). x .cells) (h .shown))
+
+module _ (ram font : List ℕ) (at : ℕ) (pen : Pen) (part : List ℕ) (w : Word) (h : WordShown ram font (getD ram (at + 1) 0) (pen .slice) w) where
+  -- the end of line
+  pub whole-ended : w .ends ≡ true → CodeDrawn ram font at pen part (record { ended = true; cells = 2 }) part
+  whole-ended e = record { ends = sym e ∙ h .ends; pixels = refl; reads = refl }
+
+  -- a whole character
+  pub whole-drawn : w .ends ≡ false → (part′ : List ℕ) → length part ≡ 12
+      → part′ ≡ columns 12 (inkOf (pen .plain) (getD ram at 0)) (shownBits (pen .hidden) (getD ram at 0) (w .bits % 4096)) 0
+      → CodeDrawn ram font at pen part (record { ended = false; cells = 2 + w .cells }) part′
+  unfolding shownIn character
+  whole-drawn e part′ l d =
+      let p : Place = record { low = getD ram at 0; glyph = value ram (glyphOf (getD ram (at + 1) 0) (pen .slice)) } in
+      record {
+        ends = sym e ∙ h .ends;
+        pixels =
+            d
+            ∙ ap (λ (x : Shown). columns 12 (inkOf (pen .plain) (getD ram at 0)) (shownBits (pen .hidden) (getD ram at 0) (x .bits)) 0) (h .shown)
+            ∙ sym (take-all (length part) (character font (pen .plain) (pen .hidden) p) (omega (arith, character-length font (pen .plain) (pen .hidden) p)));
+        reads = ap (λ (x : Shown). 2 + x .cells) (h .shown);
+      }
 
 -- a row from an address is the row from the even address of its two bytes
 pub codes-even : (n : ℕ) (s : Slice) (a : ℕ) → codes n s (even a) ≡ codes n s a
@@ -140,6 +171,12 @@ rowFrom pen w x a = codes ((w - x + 11) / 12) (pen .slice) a
 -- the pixels of that room
 abbrev pub roomFrom : List ℕ → List ℕ → Pen → ℕ → ℕ → ℕ → List ℕ
 roomFrom ram font pen w x a = painted font (pen .plain) (pen .hidden) (w - x) (value ram (rowFrom pen w x a))
+
+-- where whole characters are left, the next one's part has twelve bytes
+pub part-twelve : (out : List ℕ) (x cut : ℕ) → x < cut → (cut - x) % 12 ≡ 0 → cut ≤ length out → length (take (x + 12 - x) (drop x out)) ≡ 12
+part-twelve out x cut h k l =
+    let m : x + 12 ≤ cut = omega arith in
+    simp (length-take, length-drop) (omega arith)
 
 -- the pixels before x are written, n cells are read, and what is left is the row from the even address a on
 pub record RowInv (ram font : List ℕ) (address : ℕ) (pen : Pen) (first w : ℕ) (out₀ out : List ℕ) (x a n : ℕ) : Type 0 where

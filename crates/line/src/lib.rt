@@ -9,8 +9,11 @@ ghost use Rattle.registers.specs.Registers.{settingsOf};
 ghost use Rattle.raster.specs.Raster.{widthOf};
 ghost use Rattle.walk.specs.Walk.{OnLine};
 ghost use Rattle.glyph.specs.Glyph.{Lent};
+ghost use Rattle.glyph.specs.Words.{fontSlice};
 ghost use Rattle.line.specs.Line.{inkOf, columns, shownBits};
+ghost use Rattle.line.specs.Tables.{maskTable, ofPixel, paletteOf, paintOf, castsShadow, solid, shadowed, fourOf, twelveOf};
 ghost use Rattle.line.specs.Contracts.{CharacterDrawn, CodeDrawn, RowDrawn, CharactersDrawn, StripDrawn, LineDrawn};
+use glyph::FontSlice;
 use raster::Slice;
 use registers::Registers;
 use registers::Settings;
@@ -36,10 +39,20 @@ pub struct Pen {
     pub hidden: bool,
 }
 
+// What a code draws four columns with: a byte for a column.
+pub struct Paint {
+    // background
+    pub back: u32,
+    // what turns it into foreground, by exclusive or
+    pub fore: u32,
+    // what turns it into shadow
+    pub cast: u32,
+}
+
 // Whether a code ended the line, and how many cells it read.
 pub struct Coded {
     pub ended: bool,
-    pub cells: u16,
+    pub cells: u32,
 }
 
 // The walk after a line, and how many cells the line read.
@@ -122,7 +135,7 @@ fn draw_character<'a>(
     low: u8,
     high: u8,
     pen: Pen,
-) -> u16
+) -> u32
     requires { ⌜ length (now out) ≤ 12 ⌝ }
     requires { ⌜ Lent (now ram) (now font) ⌝ }
     requires { ⌜ pen .slice .0 ≤ 18 ⌝ }
@@ -135,19 +148,19 @@ fn draw_character<'a>(
         ink_of(pen.plain, low),
         bits_shown(pen.hidden, low, shown.bits),
     );
-    shown.cells
+    shown.cells as u32
 }
 
 // The code at an even address: its character, or nothing where it ends the line.
-fn draw_code<'a>(out: &mut [u8], ram: &'a [u8], font: &'a [u8], at: u16, pen: Pen) -> Coded
+fn draw_code<'a>(out: &mut [u8], ram: &'a [u8], font: &'a [u8], at: usize, pen: Pen) -> Coded
     requires { ⌜ length (now out) ≤ 12 ⌝ }
     requires { ⌜ Lent (now ram) (now font) ⌝ }
     requires { ⌜ pen .slice .0 ≤ 18 ⌝ }
     requires { ⌜ at + 1 < 1024 ⌝ }
     ensures { λ r. ⌜ CodeDrawn (now (ram .entry)) (now (font .entry)) at pen (now (out .entry)) r (now (out .exit)) ⌝ }
 {
-    let low = ram[at as usize];
-    let high = ram[at as usize + 1];
+    let low = ram[at];
+    let high = ram[at + 1];
     if high == 255 {
         return Coded {
             ended: true,
@@ -161,6 +174,290 @@ fn draw_code<'a>(out: &mut [u8], ram: &'a [u8], font: &'a [u8], at: u16, pen: Pe
     }
 }
 
+fn four_of(pixel: u8) -> u32
+    ensures { λ r. ⌜ r ≡ ofPixel pixel ⌝ }
+{
+    pixel as u32 * 0x01010101
+}
+
+// Masks of four columns for an index of five bits, foreground and then shadow. A row makes them once.
+fn mask_table() -> [u32; 64]
+    ensures { λ r. ⌜ r ≡ maskTable ⌝ }
+{
+    [
+        0,
+        0xFF000000,
+        0xFF0000,
+        0xFFFF0000,
+        0xFF00,
+        0xFF00FF00,
+        0xFFFF00,
+        0xFFFFFF00,
+        0xFF,
+        0xFF0000FF,
+        0xFF00FF,
+        0xFFFF00FF,
+        0xFFFF,
+        0xFF00FFFF,
+        0xFFFFFF,
+        0xFFFFFFFF,
+        0,
+        0xFF000000,
+        0xFF0000,
+        0xFFFF0000,
+        0xFF00,
+        0xFF00FF00,
+        0xFFFF00,
+        0xFFFFFF00,
+        0xFF,
+        0xFF0000FF,
+        0xFF00FF,
+        0xFFFF00FF,
+        0xFFFF,
+        0xFF00FFFF,
+        0xFFFFFF,
+        0xFFFFFFFF,
+        0,
+        0,
+        0xFF000000,
+        0,
+        0xFF0000,
+        0xFF0000,
+        0xFF000000,
+        0,
+        0xFF00,
+        0xFF00,
+        0xFF00FF00,
+        0xFF00,
+        0xFF0000,
+        0xFF0000,
+        0xFF000000,
+        0,
+        0xFF,
+        0xFF,
+        0xFF0000FF,
+        0xFF,
+        0xFF00FF,
+        0xFF00FF,
+        0xFF0000FF,
+        0xFF,
+        0xFF00,
+        0xFF00,
+        0xFF00FF00,
+        0xFF00,
+        0xFF0000,
+        0xFF0000,
+        0xFF000000,
+        0,
+    ]
+}
+
+fn bits_kept(hidden: bool) -> u32
+    ensures { λ r. ⌜ r ≡ cond hidden 0 4095 ⌝ }
+{
+    if hidden { 0 } else { 4095 }
+}
+
+// Backgrounds, foregrounds and the bits shown, for each half of a code's low byte.
+fn palette_of(plain: u8, hidden: bool) -> [u32; 48]
+    ensures { λ r. ⌜ r ≡ paletteOf plain hidden ⌝ }
+{
+    let p = four_of(plain);
+    let h = bits_kept(hidden);
+    [
+        0x08080808,
+        0x09090909,
+        0x0A0A0A0A,
+        0x0B0B0B0B,
+        0x0C0C0C0C,
+        0x0D0D0D0D,
+        0x0E0E0E0E,
+        0x0F0F0F0F,
+        p,
+        p,
+        p,
+        p,
+        p,
+        p,
+        p,
+        p,
+        0x08080808,
+        0x09090909,
+        0x0A0A0A0A,
+        0x0B0B0B0B,
+        0x0C0C0C0C,
+        0x0D0D0D0D,
+        0x0E0E0E0E,
+        0x0F0F0F0F,
+        0x08080808,
+        0x09090909,
+        0x0A0A0A0A,
+        0x0B0B0B0B,
+        0x0C0C0C0C,
+        0x0D0D0D0D,
+        0x0E0E0E0E,
+        0x0F0F0F0F,
+        4095,
+        4095,
+        4095,
+        4095,
+        4095,
+        4095,
+        4095,
+        4095,
+        h,
+        h,
+        h,
+        h,
+        h,
+        h,
+        h,
+        h,
+    ]
+}
+
+fn paint_of(palette: &[u32], low: u8, pen: Pen) -> Paint
+    requires { ⌜ now palette ≡ paletteOf (pen .plain) (pen .hidden) ⌝ }
+    ensures { λ r. ⌜ r ≡ paintOf (pen .plain) low ⌝ }
+{
+    let back = palette[(low % 16) as usize];
+    Paint {
+        back: back,
+        fore: back ^ palette[16 + (low / 16) as usize],
+        cast: back ^ 0x08080808,
+    }
+}
+
+// The bits that a character shows of its word.
+fn word_bits(palette: &[u32], low: u8, pen: Pen, word: u32) -> u32
+    requires { ⌜ now palette ≡ paletteOf (pen .plain) (pen .hidden) ⌝ }
+    ensures shown { λ r. ⌜ r ≡ shownBits (pen .hidden) low (word % 4096) ⌝ }
+    ensures most { λ r. ⌜ r < 4096 ⌝ }
+{
+    word & palette[32 + (low / 16) as usize]
+}
+
+fn four_solid(masks: &[u32], i: usize, paint: Paint) -> u32
+    requires { ⌜ (now masks ≡ maskTable) × (i < 32) ⌝ }
+    ensures { λ r. ⌜ r ≡ solid paint i ⌝ }
+{
+    paint.back ^ (masks[i] & paint.fore)
+}
+
+fn four_shadowed(masks: &[u32], i: usize, paint: Paint) -> u32
+    requires { ⌜ (now masks ≡ maskTable) × (i < 32) ⌝ }
+    ensures { λ r. ⌜ r ≡ shadowed paint i ⌝ }
+{
+    paint.back ^ ((masks[i] & paint.fore) ^ (masks[32 + i] & paint.cast))
+}
+
+// Four pixels: stores of consecutive bytes of one number, which the compiler makes one store.
+fn put_four(out: &mut [u8], pixels: u32)
+    requires { ⌜ length (now out) ≡ 4 ⌝ }
+    ensures { λ _. ⌜ now (out .exit) ≡ fourOf pixels ⌝ }
+{
+    out[0] = (pixels % 256) as u8;
+    out[1] = (pixels / 256 % 256) as u8;
+    out[2] = (pixels / 65536 % 256) as u8;
+    out[3] = (pixels / 16777216 % 256) as u8;
+}
+
+fn draw_solid(out: &mut [u8], masks: &[u32], paint: Paint, bits: u32)
+    requires { ⌜ (length (now out) ≡ 12) × (now masks ≡ maskTable) × (bits < 4096) ⌝ }
+    ensures { λ _. ⌜ now (out .exit) ≡ twelveOf (solid paint) bits ⌝ }
+{
+    put_four(
+        &mut out[0..4],
+        four_solid(masks, (bits / 256) as usize, paint),
+    );
+    put_four(
+        &mut out[4..8],
+        four_solid(masks, (bits / 16 % 32) as usize, paint),
+    );
+    put_four(
+        &mut out[8..12],
+        four_solid(masks, (bits % 32) as usize, paint),
+    );
+}
+
+fn draw_shadowed(out: &mut [u8], masks: &[u32], paint: Paint, bits: u32)
+    requires { ⌜ (length (now out) ≡ 12) × (now masks ≡ maskTable) × (bits < 4096) ⌝ }
+    ensures { λ _. ⌜ now (out .exit) ≡ twelveOf (shadowed paint) bits ⌝ }
+{
+    put_four(
+        &mut out[0..4],
+        four_shadowed(masks, (bits / 256) as usize, paint),
+    );
+    put_four(
+        &mut out[4..8],
+        four_shadowed(masks, (bits / 16 % 32) as usize, paint),
+    );
+    put_four(
+        &mut out[8..12],
+        four_shadowed(masks, (bits % 32) as usize, paint),
+    );
+}
+
+// Does a code's foreground cast a shadow: BK3 and BK1?
+fn casts(low: u8) -> bool
+    ensures { λ r. ⌜ r ≡ castsShadow low ⌝ }
+{
+    if low / 8 % 2 == 0 {
+        return false;
+    }
+    if low / 2 % 2 == 0 {
+        return false;
+    }
+    true
+}
+
+// The twelve columns of a whole character.
+fn draw_twelve(out: &mut [u8], masks: &[u32], palette: &[u32], low: u8, pen: Pen, word: u32)
+    requires { ⌜ (length (now out) ≡ 12) × (now masks ≡ maskTable) × (now palette ≡ paletteOf (pen .plain) (pen .hidden)) ⌝ }
+    ensures { λ _. ⌜ now (out .exit) ≡ columns 12 (inkOf (pen .plain) low) (shownBits (pen .hidden) low (word % 4096)) 0 ⌝ }
+{
+    let bits = word_bits(palette, low, pen, word);
+    let paint = paint_of(palette, low, pen);
+    if casts(low) {
+        draw_shadowed(out, masks, paint, bits);
+        return;
+    }
+    draw_solid(out, masks, paint, bits);
+}
+
+// draw_code where there is room for all twelve columns.
+fn draw_whole<'a>(
+    out: &mut [u8],
+    masks: &[u32],
+    palette: &[u32],
+    ram: &'a [u8],
+    font: &'a [u8],
+    at: usize,
+    pen: Pen,
+    found: FontSlice,
+) -> Coded
+    requires { ⌜ (length (now out) ≡ 12) × (now masks ≡ maskTable) × (now palette ≡ paletteOf (pen .plain) (pen .hidden)) ⌝ }
+    requires { ⌜ Lent (now ram) (now font) ⌝ }
+    requires { ⌜ (pen .slice .0 ≤ 18) × (found ≡ fontSlice (pen .slice)) ⌝ }
+    requires { ⌜ at + 1 < 1024 ⌝ }
+    ensures { λ r. ⌜ CodeDrawn (now (ram .entry)) (now (font .entry)) at pen (now (out .entry)) r (now (out .exit)) ⌝ }
+{
+    let low = ram[at];
+    let slice = pen.slice;
+    let word = glyph::word_shown(ram, font, ram[at + 1], slice, found);
+    if word.ends {
+        return Coded {
+            ended: true,
+            cells: 2,
+        };
+    }
+    draw_twelve(out, masks, palette, low, pen, word.bits);
+    Coded {
+        ended: false,
+        cells: 2 + word.cells,
+    }
+}
+
 // A row of characters from pixel first up to w, and plain from its end on; answers how many cells it read.
 fn draw_row<'a>(
     out: &mut [u8],
@@ -170,24 +467,29 @@ fn draw_row<'a>(
     pen: Pen,
     first: usize,
     w: usize,
-) -> u16
+) -> u32
     requires { ⌜ (first ≤ w) × (w ≤ length (now out)) × (w ≤ 768) ⌝ }
     requires { ⌜ Lent (now ram) (now font) ⌝ }
     requires { ⌜ pen .slice .0 ≤ 18 ⌝ }
     ensures { λ r. ⌜ RowDrawn (now (ram .entry)) (now (font .entry)) address pen first w (now (out .entry)) r (now (out .exit)) ⌝ }
 {
+    let masks = mask_table();
+    let palette = palette_of(pen.plain, pen.hidden);
+    let slice = pen.slice;
+    let found = glyph::font_slice(slice);
+    let cut = w - (w - first) % 12;
     let mut x = first;
-    let mut a = walk::even_address(address);
-    let mut cells: u16 = 0;
-    while x + 12 <= w {
+    let mut a = walk::even_address(address) as usize;
+    let mut cells: u32 = 0;
+    while x < cut {
         let e = x + 12;
-        let code = draw_code(&mut out[x..e], ram, font, a, pen);
+        let code = draw_whole(&mut out[x..e], &masks, &palette, ram, font, a, pen, found);
         cells += code.cells;
         if code.ended {
             fill(&mut out[x..w], pen.plain);
             return cells;
         }
-        a = walk::even_address(a + 2);
+        a = (a + 2) / 2 % 512 * 2;
         x = e;
     }
     if x < w {
@@ -217,7 +519,7 @@ fn draw_characters<'a>(
     pen: Pen,
     first: usize,
     w: usize,
-) -> u16
+) -> u32
     requires { ⌜ (w ≤ length (now out)) × (w ≤ 768) ⌝ }
     requires { ⌜ Lent (now ram) (now font) ⌝ }
     requires { ⌜ pen .slice .0 ≤ 18 ⌝ }
@@ -239,7 +541,7 @@ fn draw_strip<'a>(
     settings: Settings,
     strip: Strip,
     number: u8,
-) -> u16
+) -> u32
     requires { ⌜ Lent (now ram) (now font) ⌝ }
     requires { ⌜ OnLine strip ⌝ }
     requires { ⌜ (settings .ld < 64) × (settings .fbk < 2) × (widthOf (settings .ld) ≤ length (now out)) ⌝ }
@@ -298,6 +600,6 @@ pub fn draw<'a>(
     let read = draw_strip(out, ram, font, settings, strip, number);
     Line {
         walk: next,
-        cells: walked.cells + read,
+        cells: walked.cells + read as u16,
     }
 }

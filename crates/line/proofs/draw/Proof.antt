@@ -22,10 +22,15 @@ draw-strip-requires c κs =
     let e = c .before .before .before .settings .ensures in
     (p .0, (rw (c .before .before .next-line .ensures, e) (walked-line _ _ _), (rw e (ld-bound r), rw e (fbk-bound r), rw e (p .1))))
 
-add-t14 : tie.Need-add-t14
-add-t14 c =
+cast-t14 : tie.Need-cast-t14
+cast-t14 c =
+    let d = c .before .before in
+    omega (arith, line-cells _ _ _ _ _ _ _ _ _ _ (d .before .before .before .before .settings .ensures) (d .before .before .before .next-line .ensures) (d .draw-strip .ensures))
+
+add-t15 : tie.Need-add-t15
+add-t15 c =
     let d = c .before .before .before in
-    omega (arith, line-cells _ _ _ _ _ _ _ _ _ _ (c .before .before .before .before .before .before .before .settings .ensures) (c .before .before .before .before .before .before .next-line .ensures) (d .draw-strip .ensures))
+    omega (arith, line-cells _ _ _ _ _ _ _ _ _ _ (d .before .before .before .before .settings .ensures) (d .before .before .before .next-line .ensures) (d .draw-strip .ensures))
 
 same-length : tie.Need-same-length
 same-length c = search needs
@@ -33,9 +38,9 @@ same-length c = search needs
 returns : tie.Need-returns
 returns c =
     let d = c .before .before .before in
-    line-drawn _ _ _ _ _ _ _ _ _ _ (c .before .before .before .before .before .before .before .settings .ensures) (c .before .before .before .before .before .before .next-line .ensures) (d .draw-strip .ensures)
+    line-drawn _ _ _ _ _ _ _ _ _ _ (d .before .before .before .before .settings .ensures) (d .before .before .before .next-line .ensures) (d .draw-strip .ensures)
 
 pub draw-spec : {M : Type 1} → statement M
 draw-spec =
     tie.close
-    (tie.spec settings-requires next-line-requires draw-strip-requires add-t14 same-length returns)
+    (tie.spec settings-requires next-line-requires draw-strip-requires cast-t14 add-t15 same-length returns)

@@ -22,13 +22,16 @@ draw-columns-requires : tie.Need-draw-columns-requires
 draw-columns-requires c κs =
     (search needs, omega (arith, c .bits-shown .ensures .1, c .before .before .before .lookup .ensures .1))
 
+cast-result : tie.Need-cast-result
+cast-result c = search needs
+
 same-length : tie.Need-same-length
 same-length c = search needs
 
 returns : tie.Need-returns
 unfolding character shownIn
 returns c =
-    let k = c .before .before in
+    let k = c .before .before .before in
     let s = k .before .before .before .before .lookup .ensures .0 in
     record {
       pixels = k .draw-columns .ensures ∙ rw (k .before .before .ink-of .ensures, k .before .bits-shown .ensures .0, s);
@@ -43,5 +46,6 @@ draw-character-spec =
     ink-of-requires
     bits-shown-requires
     draw-columns-requires
+    cast-result
     same-length
     returns)

@@ -23,8 +23,8 @@ returns c = record { ends = sym (eq-eqb _ _ (c .if1 .taken)); pixels = refl; rea
 draw-character-requires : tie.Need-draw-character-requires
 draw-character-requires c κs = search needs
 
-add-t17 : tie.Need-add-t17
-add-t17 c =
+add-t16 : tie.Need-add-t16
+add-t16 c =
     code-fits _ _ _ _ (c .before .before .draw-character .ensures .reads)
 
 same-length : tie.Need-same-length
@@ -48,6 +48,6 @@ draw-code-spec =
     shared-slice-read-high
     returns
     draw-character-requires
-    add-t17
+    add-t16
     same-length
     returns-2)
