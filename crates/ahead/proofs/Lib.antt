@@ -1,3 +1,5 @@
 pub mod Lines
+pub mod Looks
+pub mod Marks
 pub mod Rows
 pub mod Slices

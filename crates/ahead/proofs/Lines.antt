@@ -1,6 +1,6 @@
 -- The rows of several lines of a strip, and the remaining lines strip by strip.
 -- Assumes nothing.
-use Prim.Native.Nat.{ℕ, zero, suc, _+_, _-_, _≤_, _<_, min}
+use Prim.Native.Nat.{ℕ, zero, suc, _+_, _-_, _*_, _/_, _%_, _≤_, _<_, min, max}
 use mathlib.Core.Path.{_≡_, refl, sym, ap, ap₂, _∙_, subst}
 use mathlib.Core.Bool.{Bool, true, false, cond, _&&_, _||_, true≢false}
 use mathlib.Core.List.{List, [], _∷_, _++_, append-assoc}
@@ -8,7 +8,7 @@ use native.Mathlib.Nat.{not-suc-le-zero}
 use native.Mathlib.Numerals.{sub-one}
 use native.Mathlib.Decide.{decLe}
 use native.Mathlib.Omega.{arith}
-use borrow.Author.Tests.{eqb-false, leb-false, eq-eqb, le-leb, lt-leb, ne-eqb}
+use borrow.Author.Tests.{eqb-false, leb-false, eq-eqb, le-leb, lt-leb, ne-eqb, lt-ltb, le-ltb}
 use lib.Dec.{eqb, ltb, leb}
 use lib.ListN.{getD}
 use Rattle.cells.specs.Reading.{Reading, done, read, bind, fmap, value, cells, among}
@@ -19,15 +19,14 @@ use Rattle.raster.specs.Raster.{InStrip, stripLines, unzoomed, sliceNumber, int
 use Rattle.walk.specs.declared.Strip.{Strip}
 use Rattle.walk.specs.declared.Strip.the-variants.{Spacing, Characters}
 use Rattle.walk.specs.declared.Walk.{Walk}
-use Rattle.walk.specs.Walk.{even, next, stripOf, over, linesLeft, begun, advanced, nextLine}
+use Rattle.walk.specs.Walk.{even, next, atLeastOne, stripOf, over, linesLeft, begun, advanced, nextLine}
 use Rattle.walk.proofs.Laws.{stripOf-begun}
 use Rattle.line.specs.Line.{Place, Scanned, codes, rowOf, shownRow, scan}
 use Rattle.line.proofs.Laws.{interpolated-bound}
 use Rattle.line.proofs.Strips.{scan-value, scan-cells}
 use Rattle.ahead.specs.Ahead.{remaining}
-use Rattle.ahead.specs.Looking.{userSlice, rowReads, sliceShown, rowCells, stripReads, pairOf, Passes}
-use Rattle.ahead.specs.declared.Passed.{Passed}
-use Rattle.ahead.proofs.Rows.{Bytes, ofSlice, or-false, among-append, row-reads, rows-merge, first-two, pair-is}
+use Rattle.ahead.specs.Looking.{userSlice, rowReads, sliceShown, rowCells, stripReads, pairOf, codesOf, begunLines}
+use Rattle.ahead.proofs.Rows.{Bytes, ofSlice, or-false, among-append, row-reads, rows-merge, reads-even, first-two, pair-is}
 
 -- ---- the rows of a strip
 
@@ -110,41 +109,138 @@ lines-read (suc k) ram s address height zoom line c b o h =
 
 -- ---- what a strip's rows read, case by case
 
-no-cell : (c : ℕ) {l : List ℕ} → l ≡ [] → false ≡ among c l
+no-cell : (c : ℕ) {l : List ℕ} → l ≡ [] → among c l ≡ false
 unfolding among
-no-cell c e = ap (among c) (sym e)
+no-cell c e = ap (among c) e
+
+-- with OSD 1, or with OSD 0
+by-osd : {X : Type 0} (s : Settings) → (s .osd ≡ true → X) → (s .osd ≡ false → X) → X
+by-osd s f g = pick (s .osd) f g
+  where
+    pick : {X : Type 0} (b : Bool) → (b ≡ true → X) → (b ≡ false → X) → X
+    pick true f g = f refl
+    pick false f g = g refl
+
+-- the k lines lie in the strip
+pub lines-in : (k : ℕ) (strip : Strip) {address height : ℕ} {zoom enabled : Bool} {line : ScanLine} → strip ≡ Characters address height zoom enabled line
+    → 1 ≤ k → k ≤ linesLeft strip → line .0 + k ≤ stripLines height zoom
+lines-in k strip {address} {height} {zoom} {enabled} {line} e h l =
+    let m : k ≤ stripLines height zoom - line .0 = unfold linesLeft in subst (λ (t : Strip). k ≤ linesLeft t) e l in
+    omega arith
 
 module _ (ram : List ℕ) (s : Settings) (k : ℕ) (strip : Strip) (c : ℕ) where
-  pub strip-off : s .osd ≡ false → false ≡ stripReads ram s k strip c
+  strip-off : s .osd ≡ false → stripReads ram s k strip c ≡ false
   strip-off o = no-cell c (rows-off ram s k strip o)
 
-  pub strip-spacing : {left : ℕ} → s .osd ≡ true → strip ≡ Spacing left → false ≡ stripReads ram s k strip c
-  strip-spacing {left} o e = no-cell c (ap (rowCells ram s k) e ∙ rows-spacing ram s k left o)
+  pub strip-spacing : {left : ℕ} → strip ≡ Spacing left → stripReads ram s k strip c ≡ false
+  strip-spacing {left} e = by-osd s (λ o. no-cell c (ap (rowCells ram s k) e ∙ rows-spacing ram s k left o)) strip-off
 
-  pub strip-disabled : {address height : ℕ} {zoom enabled : Bool} {line : ScanLine} → s .osd ≡ true → strip ≡ Characters address height zoom enabled line
-      → enabled ≡ false → false ≡ stripReads ram s k strip c
-  strip-disabled {address} {height} {zoom} {enabled} {line} o e d =
-      no-cell c (ap (rowCells ram s k) e ∙ rows-disabled ram s k address height zoom enabled line o d)
+  pub strip-disabled : {address height : ℕ} {zoom enabled : Bool} {line : ScanLine} → strip ≡ Characters address height zoom enabled line
+      → enabled ≡ false → stripReads ram s k strip c ≡ false
+  strip-disabled {address} {height} {zoom} {enabled} {line} e d =
+      by-osd s (λ o. no-cell c (ap (rowCells ram s k) e ∙ rows-disabled ram s k address height zoom enabled line o d)) strip-off
 
-  -- the k lines lie in the strip
-  pub lines-in : {address height : ℕ} {zoom enabled : Bool} {line : ScanLine} → strip ≡ Characters address height zoom enabled line
-      → 1 ≤ k → k ≤ linesLeft strip → line .0 + k ≤ stripLines height zoom
-  lines-in {address} {height} {zoom} {enabled} {line} e h l =
-      let m : k ≤ stripLines height zoom - line .0 = unfold linesLeft in subst (λ (t : Strip). k ≤ linesLeft t) e l in
-      omega arith
+  pub strip-none : k ≡ 0 → stripReads ram s k strip c ≡ false
+  unfolding rowCells
+  strip-none e = no-cell c (ap (λ (m : ℕ). rowCells ram s m strip) e)
 
-  pub strip-characters : {address height : ℕ} {zoom enabled : Bool} {line : ScanLine} → Bytes ram → s .osd ≡ true
+  pub strip-characters : {address height : ℕ} {zoom enabled : Bool} {line : ScanLine} → Bytes ram
       → strip ≡ Characters address height zoom enabled line → enabled ≡ true → 1 ≤ k → k ≤ linesLeft strip
-      → rowReads ram c (sliceShown c height zoom k (line .0) && ltb c 988) (columnsOf (s .ld) (s .dd)) address ≡ stripReads ram s k strip c
-  strip-characters {address} {height} {zoom} {enabled} {line} b o e d h l =
-      let q : strip ≡ Characters address height zoom true line = e ∙ ap (λ (t : Bool). Characters address height zoom t line) d in
-      sym (ap (λ (t : Strip). among c (rowCells ram s k t)) q ∙ all k h (lines-in e h l))
+      → rowReads ram c (sliceShown c height zoom k (line .0) && ltb c 988) (codesOf s) address ≡ stripReads ram s k strip c
+  unfolding rowReads
+  strip-characters {address} {height} {zoom} {enabled} {line} b e d h l =
+      by-osd s
+      (λ o.
+      ap (λ (t : Bool). rowReads ram c (sliceShown c height zoom k (line .0) && ltb c 988) (cond t (columnsOf (s .ld) (s .dd)) 0) address) o
+      ∙ sym (ap (λ (t : Strip). among c (rowCells ram s k t)) q ∙ all o k h (lines-in k strip e h l)))
+      (λ o.
+      ap (λ (t : Bool). rowReads ram c (sliceShown c height zoom k (line .0) && ltb c 988) (cond t (columnsOf (s .ld) (s .dd)) 0) address) o
+      ∙ sym (strip-off o))
     where
-      all : (m : ℕ) → 1 ≤ m → line .0 + m ≤ stripLines height zoom
+      q : strip ≡ Characters address height zoom true line
+      q = e ∙ ap (λ (t : Bool). Characters address height zoom t line) d
+
+      all : s .osd ≡ true → (m : ℕ) → 1 ≤ m → line .0 + m ≤ stripLines height zoom
           → among c (rowCells ram s m (Characters address height zoom true line))
           ≡ rowReads ram c (sliceShown c height zoom m (line .0) && ltb c 988) (columnsOf (s .ld) (s .dd)) address
-      all zero h l = absurd (not-suc-le-zero h)
-      all (suc m) h l = lines-read m ram s address height zoom line c b o l
+      all o zero h l = absurd (not-suc-le-zero h)
+      all o (suc m) h l = lines-read m ram s address height zoom line c b o l
+
+-- ---- a strip with lines left
+
+left-over : (s : Strip) → 1 ≤ linesLeft s → over s ≡ false
+unfolding linesLeft over
+left-over (Spacing left) h = ne-eqb left 0 (omega arith)
+left-over (Characters address height zoom enabled line) h = lt-leb (stripLines height zoom) (line .0) (omega arith)
+
+none-over : (s : Strip) → linesLeft s ≡ 0 → over s ≡ true
+unfolding linesLeft over
+none-over (Spacing left) h = eq-eqb left 0 h
+none-over (Characters address height zoom enabled line) h = le-leb (stripLines height zoom) (line .0) (omega arith)
+
+pub over-left : (s : Strip) → over s ≡ false → 1 ≤ linesLeft s
+unfolding linesLeft over
+over-left (Spacing left) h = omega (arith, eqb-false left 0 h)
+over-left (Characters address height zoom enabled line) h = omega (arith, leb-false (stripLines height zoom) (line .0) h)
+
+-- ---- the strip of a descriptor
+
+begun-spacing : (ch low high : ℕ) → high < 128 → stripOf ch low high ≡ Spacing (atLeastOne low)
+unfolding stripOf
+begun-spacing ch low high h = rw (eq-eqb (high / 128 % 2) 0 (omega arith))
+
+begun-characters : (ch low high : ℕ) → 128 ≤ high → high < 256
+    → stripOf ch low high
+    ≡ Characters (even (high % 4 * 256 + low)) (atLeastOne ch) (eqb (high / 32 % 2) 1) (eqb (high / 64 % 2) 1) (record { 0 = 0 })
+unfolding stripOf
+begun-characters ch low high h k = rw (ne-eqb (high / 128 % 2) 0 (λ e. omega arith))
+
+pub begun-left : (ch height low high : ℕ) → height ≡ atLeastOne ch → high < 256 → begunLines height low high ≡ linesLeft (stripOf ch low high)
+unfolding linesLeft
+begun-left ch height low high e h = by (decLe 128 high)
+  where
+    by : Dec (128 ≤ high) → begunLines height low high ≡ linesLeft (stripOf ch low high)
+    by (yes l) =
+        let z : stripLines height (eqb (high / 32 % 2) 1) - 0 ≡ stripLines height (eqb (high / 32 % 2) 1) = omega arith in
+        rw (le-ltb high 128 l, begun-characters ch low high l h, ← e) (sym z)
+    by (no l) =
+        let m : high < 128 = omega arith in
+        rw (lt-ltb high 128 m, begun-spacing ch low high m)
+
+pub begun-some : (height low high : ℕ) → 1 ≤ height → 1 ≤ begunLines height low high
+begun-some height low high h = by (ltb high 128) (eqb (high / 32 % 2) 1)
+  where
+    by : (t zoom : Bool) → 1 ≤ cond t (max 1 low) (stripLines height zoom)
+    by true zoom = omega arith
+    by false true = omega arith
+    by false false = h
+
+-- a strip with no row
+pub begun-none : (ram : List ℕ) (s : Settings) (k low high c : ℕ) → high < 192 → stripReads ram s k (stripOf (s .ch) low high) c ≡ false
+begun-none ram s k low high c h = by (decLe 128 high)
+  where
+    by : Dec (128 ≤ high) → stripReads ram s k (stripOf (s .ch) low high) c ≡ false
+    by (yes l) =
+        strip-disabled ram s k (stripOf (s .ch) low high) c (begun-characters (s .ch) low high l (omega arith)) (ne-eqb (high / 64 % 2) 1 (λ e. omega arith))
+    by (no l) = strip-spacing ram s k (stripOf (s .ch) low high) c (begun-spacing (s .ch) low high (omega arith))
+
+-- a strip of characters, as far as it is shown
+pub begun-reads : (ram : List ℕ) (s : Settings) (left low high height c : ℕ) (shown : Bool) → Bytes ram → 192 ≤ high → high < 256 → 1 ≤ left
+    → height ≡ atLeastOne (s .ch)
+    → shown ≡ sliceShown c height (eqb (high / 32 % 2) 1) (min (stripLines height (eqb (high / 32 % 2) 1)) left) 0 && ltb c 988
+    → rowReads ram c shown (codesOf s) (high % 4 * 256 + low)
+    ≡ stripReads ram s (min (linesLeft (stripOf (s .ch) low high)) left) (stripOf (s .ch) low high) c
+begun-reads ram s left low high height c shown b h k l e f =
+    let t = stripOf (s .ch) low high in
+    let q = begun-characters (s .ch) low high (omega arith) k in
+    let w : begunLines height low high ≡ stripLines height (eqb (high / 32 % 2) 1) = rw (le-ltb high 128 (omega arith)) in
+    let m : linesLeft t ≡ stripLines height (eqb (high / 32 % 2) 1) = sym (begun-left (s .ch) height low high e k) ∙ w in
+    sym (reads-even ram c shown (codesOf s) (high % 4 * 256 + low))
+    ∙ ap (λ (x : Bool). rowReads ram c x (codesOf s) (even (high % 4 * 256 + low)))
+    (f
+    ∙ ap₂ (λ (x y : ℕ). sliceShown c x (eqb (high / 32 % 2) 1) (min y left) 0 && ltb c 988) e (sym m))
+    ∙ strip-characters ram s (min (linesLeft t) left) t c b q (eq-eqb (high / 64 % 2) 1 (omega arith))
+    (omega (arith, over-left t (stripOf-begun (s .ch) low high))) (omega arith)
 
 -- ---- the remaining lines of the strip on screen
 
@@ -161,21 +257,6 @@ step-read : (ch : ℕ) (w : Walk) → over (w .strip) ≡ true
     done (record { descriptor = next (even (w .descriptor)); strip = advanced (stripOf ch low high) }))
 unfolding nextLine begun fmap
 step-read ch w e = rw e
-
-left-over : (s : Strip) → 1 ≤ linesLeft s → over s ≡ false
-unfolding linesLeft over
-left-over (Spacing left) h = ne-eqb left 0 (omega arith)
-left-over (Characters address height zoom enabled line) h = lt-leb (stripLines height zoom) (line .0) (omega arith)
-
-none-over : (s : Strip) → linesLeft s ≡ 0 → over s ≡ true
-unfolding linesLeft over
-none-over (Spacing left) h = eq-eqb left 0 h
-none-over (Characters address height zoom enabled line) h = le-leb (stripLines height zoom) (line .0) (omega arith)
-
-pub over-left : (s : Strip) → over s ≡ false → 1 ≤ linesLeft s
-unfolding linesLeft over
-over-left (Spacing left) h = omega (arith, eqb-false left 0 h)
-over-left (Characters address height zoom enabled line) h = omega (arith, leb-false (stripLines height zoom) (line .0) h)
 
 left-advanced : (s : Strip) → linesLeft (advanced s) ≡ linesLeft s - 1
 unfolding linesLeft advanced
@@ -270,55 +351,54 @@ descriptor-passed ram s (suc n) a t h e =
     ∙ ap (λ (l : List ℕ). even a ∷ (even a + 1) ∷ l)
     (sym (line-on ram s n (next (even a)) (stripOf (s .ch) low high) (stripOf-begun (s .ch) low high)))
 
--- ---- the search's turns from strip to strip
 
-or-with : {a b : Bool} (r : Bool) → a ≡ b → a || r ≡ b || r
+-- ---- descriptor by descriptor
+
+pub or-with : {a b : Bool} (r : Bool) → a ≡ b → a || r ≡ b || r
 or-with r e = ap (λ (x : Bool). x || r) e
 
-module _ (ram : List ℕ) (s : Settings) (n : ℕ) (c : ℕ) where
-  -- the lines of a strip that has some left
-  pub lines-passed : (a : ℕ) (t : Strip) (k : ℕ) (found : Bool) → k ≡ min (linesLeft t) n → 1 ≤ n → over t ≡ false → found ≡ stripReads ram s k t c
-      → Passes ram s n (at a t) c (record { found = found; left = n - k; walk = at a (Spacing 0) })
-  lines-passed a t k found e h o f =
-      record {
-        hit = λ y. strip-passed ram s n a t k c e ∙ or-with _ (sym f ∙ y);
-        miss = λ y. strip-passed ram s n a t k c e ∙ or-with _ (sym f ∙ y);
-        fewer = λ y. omega (arith, over-left t o);
-      }
+module _ (ram : List ℕ) (s : Settings) (c : ℕ) where
+  -- the descriptor's cells, and then the lines of its strip
+  with-descriptor : (n a : ℕ) → 1 ≤ n
+      → among c (cells ram (remaining s n (at a (Spacing 0))))
+      ≡ eqb (pairOf c) (even a)
+      || among c (cells ram (remaining s n (at (next (even a)) (stripOf (s .ch) (getD ram (even a) 0) (getD ram (even a + 1) 0)))))
+  unfolding among over
+  with-descriptor n a h =
+      ap (among c) (descriptor-passed ram s n a (Spacing 0) h refl)
+      ∙ first-two (eqb c (even a)) (eqb c (even a + 1)) _
+      ∙ or-with _ (pair-is c (even a) (omega arith))
 
-  -- the descriptor's cells
-  with-descriptor : (w : Walk) → 1 ≤ n → over (w .strip) ≡ true
-      → among c (cells ram (remaining s n w))
-      ≡ eqb (pairOf c) (even (w .descriptor))
-      || among c (cells ram (remaining s n
-      (at (next (even (w .descriptor))) (stripOf (s .ch) (getD ram (even (w .descriptor)) 0) (getD ram (even (w .descriptor) + 1) 0)))))
-  unfolding among
-  with-descriptor w h o =
-      ap (among c) (descriptor-passed ram s n (w .descriptor) (w .strip) h o)
-      ∙ first-two (eqb c (even (w .descriptor))) (eqb c (even (w .descriptor) + 1)) _
-      ∙ or-with _ (pair-is c (even (w .descriptor)) (omega arith))
+  pub from-even : (n a : ℕ) → among c (cells ram (remaining s n (at (even a) (Spacing 0)))) ≡ among c (cells ram (remaining s n (at a (Spacing 0))))
+  unfolding remaining cells
+  from-even zero a = refl
+  from-even (suc n) a =
+      let e : even (even a) ≡ even a = omega arith in
+      with-descriptor (suc n) (even a) (omega arith)
+      ∙ ap (λ (x : ℕ).
+      eqb (pairOf c) x
+      || among c (cells ram (remaining s (suc n) (at (next x) (stripOf (s .ch) (getD ram x 0) (getD ram (x + 1) 0)))))) e
+      ∙ sym (with-descriptor (suc n) a (omega arith))
 
-  pub descriptor-hit : (w : Walk) (p : Passed) → 1 ≤ n → over (w .strip) ≡ true → pairOf c ≡ even (w .descriptor) → p .found ≡ true → Passes ram s n w c p
-  descriptor-hit w p h o e y =
-      record {
-        hit = λ _. with-descriptor w h o ∙ or-with _ (eq-eqb _ _ e);
-        miss = λ z. absurd (true≢false (sym y ∙ z));
-        fewer = λ z. absurd (true≢false (sym y ∙ z));
-      }
+  pub none-left : (n a : ℕ) → n ≤ 0 → among c (cells ram (remaining s n (at a (Spacing 0)))) ≡ false
+  unfolding remaining cells among
+  none-left zero a h = refl
+  none-left (suc n) a h = absurd (not-suc-le-zero h)
 
-  -- a descriptor that is not the cell's, and then the lines of its strip
-  pub descriptor-miss : (w : Walk) (p : Passed) (a : ℕ) (t : Strip) → 1 ≤ n → over (w .strip) ≡ true → (pairOf c ≡ even (w .descriptor) → ⊥)
-      → a ≡ next (even (w .descriptor)) → t ≡ stripOf (s .ch) (getD ram (even (w .descriptor)) 0) (getD ram (even (w .descriptor) + 1) 0)
-      → Passes ram s n (at a t) c p → Passes ram s n w c p
-  descriptor-miss w p a t h o e q r d =
-      let same : among c (cells ram (remaining s n w)) ≡ among c (cells ram (remaining s n (at a t))) =
-      with-descriptor w h o
-      ∙ or-with _ (ne-eqb _ _ e)
-      ∙ ap₂ (λ (x : ℕ) (y : Strip). among c (cells ram (remaining s n (at x y)))) (sym q) (sym r)
-      in
-      record { hit = λ y. same ∙ d .hit y; miss = λ y. same ∙ d .miss y; fewer = d .fewer }
+  module _ (n a : ℕ) (some : 1 ≤ n) (p : even a ≡ a) where
+    pub descriptor-here : pairOf c ≡ a → among c (cells ram (remaining s n (at a (Spacing 0)))) ≡ true
+    descriptor-here e = with-descriptor n a some ∙ or-with _ (eq-eqb (pairOf c) (even a) (omega arith))
 
-pub none-left : (ram : List ℕ) (s : Settings) (n : ℕ) (w : Walk) (c : ℕ) → n ≤ 0 → false ≡ among c (cells ram (remaining s n w))
-unfolding remaining cells among
-none-left ram s zero w c h = refl
-none-left ram s (suc n) w c h = absurd (not-suc-le-zero h)
+    -- another's descriptor: the rows of its strip, and the lines after it
+    pub descriptor-on : (lines : ℕ) → (pairOf c ≡ a → ⊥) → lines ≡ linesLeft (stripOf (s .ch) (getD ram a 0) (getD ram (a + 1) 0))
+        → among c (cells ram (remaining s n (at a (Spacing 0))))
+        ≡ stripReads ram s (min (linesLeft (stripOf (s .ch) (getD ram a 0) (getD ram (a + 1) 0))) n) (stripOf (s .ch) (getD ram a 0) (getD ram (a + 1) 0)) c
+        || among c (cells ram (remaining s (n - lines) (at (even (a + 2)) (Spacing 0))))
+    descriptor-on lines e q =
+        let t = stripOf (s .ch) (getD ram a 0) (getD ram (a + 1) 0) in
+        let z : n - min (linesLeft t) n ≡ n - lines = omega arith in
+        with-descriptor n a some
+        ∙ or-with _ (ne-eqb (pairOf c) (even a) (λ y. e (omega arith)))
+        ∙ ap (λ (x : ℕ). among c (cells ram (remaining s n (at (next x) (stripOf (s .ch) (getD ram x 0) (getD ram (x + 1) 0)))))) p
+        ∙ strip-passed ram s n (next a) t (min (linesLeft t) n) c refl
+        ∙ ap (λ (x : ℕ). stripReads ram s (min (linesLeft t) n) t c || among c (cells ram (remaining s x (at (next a) (Spacing 0))))) z

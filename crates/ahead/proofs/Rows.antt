@@ -4,9 +4,8 @@ use Prim.Native.Nat.{ℕ, zero, suc, _+_, _-_, _*_, _/_, _%_, _≤_, _<_}
 use mathlib.Core.Path.{_≡_, refl, sym, ap, ap₂, _∙_, subst}
 use mathlib.Core.Bool.{Bool, true, false, cond, _&&_, _||_}
 use mathlib.Core.List.{List, [], _∷_, _++_}
-use native.Mathlib.Decide.{ℕ-discrete, decLt}
-use native.Mathlib.Nat.{not-suc-le-zero}
-use native.Mathlib.Numerals.{sub-one}
+use native.Mathlib.Decide.{ℕ-discrete, decLt, decLe}
+use native.Mathlib.Nat.{not-suc-le-zero, mod-eq-of-lt, mod-add-mod, add-mod-right, mul-add-mod-self-left}
 use native.Mathlib.Omega.{arith}
 use borrow.Author.Tests.{eq-eqb, ne-eqb, eqb-true, eqb-false, lt-ltb, le-ltb, ltb-true, ltb-false}
 use lib.Dec.{T, eqb, ltb, eqb-refl, eqb→eq, ltb→lt, lt→ltb}
@@ -17,11 +16,11 @@ use Rattle.raster.specs.declared.Slice.{Slice}
 use Rattle.walk.specs.Walk.{even, next}
 use Rattle.glyph.specs.Glyph.{Glyph, endsLine, glyphOf, inRam, userCell}
 use Rattle.line.specs.Line.{Place, codes}
-use Rattle.ahead.specs.Looking.{pairOf, userHigh, userSlice, rowReads}
+use Rattle.ahead.specs.Looking.{pairOf, userHigh, userSlice, rowReads, userReads, codeBack, codesTo, Starts}
 
 -- ---- Booleans
 
-or-assoc : (a b c : Bool) → (a || b) || c ≡ a || (b || c)
+pub or-assoc : (a b c : Bool) → (a || b) || c ≡ a || (b || c)
 or-assoc true b c = refl
 or-assoc false b c = refl
 
@@ -36,6 +35,18 @@ and-false false = refl
 pub and-true : (a : Bool) → a && true ≡ a
 and-true true = refl
 and-true false = refl
+
+pub or-cases : {X : Type 0} (a b : Bool) → T (a || b) → (T a → X) → (T b → X) → X
+or-cases true b t f g = f tt
+or-cases false b t f g = g t
+
+pub or-first : (a b : Bool) → T a → T (a || b)
+or-first true b t = tt
+or-first false b t = absurd t
+
+pub or-second : (a b : Bool) → T b → T (a || b)
+or-second true b t = tt
+or-second false b t = t
 
 pub among-append : (c : ℕ) (xs ys : List ℕ) → among c (xs ++ ys) ≡ among c xs || among c ys
 unfolding among
@@ -187,7 +198,7 @@ rows-merge ram c b₁ b₂ (suc n) a =
     || cond (endsLine (getD ram (even a + 1) 0)) false (((b₁ || b₂) && eqb (getD ram (even a + 1) 0) (userHigh c)) || r))
     (rows-merge ram c b₁ b₂ n (next a))
 
--- ---- the search's turns along a row
+-- ---- any address of a code stands for its even one
 
 pub reads-even : (ram : List ℕ) (c : ℕ) (b : Bool) (n a : ℕ) → rowReads ram c b n (even a) ≡ rowReads ram c b n a
 unfolding rowReads
@@ -198,43 +209,168 @@ reads-even ram c b (suc n) a =
     ap₂ (λ (x y : ℕ).
     eqb (pairOf c) x || cond (endsLine (getD ram (x + 1) 0)) false ((b && eqb (getD ram (x + 1) 0) (userHigh c)) || rowReads ram c b n y)) e f
 
--- a code more
-reads-more : (ram : List ℕ) (c : ℕ) (b : Bool) (n a : ℕ) → 0 < n
-    → rowReads ram c b n a
-    ≡ eqb (pairOf c) (even a)
-    || cond (endsLine (getD ram (even a + 1) 0)) false ((b && eqb (getD ram (even a + 1) 0) (userHigh c)) || rowReads ram c b (n - 1) (next a))
-unfolding rowReads
-reads-more ram c b zero a h = absurd (not-suc-le-zero h)
-reads-more ram c b (suc n) a h =
-    ap (λ (m : ℕ).
+user-even : (ram : List ℕ) (c n a : ℕ) → userReads ram c n (even a) ≡ userReads ram c n a
+unfolding userReads
+user-even ram c zero a = refl
+user-even ram c (suc n) a =
+    let e : even (even a) ≡ even a = omega arith in
+    let f : next (even a) ≡ next a = omega arith in
+    ap₂ (λ (x y : ℕ). cond (endsLine (getD ram (x + 1) 0)) false (eqb (getD ram (x + 1) 0) (userHigh c) || userReads ram c n y)) e f
+
+pub user-same : (ram : List ℕ) (c n a b : ℕ) → a / 2 % 512 ≡ b / 2 % 512 → userReads ram c n a ≡ userReads ram c n b
+user-same ram c n a b e = sym (user-even ram c n a) ∙ ap (λ (p : ℕ). userReads ram c n (p * 2)) e ∙ user-even ram c n b
+
+-- ---- a row reads the cell as a code or as its user character
+
+parts : (p e b u r v : Bool) → p || cond e false ((b && u) || (r || (b && v))) ≡ (p || cond e false r) || (b && cond e false (u || v))
+parts true e b u r v = refl
+parts false true b u r v = sym (and-false b)
+parts false false false u r v = refl
+parts false false true true true v = refl
+parts false false true true false v = refl
+parts false false true false r v = refl
+
+pub reads-split : (ram : List ℕ) (c : ℕ) (b : Bool) (n a : ℕ) → rowReads ram c b n a ≡ rowReads ram c false n a || (b && userReads ram c n a)
+unfolding rowReads userReads
+reads-split ram c b zero a = sym (and-false b)
+reads-split ram c b (suc n) a =
+    ap (λ (r : Bool).
     eqb (pairOf c) (even a)
-    || cond (endsLine (getD ram (even a + 1) 0)) false ((b && eqb (getD ram (even a + 1) 0) (userHigh c)) || rowReads ram c b m (next a)))
-    (sym (sub-one (suc n)))
+    || cond (endsLine (getD ram (even a + 1) 0)) false ((b && eqb (getD ram (even a + 1) 0) (userHigh c)) || r))
+    (reads-split ram c b n (next a))
+    ∙ parts (eqb (pairOf c) (even a)) (endsLine (getD ram (even a + 1) 0)) b (eqb (getD ram (even a + 1) 0) (userHigh c))
+    (rowReads ram c false n (next a)) (userReads ram c n (next a))
 
--- at an even address
-module _ (ram : List ℕ) (c : ℕ) (b : Bool) (n a : ℕ) (pos : 0 < n) (p : even a ≡ a) where
-  one-more : rowReads ram c b n a
-      ≡ eqb (pairOf c) a || cond (endsLine (getD ram (a + 1) 0)) false ((b && eqb (getD ram (a + 1) 0) (userHigh c)) || rowReads ram c b (n - 1) (next a))
-  one-more =
-      subst (λ (x : ℕ).
-      rowReads ram c b n a
-      ≡ eqb (pairOf c) x || cond (endsLine (getD ram (x + 1) 0)) false ((b && eqb (getD ram (x + 1) 0) (userHigh c)) || rowReads ram c b (n - 1) (next a))) p
-      (reads-more ram c b n a pos)
+-- ---- which rows read the cell as a code
 
-  pub here-pair : pairOf c ≡ a → true ≡ rowReads ram c b n a
-  here-pair e = sym (one-more ∙ rw (eq-eqb _ _ e))
+pub or-true : (a : Bool) → a || true ≡ true
+or-true true = refl
+or-true false = refl
 
-  pub here-end : (pairOf c ≡ a → ⊥) → getD ram (a + 1) 0 ≡ 255 → false ≡ rowReads ram c b n a
-  here-end e h = sym (one-more ∙ rw (ne-eqb _ _ e, eq-eqb _ _ h))
+cond-same : (e : Bool) → cond e false false ≡ false
+cond-same true = refl
+cond-same false = refl
 
-  pub here-user : (pairOf c ≡ a → ⊥) → (getD ram (a + 1) 0 ≡ 255 → ⊥) → b && eqb (getD ram (a + 1) 0) (userHigh c) ≡ true → true ≡ rowReads ram c b n a
-  here-user e h u = sym (one-more ∙ rw (ne-eqb _ _ e, ne-eqb _ _ h, u))
+pub own : (c : ℕ) → c < 1024 → (c / 2 + 511 * 0) % 512 ≡ c / 2
+own c h =
+    let e : c / 2 + 511 * 0 ≡ c / 2 = omega arith in
+    mod-eq-of-lt (omega arith) ∙ e
 
-  pub here-other : (pairOf c ≡ a → ⊥) → (getD ram (a + 1) 0 ≡ 255 → ⊥) → b && eqb (getD ram (a + 1) 0) (userHigh c) ≡ false
-      → rowReads ram c b (n - 1) (even (a + 2)) ≡ rowReads ram c b n a
-  here-other e h u = sym (one-more ∙ rw (ne-eqb _ _ e, ne-eqb _ _ h, u))
+-- one code on is one back less
+back-on : (c d a : ℕ) → even a ≡ codeBack c (suc d) → even (next a) ≡ codeBack c d
+back-on c d a e =
+    let y : a / 2 % 512 ≡ (c / 2 + 511 * suc d) % 512 = omega arith in
+    let f : c / 2 + 511 * suc d + 1 ≡ c / 2 + 511 * d + 512 = omega arith in
+    let g : (a + 2) / 2 ≡ a / 2 + 1 = omega arith in
+    let h : even (next a) ≡ next a = omega arith in
+    h
+    ∙ ap (λ (z : ℕ). z % 512 * 2) g
+    ∙ ap (λ (z : ℕ). z * 2)
+    (sym (mod-add-mod (a / 2) 512 1)
+    ∙ ap (λ (z : ℕ). (z + 1) % 512) y
+    ∙ mod-add-mod (c / 2 + 511 * suc d) 512 1
+    ∙ ap (λ (z : ℕ). z % 512) f
+    ∙ add-mod-right (c / 2 + 511 * d) 512)
 
-pub reads-none : (ram : List ℕ) (c : ℕ) (b : Bool) (n a : ℕ) → n ≤ 0 → false ≡ rowReads ram c b n a
-unfolding rowReads
-reads-none ram c b zero a h = refl
-reads-none ram c b (suc n) a h = absurd (not-suc-le-zero h)
+pub back-more : (c d a : ℕ) → a ≡ codeBack c d → even (a + 1022) ≡ codeBack c (d + 1)
+back-more c d a e =
+    let g : (a + 1022) / 2 ≡ (c / 2 + 511 * d) % 512 + 511 = omega arith in
+    let f : c / 2 + 511 * d + 511 ≡ c / 2 + 511 * (d + 1) = omega arith in
+    ap (λ (z : ℕ). z % 512 * 2) g ∙ ap (λ (z : ℕ). z * 2) (mod-add-mod (c / 2 + 511 * d) 512 511 ∙ ap (λ (z : ℕ). z % 512) f)
+
+-- an address is so many codes before the cell's own as `codesTo` says
+to-back : (x y : ℕ) → x < 512 → y < 512 → (x + 511 * ((x + 512 - y) % 512)) % 512 ≡ y
+to-back x y h k = by (decLe y x)
+  where
+    at : (d t : ℕ) → (x + 512 - y) % 512 ≡ d → x + 511 * d ≡ 512 * t + y → (x + 511 * ((x + 512 - y) % 512)) % 512 ≡ y
+    at d t e f =
+        ap (λ (z : ℕ). (x + 511 * z) % 512) e ∙ ap (λ (z : ℕ). z % 512) f ∙ mul-add-mod-self-left 512 t y ∙ mod-eq-of-lt k
+
+    by : Dec (y ≤ x) → (x + 511 * ((x + 512 - y) % 512)) % 512 ≡ y
+    by (yes l) =
+        let e : x + 512 - y ≡ x - y + 512 = omega arith in
+        at (x - y) (x - y) (ap (λ (z : ℕ). z % 512) e ∙ add-mod-right (x - y) 512 ∙ mod-eq-of-lt (omega arith)) (omega arith)
+    by (no l) = at (x + 512 - y) (x + 511 - y) (mod-eq-of-lt (omega arith)) (omega arith)
+
+pub on-more : (ram : List ℕ) (c m : ℕ) → ((j : ℕ) → 1 ≤ j → j ≤ m → getD ram (codeBack c j + 1) 0 ≡ 255 → ⊥)
+    → (getD ram (codeBack c (m + 1) + 1) 0 ≡ 255 → ⊥) → (j : ℕ) → 1 ≤ j → j ≤ m + 1 → getD ram (codeBack c j + 1) 0 ≡ 255 → ⊥
+on-more ram c m f g j h k = by (decLe j m)
+  where
+    by : Dec (j ≤ m) → getD ram (codeBack c j + 1) 0 ≡ 255 → ⊥
+    by (yes l) = f j h l
+    by (no l) =
+        let e : m + 1 ≡ j = omega arith in
+        subst (λ (z : ℕ). getD ram (codeBack c z + 1) 0 ≡ 255 → ⊥) e g
+
+-- fewer than 512 codes before its own stands another
+apart : (x d : ℕ) → 1 ≤ d → d < 512 → (x + 511 * d) % 512 ≡ x → ⊥
+apart x d l k e =
+    let f : 512 * (d - (x + 511 * d) / 512) ≡ d = omega arith in
+    omega arith
+
+module _ (ram : List ℕ) (c : ℕ) (small : c < 1024) where
+  ends : ℕ → Type 0
+  ends j = getD ram (codeBack c j + 1) 0 ≡ 255
+
+  -- no code between ends the line
+  reaches : (d n a : ℕ) → d < n → even a ≡ codeBack c d → ((j : ℕ) → 1 ≤ j → j ≤ d → ends j → ⊥) → rowReads ram c false n a ≡ true
+  unfolding rowReads ends
+  reaches d zero a l e f = absurd (not-suc-le-zero l)
+  reaches zero (suc n) a l e f = rw (eq-eqb (pairOf c) (even a) (omega (arith, own c small)))
+  reaches (suc d) (suc n) a l e f =
+      rw (ne-eqb (getD ram (even a + 1) 0) 255 (λ q. f (suc d) (omega arith) (omega arith) (subst (λ (x : ℕ). getD ram (x + 1) 0 ≡ 255) e q)))
+      (ap (λ (r : Bool). eqb (pairOf c) (even a) || r) (reaches d n (next a) (omega arith) (back-on c d a e) (λ j h k. f j h (omega arith)))
+      ∙ or-true (eqb (pairOf c) (even a)))
+
+  -- it has not so many codes
+  far : (d n a : ℕ) → n ≤ d → d < 512 → even a ≡ codeBack c d → rowReads ram c false n a ≡ false
+  unfolding rowReads
+  far d zero a l k e = refl
+  far zero (suc n) a l k e = absurd (not-suc-le-zero l)
+  far (suc d) (suc n) a l k e =
+      rw (ne-eqb (pairOf c) (even a) (λ q. apart (c / 2) (suc d) (omega arith) k (omega arith)), far d n (next a) (omega arith) (omega arith) (back-on c d a e))
+      (cond-same (endsLine (getD ram (even a + 1) 0)))
+
+  -- a code between ends the line
+  stops : (m d n a : ℕ) → 1 ≤ m → ends m → m ≤ d → d < 512 → even a ≡ codeBack c d → rowReads ram c false n a ≡ false
+  unfolding rowReads ends
+  stops m d zero a h t l k e = refl
+  stops m zero (suc n) a h t l k e = absurd (omega arith)
+  stops m (suc d) (suc n) a h t l k e = by (decLe m d) (λ q. stops m d n (next a) h t q (omega arith) (back-on c d a e))
+    where
+      other : pairOf c ≡ even a → ⊥
+      other q = apart (c / 2) (suc d) (omega arith) k (omega arith)
+
+      by : Dec (m ≤ d) → (m ≤ d → rowReads ram c false n (next a) ≡ false)
+          → eqb (pairOf c) (even a) || cond (endsLine (getD ram (even a + 1) 0)) false (rowReads ram c false n (next a)) ≡ false
+      by (yes q) after = rw (ne-eqb (pairOf c) (even a) other, after q) (cond-same (endsLine (getD ram (even a + 1) 0)))
+      by (no q) after =
+          let y : suc d ≡ m = omega arith in
+          let z : even a ≡ codeBack c m = e ∙ ap (codeBack c) y in
+          rw (ne-eqb (pairOf c) (even a) other, eq-eqb (getD ram (even a + 1) 0) 255 (subst (λ (x : ℕ). getD ram (x + 1) 0 ≡ 255) (sym z) t))
+
+  pub near-reads : (n m a : ℕ) → Starts ram c n m → rowReads ram c false n a ≡ ltb (codesTo c a) m
+  unfolding ends
+  near-reads n m a s = by (decLt (codesTo c a) m) (decLe n (codesTo c a))
+    where
+      e : even a ≡ codeBack c (codesTo c a)
+      e = ap (λ (z : ℕ). z * 2) (sym (to-back (c / 2) (a / 2 % 512) (omega arith) (omega arith)))
+
+      by : Dec (codesTo c a < m) → Dec (n ≤ codesTo c a) → rowReads ram c false n a ≡ ltb (codesTo c a) m
+      by (yes l) _ =
+          reaches (codesTo c a) n a (omega (arith, s .most)) e (λ j h k. s .on j h (omega arith)) ∙ sym (lt-ltb (codesTo c a) m l)
+      by (no l) (yes k) = far (codesTo c a) n a k (omega arith) e ∙ sym (le-ltb (codesTo c a) m (omega arith))
+      by (no l) (no k) =
+          let t = s .stop (omega arith) in
+          stops m (codesTo c a) n a (t .0) (t .1) (omega arith) (omega arith) e ∙ sym (le-ltb (codesTo c a) m (omega arith))
+
+  -- a row that starts near reads the cell; another does only as its user character
+  pub row-near : (b : Bool) (n m a : ℕ) → Starts ram c n m → codesTo c a < m → rowReads ram c b n a ≡ true
+  row-near b n m a s l =
+      reads-split ram c b n a
+      ∙ ap (λ (r : Bool). r || (b && userReads ram c n a)) (near-reads n m a s ∙ lt-ltb (codesTo c a) m l)
+
+  pub row-far : (b : Bool) (n m a : ℕ) → Starts ram c n m → m ≤ codesTo c a → rowReads ram c b n a ≡ b && userReads ram c n a
+  row-far b n m a s l =
+      reads-split ram c b n a
+      ∙ ap (λ (r : Bool). r || (b && userReads ram c n a)) (near-reads n m a s ∙ le-ltb (codesTo c a) m l)

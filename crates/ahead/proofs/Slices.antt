@@ -9,7 +9,7 @@ use native.Mathlib.Omega.{arith}
 use lib.Dec.{T, eqb, leb, ltb, eqb-refl, eqb→eq, leb→le, le→leb, ltb→lt, lt→ltb}
 use Rattle.raster.specs.Raster.{stripLines, unzoomed, sliceNumber}
 use Rattle.ahead.specs.Looking.{userSlice, sliceShown}
-use Rattle.ahead.proofs.Rows.{iff}
+use Rattle.ahead.proofs.Rows.{iff, or-cases, or-first, or-second}
 
 -- slice u is shown by line n exactly if 36 n + CH lies in the 2 CH numbers from 2 CH u on
 in-range : (ch n u : ℕ) → 0 < ch → sliceNumber ch n ≡ u → (u * (2 * ch) ≤ 36 * n + ch) × (36 * n + ch < u * (2 * ch) + 2 * ch)
@@ -30,18 +30,6 @@ record Some (c ch : ℕ) (zoom : Bool) (k j : ℕ) : Type 0 where
   from : 1 ≤ by
   to : by ≤ k
   shows : sliceNumber ch (unzoomed zoom (j + by)) ≡ userSlice c
-
-or-cases : {X : Type 0} (a b : Bool) → T (a || b) → (T a → X) → (T b → X) → X
-or-cases true b t f g = f tt
-or-cases false b t f g = g t
-
-or-first : (a b : Bool) → T a → T (a || b)
-or-first true b t = tt
-or-first false b t = absurd t
-
-or-second : (a b : Bool) → T b → T (a || b)
-or-second true b t = tt
-or-second false b t = t
 
 shown-some : (c ch : ℕ) (zoom : Bool) (k j : ℕ) → T (sliceShown c ch zoom k j) → Some c ch zoom k j
 unfolding sliceShown
@@ -121,6 +109,20 @@ module _ (c ch : ℕ) (zoom : Bool) (k j : ℕ) (pos : 0 < ch) (some : 1 ≤ k) 
       let r = in-range ch (unzoomed zoom (j + s .by)) (userSlice c) pos (s .shows) in
       lt→ltb (36 * firstOf c ch zoom j + ch) (userSlice c * (2 * ch) + 2 * ch)
       (omega (arith, r .0, r .1, rising zoom j 1 (s .by) (s .from))))
+
+-- a strip that is shown whole shows the same slices with zoom
+pub whole-zoom : (c ch : ℕ) (zoom : Bool) → sliceShown c ch zoom (stripLines ch zoom) 0 ≡ sliceShown c ch false ch 0
+whole-zoom c ch false = refl
+whole-zoom c ch true =
+    iff (sliceShown c ch true (2 * ch) 0) (sliceShown c ch false ch 0)
+    (λ t.
+    let s : Some c ch true (2 * ch) 0 = shown-some c ch true (2 * ch) 0 t in
+    let e : 0 + (0 + s .by + 1) / 2 ≡ (0 + s .by + 1) / 2 = omega arith in
+    some-shown c ch false ch 0 ((0 + s .by + 1) / 2) (omega (arith, s .from)) (omega (arith, s .to)) (ap (sliceNumber ch) e ∙ s .shows))
+    (λ t.
+    let s : Some c ch false ch 0 = shown-some c ch false ch 0 t in
+    let e : (0 + 2 * s .by + 1) / 2 ≡ 0 + s .by = omega arith in
+    some-shown c ch true (2 * ch) 0 (2 * s .by) (omega (arith, s .from)) (omega (arith, s .to)) (ap (sliceNumber ch) e ∙ s .shows))
 
 -- ---- what the code's sums need
 

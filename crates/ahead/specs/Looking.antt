@@ -1,23 +1,27 @@
 -- How the search for a cell looks at a row of codes and at a strip: what the promises of its inner functions cite. The search's own
 -- promise (membership in the cells of the remaining lines) does not speak of these.
 -- Assumes nothing.
-use Prim.Native.Nat.{ℕ, zero, suc, _+_, _*_, _/_, _%_, _<_}
+use Prim.Native.Nat.{ℕ, zero, suc, _+_, _-_, _*_, _/_, _%_, _≤_, _<_, min, max}
 use mathlib.Core.Path.{_≡_}
 use mathlib.Core.Bool.{Bool, true, false, cond, _&&_, _||_}
-use mathlib.Core.List.{List, [], _++_}
-use lib.Dec.{eqb}
-use lib.ListN.{getD}
+use mathlib.Core.List.{List, [], _∷_, _++_}
+use lib.Dec.{eqb, ltb}
+use lib.ListN.{getD, length}
 use Rattle.cells.specs.Reading.{cells, among}
 use Rattle.registers.specs.declared.Settings.{Settings}
 use Rattle.raster.specs.declared.ScanLine.{ScanLine}
-use Rattle.raster.specs.Raster.{unzoomed, sliceNumber}
+use Rattle.raster.specs.Raster.{unzoomed, sliceNumber, stripLines, columnsOf}
 use Rattle.walk.specs.declared.Strip.{Strip}
+use Rattle.walk.specs.declared.Strip.the-variants.{Spacing}
 use Rattle.walk.specs.declared.Walk.{Walk}
-use Rattle.walk.specs.Walk.{even, next, advanced}
+use Rattle.walk.specs.Walk.{even, next, advanced, atLeastOne, stripOf, linesLeft}
 use Rattle.glyph.specs.Glyph.{endsLine}
 use Rattle.line.specs.Line.{shownRow}
-use Rattle.ahead.specs.declared.Passed.{Passed}
+use Rattle.ahead.specs.declared.Sought.{Sought}
+use Rattle.ahead.specs.declared.Looked.{Looked}
 use Rattle.ahead.specs.Ahead.{remaining}
+
+-- ---- a row
 
 -- the two bytes at an even address
 abbrev pub pairOf : ℕ → ℕ
@@ -30,12 +34,38 @@ userHigh c = 128 + c / 38
 abbrev pub userSlice : ℕ → ℕ
 userSlice c = c % 38 / 2
 
+-- the codes that a line reads at the most: none with OSD 0
+abbrev pub codesOf : Settings → ℕ
+codesOf s = cond (s .osd) (columnsOf (s .ld) (s .dd)) 0
+
 -- is the cell read by the codes from an address on, n at the most? shown: the cell is of a user character's slice on screen
 unfoldable pub rowReads : List ℕ → ℕ → Bool → ℕ → ℕ → Bool
 rowReads ram c shown zero a = false
 rowReads ram c shown (suc n) a =
     eqb (pairOf c) (even a)
     || cond (endsLine (getD ram (even a + 1) 0)) false ((shown && eqb (getD ram (even a + 1) 0) (userHigh c)) || rowReads ram c shown n (next a))
+
+-- is the cell's user character shown by them?
+unfoldable pub userReads : List ℕ → ℕ → ℕ → ℕ → Bool
+userReads ram c zero a = false
+userReads ram c (suc n) a =
+    cond (endsLine (getD ram (even a + 1) 0)) false (eqb (getD ram (even a + 1) 0) (userHigh c) || userReads ram c n (next a))
+
+-- the address j codes before the cell's own
+abbrev pub codeBack : ℕ → ℕ → ℕ
+codeBack c j = (c / 2 + 511 * j) % 512 * 2
+
+-- how many codes before the cell's own an address is
+abbrev pub codesTo : ℕ → ℕ → ℕ
+codesTo c a = (c / 2 + 512 - a / 2 % 512) % 512
+
+-- back from the cell's own code the next ones do not end a line, up to the m-th or to the n-th
+pub record Starts (ram : List ℕ) (c n m : ℕ) : Type 0 where
+  pub most : m ≤ n
+  pub on : (j : ℕ) → 1 ≤ j → j < m → getD ram (codeBack c j + 1) 0 ≡ 255 → ⊥
+  pub stop : m < n → (1 ≤ m) × (getD ram (codeBack c m + 1) 0 ≡ 255)
+
+-- ---- a strip
 
 -- does one of the k lines after a line of a strip show the cell's slice?
 unfoldable pub sliceShown : ℕ → ℕ → Bool → ℕ → ℕ → Bool
@@ -51,9 +81,89 @@ rowCells ram s (suc k) strip = cells ram (shownRow s (advanced strip)) ++ rowCel
 abbrev pub stripReads : List ℕ → Settings → ℕ → Strip → ℕ → Bool
 stripReads ram s k strip c = among c (rowCells ram s k strip)
 
--- a strip was looked at: the cell is found and the remaining lines read it; or it is not, and they read it exactly if the lines
--- that are still to look at do
-pub record Passes (ram : List ℕ) (s : Settings) (n : ℕ) (w : Walk) (c : ℕ) (p : Passed) : Type 0 where
-  pub hit : p .found ≡ true → among c (cells ram (remaining s n w)) ≡ true
-  pub miss : p .found ≡ false → among c (cells ram (remaining s n w)) ≡ among c (cells ram (remaining s (p .left) (p .walk)))
-  pub fewer : p .found ≡ false → p .left < n
+-- how many lines the strip of a descriptor has
+abbrev pub begunLines : ℕ → ℕ → ℕ → ℕ
+begunLines height low high = cond (ltb high 128) (max 1 low) (stripLines height (eqb (high / 32 % 2) 1))
+
+-- ---- the rows that show the cell's slice
+
+-- how many are marked
+unfoldable pub marked : List ℕ → ℕ
+marked [] = 0
+marked (x ∷ xs) = cond (eqb x 0) 0 1 + marked xs
+
+-- one of the first k addresses of a list is that of the code p
+pub record Among (rows : List ℕ) (k p : ℕ) : Type 0 where
+  pub at : ℕ
+  pub below : at < k
+  pub is : getD rows at 0 / 2 % 512 ≡ p
+
+-- every marked row is listed, and no other
+pub record Kept (marks rows : List ℕ) (k : ℕ) : Type 0 where
+  pub all : length marks ≡ 512
+  pub room : length rows ≡ 512
+  pub count : k ≡ marked marks
+  pub listed : (p : ℕ) → (getD marks p 0 ≡ 0 → ⊥) → Among rows k p
+
+-- does one of the first k rows show the cell's user character?
+unfoldable pub anyRow : List ℕ → ℕ → ℕ → List ℕ → ℕ → Bool
+anyRow ram c n rows zero = false
+anyRow ram c n rows (suc k) = userReads ram c n (getD rows k 0) || anyRow ram c n rows k
+
+-- is it shown by the codes from an address on that stand before the next marked row?
+unfoldable pub partReads : List ℕ → List ℕ → ℕ → ℕ → ℕ → Bool
+partReads ram marks c zero a = false
+partReads ram marks c (suc n) a =
+    cond (endsLine (getD ram (even a + 1) 0)) false
+    (eqb (getD ram (even a + 1) 0) (userHigh c) || cond (eqb (getD marks (next a / 2) 0) 0) (partReads ram marks c n (next a)) false)
+
+unfoldable pub anyPart : List ℕ → List ℕ → ℕ → ℕ → List ℕ → ℕ → Bool
+anyPart ram marks c n rows zero = false
+anyPart ram marks c n rows (suc k) = partReads ram marks c n (getD rows k 0) || anyPart ram marks c n rows k
+
+-- a row is listed
+pub record Listed (rows : List ℕ) (k a : ℕ) (marks′ rows′ : List ℕ) (k′ : ℕ) : Type 0 where
+  pub kept : Kept marks′ rows′ k′
+  pub more : (ram : List ℕ) (c n : ℕ) → anyRow ram c n rows′ k′ ≡ anyRow ram c n rows k || userReads ram c n a
+
+-- ---- the search
+
+-- b says whether a part of the frame reads the cell. It was looked at after k rows were listed: the cell was found, and a listed row
+-- shows its user character or b holds; or it was not, and the rows that are now listed show it exactly then
+pub record Adds (ram : List ℕ) (c n : ℕ) (b : Bool) (rows : List ℕ) (k : ℕ) (rows′ : List ℕ) (r : Looked) : Type 0 where
+  pub hit : r .found ≡ true → anyRow ram c n rows k || b ≡ true
+  pub miss : r .found ≡ false → anyRow ram c n rows′ (r .listed) ≡ anyRow ram c n rows k || b
+
+-- the height is one of a strip, and a strip of it that is shown whole shows the slice or not
+pub record Whole (q : Sought) : Type 0 where
+  pub some : 1 ≤ q .height
+  pub small : q .height < 256
+  pub shown : q .whole ≡ sliceShown (q .cell) (q .height) false (q .height) 0 && ltb (q .cell) 988
+
+-- what is sought in a frame
+pub record Ready (ram : List ℕ) (s : Settings) (q : Sought) : Type 0 where
+  pub bytes : (i : ℕ) → getD ram i 0 < 256
+  pub starts : Starts ram (q .cell) (codesOf s) (q .starts)
+  pub height : q .height ≡ atLeastOne (s .ch)
+
+abbrev pub RowLooked : Sought → Bool → ℕ → List ℕ → ℕ → List ℕ → Looked → Type 0
+RowLooked q shown a rows k rows′ r =
+    (ram : List ℕ) (n : ℕ) → Starts ram (q .cell) n (q .starts) → Adds ram (q .cell) n (rowReads ram (q .cell) shown n a) rows k rows′ r
+
+abbrev pub StripLooked : Sought → Strip → ℕ → List ℕ → ℕ → List ℕ → Looked → Type 0
+StripLooked q strip lines rows k rows′ r =
+    (ram : List ℕ) (s : Settings) → Ready ram s q → Adds ram (q .cell) (codesOf s) (stripReads ram s lines strip (q .cell)) rows k rows′ r
+
+-- the strip of a descriptor, from its first line on
+abbrev pub BegunLooked : Sought → ℕ → ℕ → ℕ → List ℕ → ℕ → List ℕ → Looked → Type 0
+BegunLooked q low high left rows k rows′ r =
+    (ram : List ℕ) (s : Settings) → Ready ram s q
+    → Adds ram (q .cell) (codesOf s)
+    (stripReads ram s (min (linesLeft (stripOf (s .ch) low high)) left) (stripOf (s .ch) low high) (q .cell))
+    rows k rows′ r
+
+-- the lines from a descriptor on
+abbrev pub LinesLooked : List ℕ → Sought → ℕ → ℕ → List ℕ → ℕ → List ℕ → Looked → Type 0
+LinesLooked ram q left a rows k rows′ r =
+    (s : Settings) → Ready ram s q
+    → Adds ram (q .cell) (codesOf s) (among (q .cell) (cells ram (remaining s left (record { descriptor = a; strip = Spacing 0 })))) rows k rows′ r

@@ -1,15 +1,15 @@
-// What the frame's remaining lines read, looked at strip by strip: all lines of a strip read the same codes, and a cell lies in
-// one slice of one user character, so a strip is looked at once.
+// What the frame's remaining lines read. The strips are walked once, each in constant time: a strip's row reads the cell as a code
+// if it starts closely before it; the rows that show the cell's slice are listed, and then looked through for its user character.
 ghost use mathlib.Core.Path.{_≡_};
 ghost use mathlib.Core.Bool.{false, _&&_};
 ghost use Prim.Native.Nat.{_+_, _≤_, _<_, min, max};
-ghost use lib.Dec.{eqb, ltb};
+ghost use lib.Dec.{ltb};
 ghost use lib.ListN.{length};
 ghost use Rattle.cells.specs.Reading.{cells, among};
 ghost use Rattle.raster.specs.Raster.{stripLines};
-ghost use Rattle.walk.specs.Walk.{over, linesLeft};
+ghost use Rattle.walk.specs.Walk.{linesLeft};
 ghost use Rattle.ahead.specs.Ahead.{remaining};
-ghost use Rattle.ahead.specs.Looking.{rowReads, sliceShown, stripReads, Passes};
+ghost use Rattle.ahead.specs.Looking.{codesOf, sliceShown, Starts, begunLines, Kept, anyRow, Listed, partReads, Whole, Ready, RowLooked, StripLooked, BegunLooked, LinesLooked};
 use registers::Settings;
 use walk::Strip;
 use walk::Walk;
@@ -17,11 +17,21 @@ use walk::Walk;
 // The cells of the 26 user characters.
 const USER_CELLS: u16 = 988;
 
-// A strip was looked at: the cell was found, or these lines are still to look at.
-pub struct Passed {
+// What is looked for in each strip.
+pub struct Sought {
+    pub cell: u16,
+    // rows that start at so many addresses, the cell's own and those before it, read it as a code
+    pub starts: u16,
+    // CH of strips that begin
+    pub height: u8,
+    // a strip of that height, shown whole, shows the cell's slice
+    pub whole: bool,
+}
+
+// A strip was looked at: the cell was found, or so many rows are listed.
+pub struct Looked {
     pub found: bool,
-    pub left: u16,
-    pub walk: Walk,
+    pub listed: u16,
 }
 
 fn least(a: u16, b: u16) -> u16
@@ -36,41 +46,32 @@ fn most(a: u16, b: u16) -> u16
     if a < b { b } else { a }
 }
 
-// Is this the code of the user character whose slice is shown?
-fn shows(shown: bool, high: u8, user: u16) -> bool
-    ensures { λ r. ⌜ r ≡ shown && eqb high user ⌝ }
+// The codes that a line reads at the most.
+fn codes(settings: Settings) -> u16
+    ensures { λ r. ⌜ r ≡ codesOf settings ⌝ }
 {
-    if shown {
-        return high as u16 == user;
+    if settings.osd {
+        return raster::columns(settings.ld, settings.dd);
     }
-    false
+    0
 }
 
-// Do the codes from an address on, n at the most, read the cell? shown: its user character's slice is on screen.
-fn row_reads(ram: &[u8], address: u16, n: u16, cell: u16, shown: bool) -> bool
+// Back from the cell's pair, up to a code that ends a line: rows that start there read the cell.
+fn starts(ram: &[u8], n: u16, cell: u16) -> u16
     requires { ⌜ length (now ram) ≡ 1024 ⌝ }
     requires { ⌜ cell < 1024 ⌝ }
-    ensures { λ r. ⌜ r ≡ rowReads (now (ram .entry)) cell shown n address ⌝ }
+    ensures { λ r. ⌜ Starts (now (ram .entry)) cell n r ⌝ }
 {
-    let pair = cell / 2 * 2;
-    let user = 128 + cell / 38;
-    let mut a = walk::even_address(address);
-    let mut left = n;
-    while left > 0 {
-        if pair == a {
-            return true;
+    let mut a = cell / 2 * 2;
+    let mut m = 0;
+    while m < n {
+        m += 1;
+        a = walk::even_address(a + 1022);
+        if ram[a as usize + 1] == 255 {
+            return m;
         }
-        let high = ram[a as usize + 1];
-        if high == 255 {
-            return false;
-        }
-        if shows(shown, high, user) {
-            return true;
-        }
-        a = walk::even_address(a + 2);
-        left -= 1;
     }
-    false
+    m
 }
 
 // Does one of the k lines after a line of a strip show the cell's slice? The lines that show a slice are neighbours, so the first
@@ -99,18 +100,75 @@ fn user_shown(height: u8, zoom: bool, line: u16, k: u16, cell: u16) -> bool
     slice_shown(height, zoom, line, k, cell)
 }
 
-// Do the rows of the strip's next k lines read the cell?
-fn strip_reads(ram: &[u8], settings: Settings, strip: Strip, k: u16, cell: u16) -> bool
-    requires { ⌜ length (now ram) ≡ 1024 ⌝ }
-    requires { ⌜ cell < 1024 ⌝ }
-    requires { ⌜ (1 ≤ k) × (k ≤ linesLeft strip) ⌝ }
-    ensures { λ r. ⌜ r ≡ stripReads (now (ram .entry)) settings k strip cell ⌝ }
+// A row is listed once.
+fn list_row(marks: &mut [u8; 512], rows: &mut [u16; 512], listed: u16, address: u16) -> u16
+    requires { ⌜ Kept (now marks) (now rows) listed ⌝ }
+    ensures { λ r. ⌜ Listed (now (rows .entry)) listed address (now (marks .exit)) (now (rows .exit)) r ⌝ }
 {
-    if !settings.osd {
-        return false;
+    let p = (address / 2 % 512) as usize;
+    if marks[p] != 0 {
+        return listed;
+    }
+    marks[p] = 1;
+    rows[listed as usize] = address;
+    listed + 1
+}
+
+// The row at an address: it reads the cell as a code, or is listed where it shows the cell's slice.
+fn look_row(
+    marks: &mut [u8; 512],
+    rows: &mut [u16; 512],
+    listed: u16,
+    sought: Sought,
+    address: u16,
+    shown: bool,
+) -> Looked
+    requires { ⌜ Kept (now marks) (now rows) listed ⌝ }
+    requires { ⌜ sought .cell < 1024 ⌝ }
+    ensures { λ r. ⌜ Kept (now (marks .exit)) (now (rows .exit)) (r .listed) ⌝ }
+    ensures { λ r. ⌜ RowLooked sought shown address (now (rows .entry)) listed (now (rows .exit)) r ⌝ }
+{
+    if (sought.cell / 2 + 512 - address / 2 % 512) % 512 < sought.starts {
+        return Looked {
+            found: true,
+            listed: listed,
+        };
+    }
+    if shown {
+        return Looked {
+            found: false,
+            listed: list_row(marks, rows, listed, address),
+        };
+    }
+    Looked {
+        found: false,
+        listed: listed,
+    }
+}
+
+// The next k lines of the strip on screen.
+fn look_strip(
+    marks: &mut [u8; 512],
+    rows: &mut [u16; 512],
+    sought: Sought,
+    strip: Strip,
+    k: u16,
+) -> Looked
+    requires { ⌜ Kept (now marks) (now rows) 0 ⌝ }
+    requires { ⌜ sought .cell < 1024 ⌝ }
+    requires { ⌜ k ≤ linesLeft strip ⌝ }
+    ensures { λ r. ⌜ Kept (now (marks .exit)) (now (rows .exit)) (r .listed) ⌝ }
+    ensures { λ r. ⌜ StripLooked sought strip k (now (rows .entry)) 0 (now (rows .exit)) r ⌝ }
+{
+    let none = Looked {
+        found: false,
+        listed: 0,
+    };
+    if k == 0 {
+        return none;
     }
     match strip {
-        Strip::Spacing { left: _ } => false,
+        Strip::Spacing { left: _ } => none,
         Strip::Characters {
             address,
             height,
@@ -119,62 +177,162 @@ fn strip_reads(ram: &[u8], settings: Settings, strip: Strip, k: u16, cell: u16) 
             line,
         } => {
             if !enabled {
-                return false;
+                return none;
             }
-            let shown = user_shown(height, zoom, line.0, k, cell);
-            row_reads(
-                ram,
-                address,
-                raster::columns(settings.ld, settings.dd),
-                cell,
-                shown,
-            )
+            let shown = user_shown(height, zoom, line.0, k, sought.cell);
+            look_row(marks, rows, 0, sought, address, shown)
         }
     }
 }
 
-// The lines that are left of a strip, or of the frame.
-fn pass_lines(ram: &[u8], settings: Settings, n: u16, at: u16, strip: Strip, cell: u16) -> Passed
-    requires { ⌜ length (now ram) ≡ 1024 ⌝ }
-    requires { ⌜ cell < 1024 ⌝ }
-    requires { ⌜ (1 ≤ n) × (over strip ≡ false) ⌝ }
-    ensures { λ r. ⌜ Passes (now (ram .entry)) settings n (record { descriptor = at; strip = strip }) cell r ⌝ }
+// Do the lines of a strip from its first on, so many at the most, show the cell's slice?
+fn begin_shown(sought: Sought, zoom: bool, left: u16) -> bool
+    requires { ⌜ Whole sought ⌝ }
+    requires { ⌜ 1 ≤ left ⌝ }
+    ensures { λ r. ⌜ r ≡ sliceShown (sought .cell) (sought .height) zoom (min (stripLines (sought .height) zoom) left) 0 && ltb (sought .cell) 988 ⌝ }
 {
-    let k = least(strip.lines_left(), n);
-    let found = strip_reads(ram, settings, strip, k, cell);
-    Passed {
-        found: found,
-        left: n - k,
-        walk: Walk {
-            descriptor: at,
-            strip: Strip::Spacing { left: 0 },
-        },
+    if raster::strip_lines(sought.height, zoom) <= left {
+        return sought.whole;
     }
+    user_shown(sought.height, zoom, 0, left, sought.cell)
 }
 
-// The next strip: its descriptor where the strip on screen is over, and its lines.
-fn pass(ram: &[u8], settings: Settings, n: u16, walk: Walk, cell: u16) -> Passed
-    requires { ⌜ length (now ram) ≡ 1024 ⌝ }
-    requires { ⌜ cell < 1024 ⌝ }
-    requires { ⌜ 1 ≤ n ⌝ }
-    ensures { λ r. ⌜ Passes (now (ram .entry)) settings n walk cell r ⌝ }
+// The strip of a descriptor, of the lines that are left.
+fn look_begun(
+    marks: &mut [u8; 512],
+    rows: &mut [u16; 512],
+    listed: u16,
+    sought: Sought,
+    low: u8,
+    high: u8,
+    left: u16,
+) -> Looked
+    requires { ⌜ Kept (now marks) (now rows) listed ⌝ }
+    requires { ⌜ (sought .cell < 1024) × Whole sought ⌝ }
+    requires { ⌜ 1 ≤ left ⌝ }
+    ensures { λ r. ⌜ Kept (now (marks .exit)) (now (rows .exit)) (r .listed) ⌝ }
+    ensures { λ r. ⌜ BegunLooked sought low high left (now (rows .entry)) listed (now (rows .exit)) r ⌝ }
 {
-    let strip = walk.strip;
-    if strip.is_over() {
-        let a = walk::even_address(walk.descriptor);
-        if cell / 2 * 2 == a {
-            return Passed {
+    if high < 192 {
+        return Looked {
+            found: false,
+            listed: listed,
+        };
+    }
+    let shown = begin_shown(sought, high / 32 % 2 == 1, left);
+    let address = (high % 4) as u16 * 256 + low as u16;
+    look_row(marks, rows, listed, sought, address, shown)
+}
+
+// How many lines the strip of a descriptor has.
+fn begun_lines(height: u8, low: u8, high: u8) -> u16
+    ensures { λ r. ⌜ r ≡ begunLines height low high ⌝ }
+{
+    if high < 128 {
+        return most(1, low as u16);
+    }
+    raster::strip_lines(height, high / 32 % 2 == 1)
+}
+
+// The lines from a descriptor on. Descriptors go round all of RAM, so within 512 strips they meet the cell or the frame's end.
+fn look_lines(
+    ram: &[u8],
+    marks: &mut [u8; 512],
+    rows: &mut [u16; 512],
+    already: u16,
+    sought: Sought,
+    lines: u16,
+    descriptor: u16,
+) -> Looked
+    requires { ⌜ length (now ram) ≡ 1024 ⌝ }
+    requires { ⌜ Kept (now marks) (now rows) already ⌝ }
+    requires { ⌜ (sought .cell < 1024) × Whole sought ⌝ }
+    ensures { λ r. ⌜ Kept (now (marks .exit)) (now (rows .exit)) (r .listed) ⌝ }
+    ensures { λ r. ⌜ LinesLooked (now (ram .entry)) sought lines descriptor (now (rows .entry)) already (now (rows .exit)) r ⌝ }
+{
+    let pair = sought.cell / 2 * 2;
+    let mut a = walk::even_address(descriptor);
+    let mut left = lines;
+    let mut listed = already;
+    while left > 0 {
+        if pair == a {
+            return Looked {
                 found: true,
-                left: 0,
-                walk: walk,
+                listed: listed,
             };
         }
         let low = ram[a as usize];
         let high = ram[a as usize + 1];
-        let fresh = Strip::of_descriptor(settings.ch, low, high);
-        return pass_lines(ram, settings, n, walk::even_address(a + 2), fresh, cell);
+        let looked = look_begun(marks, rows, listed, sought, low, high, left);
+        if looked.found {
+            return looked;
+        }
+        listed = looked.listed;
+        left = walk::rest(left, begun_lines(sought.height, low, high));
+        a = walk::even_address(a + 2);
     }
-    pass_lines(ram, settings, n, walk.descriptor, strip, cell)
+    Looked {
+        found: false,
+        listed: listed,
+    }
+}
+
+// Do the codes of a row, n at the most, show the cell's user character before the next marked row, which sees the rest?
+fn part_reads<'a>(ram: &'a [u8], marks: &'a [u8; 512], address: u16, n: u16, cell: u16) -> bool
+    requires { ⌜ length (now ram) ≡ 1024 ⌝ }
+    requires { ⌜ cell < 1024 ⌝ }
+    ensures { λ r. ⌜ r ≡ partReads (now (ram .entry)) (now (marks .entry)) cell n address ⌝ }
+{
+    let user = 128 + cell / 38;
+    let mut a = walk::even_address(address);
+    let mut left = n;
+    while left > 0 {
+        let high = ram[a as usize + 1];
+        if high == 255 {
+            return false;
+        }
+        if high as u16 == user {
+            return true;
+        }
+        a = walk::even_address(a + 2);
+        if marks[(a / 2) as usize] != 0 {
+            return false;
+        }
+        left -= 1;
+    }
+    false
+}
+
+// Does one of the listed rows show the cell's user character?
+fn rows_read<'a>(ram: &'a [u8], marks: &'a [u8; 512], rows: &'a [u16; 512], listed: u16, n: u16, cell: u16) -> bool
+    requires { ⌜ length (now ram) ≡ 1024 ⌝ }
+    requires { ⌜ cell < 1024 ⌝ }
+    requires { ⌜ Kept (now marks) (now rows) listed ⌝ }
+    ensures { λ r. ⌜ r ≡ anyRow (now (ram .entry)) cell n (now (rows .entry)) listed ⌝ }
+{
+    let mut i = 0;
+    while i < listed {
+        if part_reads(ram, marks, rows[i as usize], n, cell) {
+            return true;
+        }
+        i += 1;
+    }
+    false
+}
+
+// What is looked for, of a cell.
+fn seek(ram: &[u8], settings: Settings, cell: u16) -> Sought
+    requires { ⌜ length (now ram) ≡ 1024 ⌝ }
+    requires { ⌜ cell < 1024 ⌝ }
+    ensures { λ r. ⌜ (r .cell ≡ cell) × (Whole r × Ready (now (ram .entry)) settings r) ⌝ }
+{
+    let height = most(1, settings.ch as u16);
+    Sought {
+        cell: cell,
+        starts: starts(ram, codes(settings), cell),
+        height: height as u8,
+        whole: user_shown(height as u8, false, 0, height, cell),
+    }
 }
 
 // Do the frame's remaining lines read the cell?
@@ -183,16 +341,18 @@ pub fn reads(ram: &[u8], settings: Settings, left: u16, walk: Walk, cell: u16) -
     requires { ⌜ cell < 1024 ⌝ }
     ensures { λ r. ⌜ r ≡ among cell (cells (now (ram .entry)) (remaining settings left walk)) ⌝ }
 {
-    let mut n = left;
-    let mut w = walk;
-    while n > 0 {
-        let passed = pass(ram, settings, n, w, cell);
-        if passed.found {
-            return true;
-        }
-        n = passed.left;
-        let next = passed.walk;
-        w = next;
+    let mut marks = [0u8; 512];
+    let mut rows = [0u16; 512];
+    let sought = seek(ram, settings, cell);
+    let strip = walk.strip;
+    let k = least(strip.lines_left(), left);
+    let first = look_strip(&mut marks, &mut rows, sought, strip, k);
+    if first.found {
+        return true;
     }
-    false
+    let looked = look_lines(ram, &mut marks, &mut rows, first.listed, sought, left - k, walk.descriptor);
+    if looked.found {
+        return true;
+    }
+    rows_read(ram, &marks, &rows, looked.listed, codes(settings), cell)
 }

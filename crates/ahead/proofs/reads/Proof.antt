@@ -1,38 +1,100 @@
--- `reads`: each turn passes a strip; the lines that are left read the cell exactly if all remaining lines do.
--- Assumes nothing.
-use mathlib.Core.Path.{_≡_, refl, sym, _∙_}
+use Prim.Native.Nat.{ℕ, min}
+use mathlib.Core.Path.{sym, ap, _∙_}
+use denote.Ref.{now}
+use Rattle.ahead.proofs.Looks.{found-first, found-later, found-row}
+use native.Mathlib.Omega.{arith}
+use Rattle.ahead.proofs.Marks.{kept-none}
 use borrow.Author.Needs.{needs}
-use Rattle.cells.specs.Reading.{cells, among}
-use Rattle.ahead.specs.Ahead.{remaining}
-use Rattle.ahead.proofs.Lines.{none-left}
 use Rattle.ahead.proofs.reads.Statement.{statement}
 use Rattle.ahead.proofs.reads.Tie as tie
+use Rattle.ahead.proofs.reads.Reads as reads
+use Rattle.ahead.proofs.reads.Lts as lts
+use Rattle.ahead.proofs.codes.Reads as codes-reads
+use Rattle.ahead.proofs.least.Reads as least-reads
+use Rattle.ahead.proofs.look_lines.Reads as look-lines-reads
+use Rattle.ahead.proofs.look_strip.Reads as look-strip-reads
+use Rattle.ahead.proofs.rows_read.Reads as rows-read-reads
+use Rattle.ahead.proofs.seek.Reads as seek-reads
+use Rattle.walk.proofs.Strip.lines_left.Reads as lines-left-reads
 
-abbrev Inv-loop : tie.InvT-loop
-Inv-loop ram settings left cell n₀ w₀ n w = among cell (cells ram (remaining settings n w)) ≡ among cell (cells ram (remaining settings n₀ w₀))
+-- src/lib.rt:342:9
+seek-requires : tie.Need-seek-requires
+seek-requires c κs = search needs
 
-abbrev μ-loop : tie.MeasureT-loop
-μ-loop ram settings left cell n₀ w₀ n w = n
+-- src/lib.rt:344:19
+lines-left-requires : tie.Need-lines-left-requires
+lines-left-requires c κs = search needs
 
-loop-holds : tie.Need-loop-holds Inv-loop μ-loop
-loop-holds c = refl
+-- src/lib.rt:344:9
+least-requires : tie.Need-least-requires
+least-requires c κs = search needs
 
-pass-requires : tie.Need-pass-requires Inv-loop μ-loop
-pass-requires c κs = (c .before .before .before .pre .0, (c .before .before .before .pre .1, search needs))
+-- src/lib.rt:345:9
+look-strip-requires : tie.Need-look-strip-requires
+look-strip-requires c κs = 
+    let q = c .before .before .before .before .seek .ensures in
+    (kept-none, (omega (arith, q .0, c .before .before .before .before .before .before .pre .1), omega (arith, c .before .before .least .ensures, c .before .before .before .lines-left .ensures)))
 
-returns : tie.Need-returns Inv-loop μ-loop
-returns c = sym (c .before .pass .ensures .hit (c .if1 .taken)) ∙ c .before .before .before .loop .inv
+-- src/lib.rt:347:9
+returns : tie.Need-returns
+returns c = 
+    let a = c .before .before .before .before .before .before .before .before .args in
+    let q = c .before .before .before .before .before .before .seek in
+    let e = c .before .before .before .before .least .ensures ∙ ap (λ (x : ℕ). min x (a .left)) (c .before .before .before .before .before .lines-left .ensures) in
+    let first = c .before .look-strip .ensures .1 (now (a .ram)) (a .settings) (q .ensures .1 .1) in
+    rw (sym (q .ensures .0)) (sym (found-first (now (a .ram)) (a .settings) (a .left) (a .walk) (q .result) _ e _ _ _ first (c .if1 .taken)))
 
-loop-less : tie.Need-loop-less Inv-loop μ-loop
-loop-less c = c .before .before .pass .ensures .fewer (c .before .if1 .left)
+-- src/lib.rt:349:79
+sub-look-lines : tie.Need-sub-look-lines
+sub-look-lines c = search needs
 
-loop-again : tie.Need-loop-again Inv-loop μ-loop
-loop-again c = sym (c .before .before .pass .ensures .miss (c .before .if1 .left)) ∙ c .before .before .before .before .loop .inv
+-- src/lib.rt:349:9
+look-lines-requires : tie.Need-look-lines-requires
+look-lines-requires c κs = 
+    let q = c .before .before .before .before .before .before .before .before .seek .ensures in
+    (c .before .before .before .before .before .before .before .before .before .before .pre .0, (c .before .before .before .look-strip .ensures .0, (omega (arith, q .0, c .before .before .before .before .before .before .before .before .before .before .pre .1), q .1 .0)))
 
-returns-2 : tie.Need-returns-2 Inv-loop μ-loop
-returns-2 c = none-left _ _ (c .before .loop .n) _ _ (c .loop-test .left) ∙ c .before .loop .inv
+-- src/lib.rt:351:9
+returns-2 : tie.Need-returns-2
+returns-2 c = 
+    let a = c .before .before .before .before .before .before .before .before .before .before .before .before .args in
+    let q = c .before .before .before .before .before .before .before .before .before .before .seek in
+    let e = c .before .before .before .before .before .before .before .before .least .ensures ∙ ap (λ (x : ℕ). min x (a .left)) (c .before .before .before .before .before .before .before .before .before .lines-left .ensures) in
+    let first = c .before .before .before .before .before .look-strip .ensures .1 (now (a .ram)) (a .settings) (q .ensures .1 .1) in
+    rw (sym (q .ensures .0))
+    (sym (found-later (now (a .ram)) (a .settings) (a .left) (a .walk) (q .result) _ e _ _ _ first _ _ (c .before .look-lines .ensures .1 (a .settings) (q .ensures .1 .1)) (c .before .before .before .before .if1 .left) (c .if2 .taken)))
+
+-- src/lib.rt:353:50
+codes-requires : tie.Need-codes-requires
+codes-requires c κs = search needs
+
+-- src/lib.rt:353:5
+rows-read-requires : tie.Need-rows-read-requires
+rows-read-requires c κs = (c .before .before .before .before .before .before .before .before .before .before .before .before .before .before .before .pre .0, (c .before .before .before .before .before .before .before .before .before .before .before .before .before .before .before .pre .1, c .before .before .before .before .look-lines .ensures .0))
+
+-- src/lib.rt:335:1
+returns-3 : tie.Need-returns-3
+returns-3 c = 
+    let a = c .before .before .before .before .before .before .before .before .before .before .before .before .before .before .before .before .args in
+    let q = c .before .before .before .before .before .before .before .before .before .before .before .before .before .before .seek in
+    let e = c .before .before .before .before .before .before .before .before .before .before .before .before .least .ensures ∙ ap (λ (x : ℕ). min x (a .left)) (c .before .before .before .before .before .before .before .before .before .before .before .before .before .lines-left .ensures) in
+    let first = c .before .before .before .before .before .before .before .before .before .look-strip .ensures .1 (now (a .ram)) (a .settings) (q .ensures .1 .1) in
+    c .rows-read .ensures
+    ∙ rw (sym (q .ensures .0), c .before .codes .ensures)
+    (found-row (now (a .ram)) (a .settings) (a .left) (a .walk) (q .result) _ e _ _ _ first _ _ (c .before .before .before .before .before .look-lines .ensures .1 (a .settings) (q .ensures .1 .1)) (c .before .before .before .before .before .before .before .before .if1 .left) (c .before .before .before .before .if2 .left))
 
 pub reads-spec : {M : Type 1} → statement M
 reads-spec =
     tie.close
-    (tie.spec Inv-loop μ-loop loop-holds pass-requires returns loop-less loop-again returns-2)
+    (tie.spec
+    seek-requires
+    lines-left-requires
+    least-requires
+    look-strip-requires
+    returns
+    sub-look-lines
+    look-lines-requires
+    returns-2
+    codes-requires
+    rows-read-requires
+    returns-3)

@@ -1,0 +1,193 @@
+-- Strip by strip the search finds the cell or lists rows: what it has found adds up to what the lines read.
+-- Assumes nothing.
+use Prim.Native.Nat.{ℕ, _+_, _-_, _*_, _/_, _%_, _≤_, _<_, min}
+use mathlib.Core.Path.{_≡_, refl, sym, ap, ap₂, _∙_, subst}
+use mathlib.Core.Bool.{Bool, true, false, _&&_, _||_, true≢false}
+use mathlib.Core.List.{List}
+use native.Mathlib.Omega.{arith}
+use lib.Dec.{eqb, ltb}
+use lib.ListN.{getD}
+use Rattle.registers.specs.declared.Settings.{Settings}
+use Rattle.cells.specs.Reading.{cells, among}
+use Rattle.raster.specs.declared.ScanLine.{ScanLine}
+use Rattle.raster.specs.Raster.{stripLines}
+use Rattle.walk.specs.declared.Strip.{Strip}
+use Rattle.walk.specs.declared.Strip.the-variants.{Spacing, Characters}
+use Rattle.walk.specs.declared.Walk.{Walk}
+use Rattle.walk.specs.Walk.{even, atLeastOne, stripOf, linesLeft}
+use Rattle.ahead.specs.Ahead.{remaining}
+use Rattle.ahead.specs.declared.Sought.{Sought}
+use Rattle.ahead.specs.declared.Looked.{Looked}
+use Rattle.ahead.specs.Looking.{pairOf, codesOf, codesTo, sliceShown, stripReads, begunLines, rowReads, userReads, anyRow, Kept, Listed, Adds, Whole, Ready, RowLooked, StripLooked, BegunLooked, LinesLooked}
+use Rattle.ahead.proofs.Rows.{or-false, or-true, or-assoc, row-near, row-far}
+use Rattle.ahead.proofs.Slices.{whole-zoom}
+use Rattle.ahead.proofs.Lines.{or-with, strip-spacing, strip-disabled, strip-none, strip-characters, begun-none, begun-reads, begun-left, from-even, none-left, descriptor-here, descriptor-on, strip-passed}
+
+module _ (ram : List ℕ) (c n : ℕ) (b : Bool) (rows : List ℕ) (k : ℕ) where
+  found-adds : (rows′ : List ℕ) (r : Looked) → r .found ≡ true → anyRow ram c n rows k || b ≡ true → Adds ram c n b rows k rows′ r
+  found-adds rows′ r y h =
+      record { hit = λ _. h; miss = λ z. absurd (true≢false (sym y ∙ z)) }
+
+  none-adds : b ≡ false → Adds ram c n b rows k rows (record { found = false; listed = k })
+  none-adds e =
+      record {
+        hit = λ z. absurd (true≢false (sym z));
+        miss = λ _. sym (ap (λ (x : Bool). anyRow ram c n rows k || x) e ∙ or-false (anyRow ram c n rows k));
+      }
+
+adds-same : (ram : List ℕ) (c n : ℕ) (b b′ : Bool) (rows : List ℕ) (k : ℕ) (rows′ : List ℕ) (r : Looked) → b ≡ b′
+    → Adds ram c n b rows k rows′ r → Adds ram c n b′ rows k rows′ r
+adds-same ram c n b b′ rows k rows′ r e a = subst (λ (x : Bool). Adds ram c n x rows k rows′ r) e a
+
+-- ---- a row
+
+module _ (q : Sought) (shown : Bool) (a : ℕ) (rows : List ℕ) (k : ℕ) (small : q .cell < 1024) where
+  pub row-found : (rows′ : List ℕ) (r : Looked) → r .found ≡ true → codesTo (q .cell) a < q .starts → RowLooked q shown a rows k rows′ r
+  row-found rows′ r y l ram n s =
+      found-adds ram (q .cell) n (rowReads ram (q .cell) shown n a) rows k rows′ r y
+      (ap (λ (x : Bool). anyRow ram (q .cell) n rows k || x) (row-near ram (q .cell) small shown n (q .starts) a s l)
+      ∙ or-true (anyRow ram (q .cell) n rows k))
+
+  pub row-listed : (marks′ rows′ : List ℕ) (k′ : ℕ) → q .starts ≤ codesTo (q .cell) a → shown ≡ true → Listed rows k a marks′ rows′ k′
+      → RowLooked q shown a rows k rows′ (record { found = false; listed = k′ })
+  row-listed marks′ rows′ k′ l e m ram n s =
+      record {
+        hit = λ z. absurd (true≢false (sym z));
+        miss = λ _.
+          m .more ram (q .cell) n
+          ∙ ap (λ (x : Bool). anyRow ram (q .cell) n rows k || x)
+          (sym (row-far ram (q .cell) small shown n (q .starts) a s l ∙ ap (λ (x : Bool). x && userReads ram (q .cell) n a) e));
+      }
+
+  pub row-passed : q .starts ≤ codesTo (q .cell) a → shown ≡ false
+      → RowLooked q shown a rows k rows (record { found = false; listed = k })
+  row-passed l e ram n t =
+      none-adds ram (q .cell) n (rowReads ram (q .cell) shown n a) rows k
+      (row-far ram (q .cell) small shown n (q .starts) a t l ∙ ap (λ (x : Bool). x && userReads ram (q .cell) n a) e)
+
+-- ---- the strip on screen
+
+module _ (q : Sought) (strip : Strip) (lines : ℕ) (rows : List ℕ) (k : ℕ) where
+  pub strip-empty : lines ≡ 0 → StripLooked q strip lines rows k rows (record { found = false; listed = k })
+  strip-empty e ram t rd =
+      none-adds ram (q .cell) (codesOf t) (stripReads ram t lines strip (q .cell)) rows k (strip-none ram t lines strip (q .cell) e)
+
+  pub strip-spaced : {left : ℕ} → strip ≡ Spacing left
+      → StripLooked q strip lines rows k rows (record { found = false; listed = k })
+  strip-spaced e ram t rd =
+      none-adds ram (q .cell) (codesOf t) (stripReads ram t lines strip (q .cell)) rows k (strip-spacing ram t lines strip (q .cell) e)
+
+  module _ {address height : ℕ} {zoom enabled : Bool} {line : ScanLine} (e : strip ≡ Characters address height zoom enabled line) where
+    pub strip-dark : enabled ≡ false → StripLooked q strip lines rows k rows (record { found = false; listed = k })
+    strip-dark d ram t rd =
+        none-adds ram (q .cell) (codesOf t) (stripReads ram t lines strip (q .cell)) rows k (strip-disabled ram t lines strip (q .cell) e d)
+
+    pub strip-shown : (rows′ : List ℕ) (r : Looked) (shown : Bool) → enabled ≡ true → 1 ≤ lines → lines ≤ linesLeft strip
+        → shown ≡ sliceShown (q .cell) height zoom lines (line .0) && ltb (q .cell) 988
+        → RowLooked q shown address rows k rows′ r → StripLooked q strip lines rows k rows′ r
+    strip-shown rows′ r shown d h l f w ram t rd =
+        adds-same ram (q .cell) (codesOf t) (rowReads ram (q .cell) shown (codesOf t) address) (stripReads ram t lines strip (q .cell)) rows k rows′ r
+        (ap (λ (x : Bool). rowReads ram (q .cell) x (codesOf t) address) f ∙ strip-characters ram t lines strip (q .cell) (rd .bytes) e d h l)
+        (w ram (codesOf t) (rd .starts))
+
+-- ---- the strip of a descriptor
+
+pub whole-begun : (q : Sought) (zoom : Bool) (left : ℕ) → Whole q → stripLines (q .height) zoom ≤ left
+    → q .whole ≡ sliceShown (q .cell) (q .height) zoom (min (stripLines (q .height) zoom) left) 0 && ltb (q .cell) 988
+whole-begun q zoom left w h =
+    let m : min (stripLines (q .height) zoom) left ≡ stripLines (q .height) zoom = omega arith in
+    w .shown
+    ∙ ap (λ (x : Bool). x && ltb (q .cell) 988)
+    (sym (ap (λ (x : ℕ). sliceShown (q .cell) (q .height) zoom x 0) m ∙ whole-zoom (q .cell) (q .height) zoom))
+
+module _ (q : Sought) (low high left : ℕ) (rows : List ℕ) (k : ℕ) where
+  pub begun-dark : high < 192 → BegunLooked q low high left rows k rows (record { found = false; listed = k })
+  begun-dark h ram t rd =
+      none-adds ram (q .cell) (codesOf t) (stripReads ram t (min (linesLeft (stripOf (t .ch) low high)) left) (stripOf (t .ch) low high) (q .cell)) rows k
+      (begun-none ram t (min (linesLeft (stripOf (t .ch) low high)) left) low high (q .cell) h)
+
+  pub begun-shown : (rows′ : List ℕ) (r : Looked) (shown : Bool) → 192 ≤ high → high < 256 → 1 ≤ left
+      → shown ≡ sliceShown (q .cell) (q .height) (eqb (high / 32 % 2) 1) (min (stripLines (q .height) (eqb (high / 32 % 2) 1)) left) 0 && ltb (q .cell) 988
+      → RowLooked q shown (high % 4 * 256 + low) rows k rows′ r → BegunLooked q low high left rows k rows′ r
+  begun-shown rows′ r shown h l m f w ram t rd =
+      adds-same ram (q .cell) (codesOf t) (rowReads ram (q .cell) shown (codesOf t) (high % 4 * 256 + low))
+      (stripReads ram t (min (linesLeft (stripOf (t .ch) low high)) left) (stripOf (t .ch) low high) (q .cell)) rows k rows′ r
+      (begun-reads ram t left low high (q .height) (q .cell) shown (rd .bytes) h l m (rd .height) f)
+      (w ram (codesOf t) (rd .starts))
+
+-- ---- the lines from a descriptor on
+
+-- what is listed and what is still to look at say the same as at the start
+abbrev pub SumSame : List ℕ → Sought → List ℕ → ℕ → ℕ → ℕ → List ℕ → ℕ → ℕ → ℕ → Type 0
+SumSame ram q rows₀ k₀ left₀ a₀ rows k left a =
+    (s : Settings) → Ready ram s q
+    → anyRow ram (q .cell) (codesOf s) rows₀ k₀ || among (q .cell) (cells ram (remaining s left₀ (record { descriptor = a₀; strip = Spacing 0 })))
+    ≡ anyRow ram (q .cell) (codesOf s) rows k || among (q .cell) (cells ram (remaining s left (record { descriptor = a; strip = Spacing 0 })))
+
+pub sum-start : (ram : List ℕ) (q : Sought) (rows : List ℕ) (k left a : ℕ) → SumSame ram q rows k left a rows k left (even a)
+sum-start ram q rows k left a s rd = ap (λ (x : Bool). anyRow ram (q .cell) (codesOf s) rows k || x) (sym (from-even ram s (q .cell) left a))
+
+module _ (ram : List ℕ) (q : Sought) (rows₀ : List ℕ) (k₀ left₀ a₀ : ℕ) (rows : List ℕ) (k left a : ℕ)
+    (sum : SumSame ram q rows₀ k₀ left₀ a₀ rows k left a) (p : even a ≡ a) where
+  pub lines-here : (rows′ : List ℕ) (r : Looked) → r .found ≡ true → 1 ≤ left → pairOf (q .cell) ≡ a
+      → LinesLooked ram q left₀ a₀ rows₀ k₀ rows′ r
+  lines-here rows′ r y h e s rd =
+      found-adds ram (q .cell) (codesOf s) _ rows₀ k₀ rows′ r y
+      (sum s rd
+      ∙ ap (λ (x : Bool). anyRow ram (q .cell) (codesOf s) rows k || x) (descriptor-here ram s (q .cell) left a h p e)
+      ∙ or-true (anyRow ram (q .cell) (codesOf s) rows k))
+
+  pub lines-over : left ≤ 0 → LinesLooked ram q left₀ a₀ rows₀ k₀ rows (record { found = false; listed = k })
+  lines-over h s rd =
+      record {
+        hit = λ z. absurd (true≢false (sym z));
+        miss = λ _.
+          sym (sum s rd
+          ∙ ap (λ (x : Bool). anyRow ram (q .cell) (codesOf s) rows k || x) (none-left ram s (q .cell) left a h)
+          ∙ or-false (anyRow ram (q .cell) (codesOf s) rows k));
+      }
+
+  module _ (rows′ : List ℕ) (r : Looked) (h : 1 ≤ left) (e : pairOf (q .cell) ≡ a → ⊥) (b : getD ram (a + 1) 0 < 256)
+      (w : BegunLooked q (getD ram a 0) (getD ram (a + 1) 0) left rows k rows′ r) where
+    step : (s : Settings) → Ready ram s q
+        → anyRow ram (q .cell) (codesOf s) rows₀ k₀ || among (q .cell) (cells ram (remaining s left₀ (record { descriptor = a₀; strip = Spacing 0 })))
+        ≡ (anyRow ram (q .cell) (codesOf s) rows k
+        || stripReads ram s (min (linesLeft (stripOf (s .ch) (getD ram a 0) (getD ram (a + 1) 0))) left) (stripOf (s .ch) (getD ram a 0) (getD ram (a + 1) 0)) (q .cell))
+        || among (q .cell) (cells ram (remaining s (left - begunLines (q .height) (getD ram a 0) (getD ram (a + 1) 0)) (record { descriptor = even (a + 2); strip = Spacing 0 })))
+    step s rd =
+        sum s rd
+        ∙ ap (λ (x : Bool). anyRow ram (q .cell) (codesOf s) rows k || x)
+        (descriptor-on ram s (q .cell) left a h p (begunLines (q .height) (getD ram a 0) (getD ram (a + 1) 0)) e
+        (begun-left (s .ch) (q .height) (getD ram a 0) (getD ram (a + 1) 0) (rd .height) b))
+        ∙ sym (or-assoc (anyRow ram (q .cell) (codesOf s) rows k) _ _)
+
+    pub lines-found : (rows″ : List ℕ) → r .found ≡ true → LinesLooked ram q left₀ a₀ rows₀ k₀ rows″ r
+    lines-found rows″ y s rd =
+        found-adds ram (q .cell) (codesOf s) _ rows₀ k₀ rows″ r y
+        (step s rd ∙ or-with _ (w ram s rd .hit y))
+
+    pub sum-on : r .found ≡ false
+        → SumSame ram q rows₀ k₀ left₀ a₀ rows′ (r .listed) (left - begunLines (q .height) (getD ram a 0) (getD ram (a + 1) 0)) (even (a + 2))
+    sum-on z s rd = step s rd ∙ or-with _ (sym (w ram s rd .miss z))
+
+-- ---- the frame's remaining lines
+
+module _ (ram : List ℕ) (s : Settings) (left : ℕ) (w : Walk) (q : Sought) (k : ℕ) (e : k ≡ min (linesLeft (w .strip)) left) (rows rows₁ : List ℕ) (r₁ : Looked)
+    (first : Adds ram (q .cell) (codesOf s) (stripReads ram s k (w .strip) (q .cell)) rows 0 rows₁ r₁) where
+  pub found-first : r₁ .found ≡ true → among (q .cell) (cells ram (remaining s left w)) ≡ true
+  unfolding anyRow
+  found-first y = strip-passed ram s left (w .descriptor) (w .strip) k (q .cell) e ∙ or-with _ (first .hit y)
+
+  module _ (rows₂ : List ℕ) (r₂ : Looked)
+      (later : Adds ram (q .cell) (codesOf s) (among (q .cell) (cells ram (remaining s (left - k) (record { descriptor = w .descriptor; strip = Spacing 0 })))) rows₁ (r₁ .listed) rows₂ r₂)
+      (z : r₁ .found ≡ false) where
+    both : among (q .cell) (cells ram (remaining s left w))
+        ≡ anyRow ram (q .cell) (codesOf s) rows₁ (r₁ .listed) || among (q .cell) (cells ram (remaining s (left - k) (record { descriptor = w .descriptor; strip = Spacing 0 })))
+    unfolding anyRow
+    both = strip-passed ram s left (w .descriptor) (w .strip) k (q .cell) e ∙ or-with _ (sym (first .miss z))
+
+    pub found-later : r₂ .found ≡ true → among (q .cell) (cells ram (remaining s left w)) ≡ true
+    found-later y = both ∙ later .hit y
+
+    pub found-row : r₂ .found ≡ false → anyRow ram (q .cell) (codesOf s) rows₂ (r₂ .listed) ≡ among (q .cell) (cells ram (remaining s left w))
+    found-row y = later .miss y ∙ sym both
