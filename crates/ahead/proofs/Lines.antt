@@ -215,6 +215,9 @@ begun-some height low high h = by (ltb high 128) (eqb (high / 32 % 2) 1)
     by false true = omega arith
     by false false = h
 
+pub begun-strip : (height low high : ℕ) → 128 ≤ high → begunLines height low high ≡ stripLines height (eqb (high / 32 % 2) 1)
+begun-strip height low high h = rw (le-ltb high 128 h)
+
 -- a strip with no row
 pub begun-none : (ram : List ℕ) (s : Settings) (k low high c : ℕ) → high < 192 → stripReads ram s k (stripOf (s .ch) low high) c ≡ false
 begun-none ram s k low high c h = by (decLe 128 high)
@@ -233,8 +236,7 @@ pub begun-reads : (ram : List ℕ) (s : Settings) (left low high height c : ℕ)
 begun-reads ram s left low high height c shown b h k l e f =
     let t = stripOf (s .ch) low high in
     let q = begun-characters (s .ch) low high (omega arith) k in
-    let w : begunLines height low high ≡ stripLines height (eqb (high / 32 % 2) 1) = rw (le-ltb high 128 (omega arith)) in
-    let m : linesLeft t ≡ stripLines height (eqb (high / 32 % 2) 1) = sym (begun-left (s .ch) height low high e k) ∙ w in
+    let m : linesLeft t ≡ stripLines height (eqb (high / 32 % 2) 1) = sym (begun-left (s .ch) height low high e k) ∙ begun-strip height low high (omega arith) in
     sym (reads-even ram c shown (codesOf s) (high % 4 * 256 + low))
     ∙ ap (λ (x : Bool). rowReads ram c x (codesOf s) (even (high % 4 * 256 + low)))
     (f
@@ -350,7 +352,6 @@ descriptor-passed ram s (suc n) a t h e =
     (ap (λ (x : Scanned). x .walk) (scan-value ram s (at a t)) ∙ ap (value ram) (step-read (s .ch) (at a t) e))
     ∙ ap (λ (l : List ℕ). even a ∷ (even a + 1) ∷ l)
     (sym (line-on ram s n (next (even a)) (stripOf (s .ch) low high) (stripOf-begun (s .ch) low high)))
-
 
 -- ---- descriptor by descriptor
 

@@ -19,7 +19,7 @@ use Rattle.ahead.specs.Ahead.{remaining}
 use Rattle.ahead.specs.declared.Sought.{Sought}
 use Rattle.ahead.specs.declared.Looked.{Looked}
 use Rattle.ahead.specs.Looking.{pairOf, codesOf, codesTo, sliceShown, stripReads, begunLines, rowReads, userReads, anyRow, Kept, Listed, Adds, Whole, Ready, RowLooked, StripLooked, BegunLooked, LinesLooked}
-use Rattle.ahead.proofs.Rows.{or-false, or-true, or-assoc, row-near, row-far}
+use Rattle.ahead.proofs.Rows.{or-false, or-true, or-assoc, row-near, row-far, code-even, code-of, code-next}
 use Rattle.ahead.proofs.Slices.{whole-zoom}
 use Rattle.ahead.proofs.Lines.{or-with, strip-spacing, strip-disabled, strip-none, strip-characters, begun-none, begun-reads, begun-left, from-even, none-left, descriptor-here, descriptor-on, strip-passed}
 
@@ -54,9 +54,9 @@ module _ (q : Sought) (shown : Bool) (a : ℕ) (rows : List ℕ) (k : ℕ) (smal
       record {
         hit = λ z. absurd (true≢false (sym z));
         miss = λ _.
-          m .more ram (q .cell) n
-          ∙ ap (λ (x : Bool). anyRow ram (q .cell) n rows k || x)
-          (sym (row-far ram (q .cell) small shown n (q .starts) a s l ∙ ap (λ (x : Bool). x && userReads ram (q .cell) n a) e));
+            m .more ram (q .cell) n
+            ∙ ap (λ (x : Bool). anyRow ram (q .cell) n rows k || x)
+            (sym (row-far ram (q .cell) small shown n (q .starts) a s l ∙ ap (λ (x : Bool). x && userReads ram (q .cell) n a) e));
       }
 
   pub row-passed : q .starts ≤ codesTo (q .cell) a → shown ≡ false
@@ -115,6 +115,14 @@ module _ (q : Sought) (low high left : ℕ) (rows : List ℕ) (k : ℕ) where
       (begun-reads ram t left low high (q .height) (q .cell) shown (rd .bytes) h l m (rd .height) f)
       (w ram (codesOf t) (rd .starts))
 
+-- as many lines as it has, or more
+pub begun-whole : (q : Sought) (low high left : ℕ) (rows : List ℕ) (k : ℕ) (rows′ : List ℕ) (r : Looked) → high < 256 → begunLines (q .height) low high ≤ left
+    → BegunLooked q low high (begunLines (q .height) low high) rows k rows′ r → BegunLooked q low high left rows k rows′ r
+begun-whole q low high left rows k rows′ r b h w ram t rd =
+    let e = begun-left (t .ch) (q .height) low high (rd .height) b in
+    let m : min (linesLeft (stripOf (t .ch) low high)) (begunLines (q .height) low high) ≡ min (linesLeft (stripOf (t .ch) low high)) left = omega (arith, e) in
+    adds-same ram (q .cell) (codesOf t) _ _ rows k rows′ r (ap (λ (x : ℕ). stripReads ram t x (stripOf (t .ch) low high) (q .cell)) m) (w ram t rd)
+
 -- ---- the lines from a descriptor on
 
 -- what is listed and what is still to look at say the same as at the start
@@ -124,17 +132,20 @@ SumSame ram q rows₀ k₀ left₀ a₀ rows k left a =
     → anyRow ram (q .cell) (codesOf s) rows₀ k₀ || among (q .cell) (cells ram (remaining s left₀ (record { descriptor = a₀; strip = Spacing 0 })))
     ≡ anyRow ram (q .cell) (codesOf s) rows k || among (q .cell) (cells ram (remaining s left (record { descriptor = a; strip = Spacing 0 })))
 
-pub sum-start : (ram : List ℕ) (q : Sought) (rows : List ℕ) (k left a : ℕ) → SumSame ram q rows k left a rows k left (even a)
-sum-start ram q rows k left a s rd = ap (λ (x : Bool). anyRow ram (q .cell) (codesOf s) rows k || x) (sym (from-even ram s (q .cell) left a))
+pub sum-start : (ram : List ℕ) (q : Sought) (rows : List ℕ) (k left a : ℕ) → SumSame ram q rows k left a rows k left (2 * (a / 2 % 512))
+sum-start ram q rows k left a =
+    subst (λ (x : ℕ). SumSame ram q rows k left a rows k left x) (code-of a)
+    (λ s rd. ap (λ (x : Bool). anyRow ram (q .cell) (codesOf s) rows k || x) (sym (from-even ram s (q .cell) left a)))
 
-module _ (ram : List ℕ) (q : Sought) (rows₀ : List ℕ) (k₀ left₀ a₀ : ℕ) (rows : List ℕ) (k left a : ℕ)
-    (sum : SumSame ram q rows₀ k₀ left₀ a₀ rows k left a) (p : even a ≡ a) where
-  pub lines-here : (rows′ : List ℕ) (r : Looked) → r .found ≡ true → 1 ≤ left → pairOf (q .cell) ≡ a
-      → LinesLooked ram q left₀ a₀ rows₀ k₀ rows′ r
+-- at the descriptor of a number
+module _ (ram : List ℕ) (q : Sought) (rows₀ : List ℕ) (k₀ left₀ a₀ : ℕ) (rows : List ℕ) (k left p : ℕ)
+    (sum : SumSame ram q rows₀ k₀ left₀ a₀ rows k left (2 * p)) (below : p < 512) where
+  pub lines-here : (rows′ : List ℕ) (r : Looked) → r .found ≡ true → 1 ≤ left → q .cell / 2 ≡ p → LinesLooked ram q left₀ a₀ rows₀ k₀ rows′ r
   lines-here rows′ r y h e s rd =
       found-adds ram (q .cell) (codesOf s) _ rows₀ k₀ rows′ r y
       (sum s rd
-      ∙ ap (λ (x : Bool). anyRow ram (q .cell) (codesOf s) rows k || x) (descriptor-here ram s (q .cell) left a h p e)
+      ∙ ap (λ (x : Bool). anyRow ram (q .cell) (codesOf s) rows k || x)
+      (descriptor-here ram s (q .cell) left (2 * p) h (code-even p below) (omega (arith, e)))
       ∙ or-true (anyRow ram (q .cell) (codesOf s) rows k))
 
   pub lines-over : left ≤ 0 → LinesLooked ram q left₀ a₀ rows₀ k₀ rows (record { found = false; listed = k })
@@ -142,33 +153,58 @@ module _ (ram : List ℕ) (q : Sought) (rows₀ : List ℕ) (k₀ left₀ a₀ :
       record {
         hit = λ z. absurd (true≢false (sym z));
         miss = λ _.
-          sym (sum s rd
-          ∙ ap (λ (x : Bool). anyRow ram (q .cell) (codesOf s) rows k || x) (none-left ram s (q .cell) left a h)
-          ∙ or-false (anyRow ram (q .cell) (codesOf s) rows k));
+            sym (sum s rd
+            ∙ ap (λ (x : Bool). anyRow ram (q .cell) (codesOf s) rows k || x) (none-left ram s (q .cell) left (2 * p) h)
+            ∙ or-false (anyRow ram (q .cell) (codesOf s) rows k));
       }
 
-  module _ (rows′ : List ℕ) (r : Looked) (h : 1 ≤ left) (e : pairOf (q .cell) ≡ a → ⊥) (b : getD ram (a + 1) 0 < 256)
-      (w : BegunLooked q (getD ram a 0) (getD ram (a + 1) 0) left rows k rows′ r) where
+  module _ (rows′ : List ℕ) (r : Looked) (h : 1 ≤ left) (e : q .cell / 2 ≡ p → ⊥) (b : getD ram (2 * p + 1) 0 < 256)
+      (w : BegunLooked q (getD ram (2 * p) 0) (getD ram (2 * p + 1) 0) left rows k rows′ r) where
+    lines : ℕ
+    lines = begunLines (q .height) (getD ram (2 * p) 0) (getD ram (2 * p + 1) 0)
+
+    after : Settings → Bool
+    after s = among (q .cell) (cells ram (remaining s (left - lines) (record { descriptor = 2 * ((p + 1) % 512); strip = Spacing 0 })))
+
+    -- the rows of its strip, and the lines after it
     step : (s : Settings) → Ready ram s q
         → anyRow ram (q .cell) (codesOf s) rows₀ k₀ || among (q .cell) (cells ram (remaining s left₀ (record { descriptor = a₀; strip = Spacing 0 })))
         ≡ (anyRow ram (q .cell) (codesOf s) rows k
-        || stripReads ram s (min (linesLeft (stripOf (s .ch) (getD ram a 0) (getD ram (a + 1) 0))) left) (stripOf (s .ch) (getD ram a 0) (getD ram (a + 1) 0)) (q .cell))
-        || among (q .cell) (cells ram (remaining s (left - begunLines (q .height) (getD ram a 0) (getD ram (a + 1) 0)) (record { descriptor = even (a + 2); strip = Spacing 0 })))
+        || stripReads ram s (min (linesLeft (stripOf (s .ch) (getD ram (2 * p) 0) (getD ram (2 * p + 1) 0))) left) (stripOf (s .ch) (getD ram (2 * p) 0) (getD ram (2 * p + 1) 0)) (q .cell))
+        || after s
+    unfolding after lines
     step s rd =
         sum s rd
         ∙ ap (λ (x : Bool). anyRow ram (q .cell) (codesOf s) rows k || x)
-        (descriptor-on ram s (q .cell) left a h p (begunLines (q .height) (getD ram a 0) (getD ram (a + 1) 0)) e
-        (begun-left (s .ch) (q .height) (getD ram a 0) (getD ram (a + 1) 0) (rd .height) b))
-        ∙ sym (or-assoc (anyRow ram (q .cell) (codesOf s) rows k) _ _)
+        (descriptor-on ram s (q .cell) left (2 * p) h (code-even p below) lines (λ y. e (omega (arith, y)))
+        (begun-left (s .ch) (q .height) (getD ram (2 * p) 0) (getD ram (2 * p + 1) 0) (rd .height) b)
+        ∙ ap (λ (x : ℕ).
+        stripReads ram s (min (linesLeft (stripOf (s .ch) (getD ram (2 * p) 0) (getD ram (2 * p + 1) 0))) left) (stripOf (s .ch) (getD ram (2 * p) 0) (getD ram (2 * p + 1) 0)) (q .cell)
+        || among (q .cell) (cells ram (remaining s (left - lines) (record { descriptor = x; strip = Spacing 0 })))) (code-next p))
+        ∙ sym (or-assoc (anyRow ram (q .cell) (codesOf s) rows k) _ (after s))
+
+    -- the frame ends in the strip
+    pub lines-last : left ≤ begunLines (q .height) (getD ram (2 * p) 0) (getD ram (2 * p + 1) 0) → LinesLooked ram q left₀ a₀ rows₀ k₀ rows′ r
+    unfolding after lines
+    lines-last l s rd =
+        record {
+          hit = λ y. step s rd ∙ or-with (after s) (w ram s rd .hit y);
+          miss = λ z.
+              sym (step s rd
+              ∙ or-with (after s) (sym (w ram s rd .miss z))
+              ∙ ap (λ (x : Bool). anyRow ram (q .cell) (codesOf s) rows′ (r .listed) || x)
+              (none-left ram s (q .cell) (left - lines) (2 * ((p + 1) % 512)) (omega arith))
+              ∙ or-false (anyRow ram (q .cell) (codesOf s) rows′ (r .listed)));
+        }
 
     pub lines-found : (rows″ : List ℕ) → r .found ≡ true → LinesLooked ram q left₀ a₀ rows₀ k₀ rows″ r
     lines-found rows″ y s rd =
-        found-adds ram (q .cell) (codesOf s) _ rows₀ k₀ rows″ r y
-        (step s rd ∙ or-with _ (w ram s rd .hit y))
+        found-adds ram (q .cell) (codesOf s) _ rows₀ k₀ rows″ r y (step s rd ∙ or-with (after s) (w ram s rd .hit y))
 
     pub sum-on : r .found ≡ false
-        → SumSame ram q rows₀ k₀ left₀ a₀ rows′ (r .listed) (left - begunLines (q .height) (getD ram a 0) (getD ram (a + 1) 0)) (even (a + 2))
-    sum-on z s rd = step s rd ∙ or-with _ (sym (w ram s rd .miss z))
+        → SumSame ram q rows₀ k₀ left₀ a₀ rows′ (r .listed) (left - begunLines (q .height) (getD ram (2 * p) 0) (getD ram (2 * p + 1) 0)) (2 * ((p + 1) % 512))
+    unfolding after lines
+    sum-on z s rd = step s rd ∙ or-with (after s) (sym (w ram s rd .miss z))
 
 -- ---- the frame's remaining lines
 

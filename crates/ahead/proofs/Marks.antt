@@ -15,7 +15,7 @@ use lib.Seq.{getD-set-same, getD-set-other}
 use Rattle.walk.specs.Walk.{even, next}
 use Rattle.glyph.specs.Glyph.{endsLine}
 use Rattle.ahead.specs.Looking.{userHigh, userReads, marked, Among, Kept, anyRow, Listed, partReads, anyPart}
-use Rattle.ahead.proofs.Rows.{or-false, iff, or-cases, or-first, or-second, user-same}
+use Rattle.ahead.proofs.Rows.{or-false, iff, or-cases, or-first, or-second, user-same, code-even, code-of, code-next}
 
 T-true : {b : Bool} → T b → b ≡ true
 T-true {b = true} t = refl
@@ -111,16 +111,16 @@ module _ (marks rows : List ℕ) (k a : ℕ) (s : Kept marks rows k) (e : getD m
   list-more =
       record {
         kept =
-          record {
-            all = length-set marks (a / 2 % 512) 1 ∙ s .all;
-            room = length-set rows k a ∙ s .room;
-            count = omega (arith, s .count, mark-set marks (a / 2 % 512) (omega (arith, s .all)) e);
-            listed = listed-more;
-          };
+            record {
+              all = length-set marks (a / 2 % 512) 1 ∙ s .all;
+              room = length-set rows k a ∙ s .room;
+              count = omega (arith, s .count, mark-set marks (a / 2 % 512) (omega (arith, s .all)) e);
+              listed = listed-more;
+            };
         more = λ ram c n.
-          ap (anyRow ram c n (set rows k a)) (add-one k)
-          ∙ ap₂ (λ (x : ℕ) (y : Bool). userReads ram c n x || y) here (any-set ram c n rows k a k (omega arith))
-          ∙ or-swap (userReads ram c n a) (anyRow ram c n rows k);
+            ap (anyRow ram c n (set rows k a)) (add-one k)
+            ∙ ap₂ (λ (x : ℕ) (y : Bool). userReads ram c n x || y) here (any-set ram c n rows k a k (omega arith))
+            ∙ or-swap (userReads ram c n a) (anyRow ram c n rows k);
       }
 
 -- ---- nothing is listed yet
@@ -165,7 +165,7 @@ part-cover false true z r p x t f g = tt
 part-cover false false true r p x t f g = f t
 part-cover false false false r p x t f g = or-cases p x (f t) (g refl) (λ y. y)
 
-pub part-even : (ram marks : List ℕ) (c n a : ℕ) → partReads ram marks c n (even a) ≡ partReads ram marks c n a
+part-even : (ram marks : List ℕ) (c n a : ℕ) → partReads ram marks c n (even a) ≡ partReads ram marks c n a
 unfolding partReads
 part-even ram marks c zero a = refl
 part-even ram marks c (suc n) a =
@@ -267,31 +267,37 @@ part-next ram marks c (suc n) a h =
     (eqb (getD ram (even a + 1) 0) (userHigh c) || cond (eqb (getD marks (next a / 2) 0) 0) (partReads ram marks c m (next a)) false))
     (sym (sub-one (suc n)))
 
--- at an even address
-module _ (ram marks : List ℕ) (c n a : ℕ) (pos : 0 < n) (p : even a ≡ a) where
-  one-more : partReads ram marks c n a
-      ≡ cond (endsLine (getD ram (a + 1) 0)) false
-      (eqb (getD ram (a + 1) 0) (userHigh c) || cond (eqb (getD marks (next a / 2) 0) 0) (partReads ram marks c (n - 1) (next a)) false)
+-- at the code of a number
+module _ (ram marks : List ℕ) (c n p : ℕ) (pos : 0 < n) (h : p < 512) where
+  one-more : partReads ram marks c n (2 * p)
+      ≡ cond (endsLine (getD ram (2 * p + 1) 0)) false
+      (eqb (getD ram (2 * p + 1) 0) (userHigh c) || cond (eqb (getD marks ((p + 1) % 512) 0) 0) (partReads ram marks c (n - 1) (2 * ((p + 1) % 512))) false)
   one-more =
-      subst (λ (x : ℕ).
-      partReads ram marks c n a
-      ≡ cond (endsLine (getD ram (x + 1) 0)) false
-      (eqb (getD ram (x + 1) 0) (userHigh c) || cond (eqb (getD marks (next a / 2) 0) 0) (partReads ram marks c (n - 1) (next a)) false)) p
-      (part-next ram marks c n a pos)
+      let f : 2 * ((p + 1) % 512) / 2 ≡ (p + 1) % 512 = omega arith in
+      part-next ram marks c n (2 * p) pos
+      ∙ ap₂ (λ (x y : ℕ).
+      cond (endsLine (getD ram (x + 1) 0)) false
+      (eqb (getD ram (x + 1) 0) (userHigh c) || cond (eqb (getD marks (y / 2) 0) 0) (partReads ram marks c (n - 1) y) false)) (code-even p h) (code-next p)
+      ∙ ap (λ (x : ℕ).
+      cond (endsLine (getD ram (2 * p + 1) 0)) false
+      (eqb (getD ram (2 * p + 1) 0) (userHigh c) || cond (eqb (getD marks x 0) 0) (partReads ram marks c (n - 1) (2 * ((p + 1) % 512))) false)) f
 
-  pub here-end : getD ram (a + 1) 0 ≡ 255 → false ≡ partReads ram marks c n a
-  here-end h = sym (one-more ∙ rw (eq-eqb _ _ h))
+  pub here-end : getD ram (2 * p + 1) 0 ≡ 255 → false ≡ partReads ram marks c n (2 * p)
+  here-end e = sym (one-more ∙ rw (eq-eqb _ _ e))
 
-  pub here-user : (getD ram (a + 1) 0 ≡ 255 → ⊥) → getD ram (a + 1) 0 ≡ userHigh c → true ≡ partReads ram marks c n a
-  here-user h u = sym (one-more ∙ rw (ne-eqb _ _ h, eq-eqb _ _ u))
+  pub here-user : (getD ram (2 * p + 1) 0 ≡ 255 → ⊥) → getD ram (2 * p + 1) 0 ≡ userHigh c → true ≡ partReads ram marks c n (2 * p)
+  here-user e u = sym (one-more ∙ rw (ne-eqb _ _ e, eq-eqb _ _ u))
 
-  pub here-next : (getD ram (a + 1) 0 ≡ 255 → ⊥) → (getD ram (a + 1) 0 ≡ userHigh c → ⊥) → (getD marks (even (a + 2) / 2) 0 ≡ 0 → ⊥)
-      → false ≡ partReads ram marks c n a
-  here-next h u m = sym (one-more ∙ rw (ne-eqb _ _ h, ne-eqb _ _ u, ne-eqb _ _ m))
+  pub here-next : (getD ram (2 * p + 1) 0 ≡ 255 → ⊥) → (getD ram (2 * p + 1) 0 ≡ userHigh c → ⊥) → (getD marks ((p + 1) % 512) 0 ≡ 0 → ⊥)
+      → false ≡ partReads ram marks c n (2 * p)
+  here-next e u m = sym (one-more ∙ rw (ne-eqb _ _ e, ne-eqb _ _ u, ne-eqb _ _ m))
 
-  pub here-other : (getD ram (a + 1) 0 ≡ 255 → ⊥) → (getD ram (a + 1) 0 ≡ userHigh c → ⊥) → getD marks (even (a + 2) / 2) 0 ≡ 0
-      → partReads ram marks c (n - 1) (even (a + 2)) ≡ partReads ram marks c n a
-  here-other h u m = sym (one-more ∙ rw (ne-eqb _ _ h, ne-eqb _ _ u, eq-eqb _ _ m))
+  pub here-other : (getD ram (2 * p + 1) 0 ≡ 255 → ⊥) → (getD ram (2 * p + 1) 0 ≡ userHigh c → ⊥) → getD marks ((p + 1) % 512) 0 ≡ 0
+      → partReads ram marks c (n - 1) (2 * ((p + 1) % 512)) ≡ partReads ram marks c n (2 * p)
+  here-other e u m = sym (one-more ∙ rw (ne-eqb _ _ e, ne-eqb _ _ u, eq-eqb _ _ m))
+
+pub part-start : (ram marks : List ℕ) (c n a : ℕ) → partReads ram marks c n (2 * (a / 2 % 512)) ≡ partReads ram marks c n a
+part-start ram marks c n a = ap (partReads ram marks c n) (sym (code-of a)) ∙ part-even ram marks c n a
 
 pub reads-none : (ram marks : List ℕ) (c n a : ℕ) → n ≤ 0 → false ≡ partReads ram marks c n a
 unfolding partReads

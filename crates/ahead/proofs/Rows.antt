@@ -5,7 +5,7 @@ use mathlib.Core.Path.{_≡_, refl, sym, ap, ap₂, _∙_, subst}
 use mathlib.Core.Bool.{Bool, true, false, cond, _&&_, _||_}
 use mathlib.Core.List.{List, [], _∷_, _++_}
 use native.Mathlib.Decide.{ℕ-discrete, decLt, decLe}
-use native.Mathlib.Nat.{not-suc-le-zero, mod-eq-of-lt, mod-add-mod, add-mod-right, mul-add-mod-self-left}
+use native.Mathlib.Nat.{not-suc-le-zero, mod-eq-of-lt, mod-add-mod, add-mod-right, mul-add-mod-self-left, mul-comm}
 use native.Mathlib.Omega.{arith}
 use borrow.Author.Tests.{eq-eqb, ne-eqb, eqb-true, eqb-false, lt-ltb, le-ltb, ltb-true, ltb-false}
 use lib.Dec.{T, eqb, ltb, eqb-refl, eqb→eq, ltb→lt, lt→ltb}
@@ -220,6 +220,19 @@ user-even ram c (suc n) a =
 pub user-same : (ram : List ℕ) (c n a b : ℕ) → a / 2 % 512 ≡ b / 2 % 512 → userReads ram c n a ≡ userReads ram c n b
 user-same ram c n a b e = sym (user-even ram c n a) ∙ ap (λ (p : ℕ). userReads ram c n (p * 2)) e ∙ user-even ram c n b
 
+-- ---- the address of the code of a number
+
+pub code-even : (p : ℕ) → p < 512 → even (2 * p) ≡ 2 * p
+code-even p h = omega arith
+
+pub code-of : (a : ℕ) → even a ≡ 2 * (a / 2 % 512)
+code-of a = mul-comm (a / 2 % 512) 2
+
+pub code-next : (p : ℕ) → even (2 * p + 2) ≡ 2 * ((p + 1) % 512)
+code-next p =
+    let e : (2 * p + 2) / 2 ≡ p + 1 = omega arith in
+    ap (λ (x : ℕ). x % 512 * 2) e ∙ mul-comm ((p + 1) % 512) 2
+
 -- ---- a row reads the cell as a code or as its user character
 
 parts : (p e b u r v : Bool) → p || cond e false ((b && u) || (r || (b && v))) ≡ (p || cond e false r) || (b && cond e false (u || v))
@@ -271,12 +284,7 @@ back-on c d a e =
     ∙ mod-add-mod (c / 2 + 511 * suc d) 512 1
     ∙ ap (λ (z : ℕ). z % 512) f
     ∙ add-mod-right (c / 2 + 511 * d) 512)
-
-pub back-more : (c d a : ℕ) → a ≡ codeBack c d → even (a + 1022) ≡ codeBack c (d + 1)
-back-more c d a e =
-    let g : (a + 1022) / 2 ≡ (c / 2 + 511 * d) % 512 + 511 = omega arith in
-    let f : c / 2 + 511 * d + 511 ≡ c / 2 + 511 * (d + 1) = omega arith in
-    ap (λ (z : ℕ). z % 512 * 2) g ∙ ap (λ (z : ℕ). z * 2) (mod-add-mod (c / 2 + 511 * d) 512 511 ∙ ap (λ (z : ℕ). z % 512) f)
+    ∙ mul-comm ((c / 2 + 511 * d) % 512) 2
 
 -- an address is so many codes before the cell's own as `codesTo` says
 to-back : (x y : ℕ) → x < 512 → y < 512 → (x + 511 * ((x + 512 - y) % 512)) % 512 ≡ y
@@ -355,6 +363,7 @@ module _ (ram : List ℕ) (c : ℕ) (small : c < 1024) where
     where
       e : even a ≡ codeBack c (codesTo c a)
       e = ap (λ (z : ℕ). z * 2) (sym (to-back (c / 2) (a / 2 % 512) (omega arith) (omega arith)))
+          ∙ mul-comm ((c / 2 + 511 * codesTo c a) % 512) 2
 
       by : Dec (codesTo c a < m) → Dec (n ≤ codesTo c a) → rowReads ram c false n a ≡ ltb (codesTo c a) m
       by (yes l) _ =

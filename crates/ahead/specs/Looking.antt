@@ -53,7 +53,7 @@ userReads ram c (suc n) a =
 
 -- the address j codes before the cell's own
 abbrev pub codeBack : ℕ → ℕ → ℕ
-codeBack c j = (c / 2 + 511 * j) % 512 * 2
+codeBack c j = 2 * ((c / 2 + 511 * j) % 512)
 
 -- how many codes before the cell's own an address is
 abbrev pub codesTo : ℕ → ℕ → ℕ

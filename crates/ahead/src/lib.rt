@@ -62,12 +62,12 @@ fn starts(ram: &[u8], n: u16, cell: u16) -> u16
     requires { ⌜ cell < 1024 ⌝ }
     ensures { λ r. ⌜ Starts (now (ram .entry)) cell n r ⌝ }
 {
-    let mut a = cell / 2 * 2;
+    let own = (cell / 2) as usize;
     let mut m = 0;
     while m < n {
         m += 1;
-        a = walk::even_address(a + 1022);
-        if ram[a as usize + 1] == 255 {
+        let p = (own + 511 * m as usize) % 512;
+        if ram[2 * p + 1] == 255 {
             return m;
         }
     }
@@ -185,20 +185,32 @@ fn look_strip(
     }
 }
 
-// Do the lines of a strip from its first on, so many at the most, show the cell's slice?
-fn begin_shown(sought: Sought, zoom: bool, left: u16) -> bool
-    requires { ⌜ Whole sought ⌝ }
-    requires { ⌜ 1 ≤ left ⌝ }
-    ensures { λ r. ⌜ r ≡ sliceShown (sought .cell) (sought .height) zoom (min (stripLines (sought .height) zoom) left) 0 && ltb (sought .cell) 988 ⌝ }
+// The strip of a descriptor, of which all lines are shown.
+fn look_whole(
+    marks: &mut [u8; 512],
+    rows: &mut [u16; 512],
+    listed: u16,
+    sought: Sought,
+    low: u8,
+    high: u8,
+) -> Looked
+    requires { ⌜ Kept (now marks) (now rows) listed ⌝ }
+    requires { ⌜ (sought .cell < 1024) × Whole sought ⌝ }
+    ensures { λ r. ⌜ Kept (now (marks .exit)) (now (rows .exit)) (r .listed) ⌝ }
+    ensures { λ r. ⌜ BegunLooked sought low high (begunLines (sought .height) low high) (now (rows .entry)) listed (now (rows .exit)) r ⌝ }
 {
-    if raster::strip_lines(sought.height, zoom) <= left {
-        return sought.whole;
+    if high < 192 {
+        return Looked {
+            found: false,
+            listed: listed,
+        };
     }
-    user_shown(sought.height, zoom, 0, left, sought.cell)
+    let address = (high % 4) as u16 * 256 + low as u16;
+    look_row(marks, rows, listed, sought, address, sought.whole)
 }
 
-// The strip of a descriptor, of the lines that are left.
-fn look_begun(
+// The strip of a descriptor, in which the frame ends.
+fn look_last(
     marks: &mut [u8; 512],
     rows: &mut [u16; 512],
     listed: u16,
@@ -209,7 +221,7 @@ fn look_begun(
 ) -> Looked
     requires { ⌜ Kept (now marks) (now rows) listed ⌝ }
     requires { ⌜ (sought .cell < 1024) × Whole sought ⌝ }
-    requires { ⌜ 1 ≤ left ⌝ }
+    requires { ⌜ (1 ≤ left) × (left < begunLines (sought .height) low high) ⌝ }
     ensures { λ r. ⌜ Kept (now (marks .exit)) (now (rows .exit)) (r .listed) ⌝ }
     ensures { λ r. ⌜ BegunLooked sought low high left (now (rows .entry)) listed (now (rows .exit)) r ⌝ }
 {
@@ -219,7 +231,7 @@ fn look_begun(
             listed: listed,
         };
     }
-    let shown = begin_shown(sought, high / 32 % 2 == 1, left);
+    let shown = user_shown(sought.height, high / 32 % 2 == 1, 0, left, sought.cell);
     let address = (high % 4) as u16 * 256 + low as u16;
     look_row(marks, rows, listed, sought, address, shown)
 }
@@ -250,26 +262,30 @@ fn look_lines(
     ensures { λ r. ⌜ Kept (now (marks .exit)) (now (rows .exit)) (r .listed) ⌝ }
     ensures { λ r. ⌜ LinesLooked (now (ram .entry)) sought lines descriptor (now (rows .entry)) already (now (rows .exit)) r ⌝ }
 {
-    let pair = sought.cell / 2 * 2;
-    let mut a = walk::even_address(descriptor);
+    let own = (sought.cell / 2) as usize;
+    let mut p = (descriptor / 2 % 512) as usize;
     let mut left = lines;
     let mut listed = already;
     while left > 0 {
-        if pair == a {
+        if own == p {
             return Looked {
                 found: true,
                 listed: listed,
             };
         }
-        let low = ram[a as usize];
-        let high = ram[a as usize + 1];
-        let looked = look_begun(marks, rows, listed, sought, low, high, left);
+        let low = ram[2 * p];
+        let high = ram[2 * p + 1];
+        let shown = begun_lines(sought.height, low, high);
+        if left < shown {
+            return look_last(marks, rows, listed, sought, low, high, left);
+        }
+        let looked = look_whole(marks, rows, listed, sought, low, high);
         if looked.found {
             return looked;
         }
         listed = looked.listed;
-        left = walk::rest(left, begun_lines(sought.height, low, high));
-        a = walk::even_address(a + 2);
+        left -= shown;
+        p = (p + 1) % 512;
     }
     Looked {
         found: false,
@@ -283,19 +299,19 @@ fn part_reads<'a>(ram: &'a [u8], marks: &'a [u8; 512], address: u16, n: u16, cel
     requires { ⌜ cell < 1024 ⌝ }
     ensures { λ r. ⌜ r ≡ partReads (now (ram .entry)) (now (marks .entry)) cell n address ⌝ }
 {
-    let user = 128 + cell / 38;
-    let mut a = walk::even_address(address);
+    let user = (128 + cell / 38) as u8;
+    let mut p = (address / 2 % 512) as usize;
     let mut left = n;
     while left > 0 {
-        let high = ram[a as usize + 1];
+        let high = ram[2 * p + 1];
         if high == 255 {
             return false;
         }
-        if high as u16 == user {
+        if high == user {
             return true;
         }
-        a = walk::even_address(a + 2);
-        if marks[(a / 2) as usize] != 0 {
+        p = (p + 1) % 512;
+        if marks[p] != 0 {
             return false;
         }
         left -= 1;
@@ -304,7 +320,14 @@ fn part_reads<'a>(ram: &'a [u8], marks: &'a [u8; 512], address: u16, n: u16, cel
 }
 
 // Does one of the listed rows show the cell's user character?
-fn rows_read<'a>(ram: &'a [u8], marks: &'a [u8; 512], rows: &'a [u16; 512], listed: u16, n: u16, cell: u16) -> bool
+fn rows_read<'a>(
+    ram: &'a [u8],
+    marks: &'a [u8; 512],
+    rows: &'a [u16; 512],
+    listed: u16,
+    n: u16,
+    cell: u16,
+) -> bool
     requires { ⌜ length (now ram) ≡ 1024 ⌝ }
     requires { ⌜ cell < 1024 ⌝ }
     requires { ⌜ Kept (now marks) (now rows) listed ⌝ }
@@ -350,7 +373,15 @@ pub fn reads(ram: &[u8], settings: Settings, left: u16, walk: Walk, cell: u16) -
     if first.found {
         return true;
     }
-    let looked = look_lines(ram, &mut marks, &mut rows, first.listed, sought, left - k, walk.descriptor);
+    let looked = look_lines(
+        ram,
+        &mut marks,
+        &mut rows,
+        first.listed,
+        sought,
+        left - k,
+        walk.descriptor,
+    );
     if looked.found {
         return true;
     }

@@ -18,7 +18,7 @@ sub-if1 c = search needs
 
 -- src/lib.rt:131:9
 returns : tie.Need-returns
-returns c = 
+returns c =
     let a = c .before .before .before .args in
     let p = c .before .before .before .pre in
     (p .0, row-found (a .sought) (a .shown) (a .address) (now (a .rows)) (a .listed) (p .1) _ _ refl (c .if1 .taken))
@@ -29,14 +29,14 @@ list-row-requires c κs = search needs
 
 -- src/lib.rt:137:9
 returns-2 : tie.Need-returns-2
-returns-2 c = 
+returns-2 c =
     let a = c .before .before .before .before .before .before .before .args in
     let p = c .before .before .before .before .before .before .before .pre in
     (c .list-row .ensures .kept, row-listed (a .sought) (a .shown) (a .address) (now (a .rows)) (a .listed) (p .1) _ _ _ (c .before .before .before .before .if1 .left) (c .before .before .before .if2 .taken) (c .list-row .ensures))
 
 -- src/lib.rt:118:1
 returns-3 : tie.Need-returns-3
-returns-3 c = 
+returns-3 c =
     let a = c .before .before .before .before .args in
     let p = c .before .before .before .before .pre in
     (p .0, row-passed (a .sought) (a .shown) (a .address) (now (a .rows)) (a .listed) (p .1) (c .before .if1 .left) (c .if2 .left))

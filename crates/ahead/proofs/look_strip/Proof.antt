@@ -14,7 +14,7 @@ use Rattle.ahead.proofs.user_shown.Reads as user-shown-reads
 
 -- src/lib.rt:166:9
 returns : tie.Need-returns
-returns c = 
+returns c =
     let a = c .before .args in
     let p = c .before .pre in
     (p .0, strip-empty (a .sought) (a .strip) (a .k) (now (a .rows)) 0 (c .if1 .taken))
@@ -29,14 +29,14 @@ enum-known-strip c = search needs
 
 -- src/lib.rt:178:17
 returns-2 : tie.Need-returns-2
-returns-2 c = 
+returns-2 c =
     let a = c .before .before .before .before .before .args in
     let p = c .before .before .before .before .before .pre in
     (p .0, strip-dark (a .sought) (a .strip) (a .k) (now (a .rows)) 0 (c .before .before .strip .given .1) (not-true _ (c .if2 .taken)))
 
 -- src/lib.rt:180:17
 user-shown-requires : tie.Need-user-shown-requires
-user-shown-requires c κs = 
+user-shown-requires c κs =
     let a = c .before .before .before .before .before .args in
     let p = c .before .before .before .before .before .pre in
     let h : 1 ≤ a .k = omega (arith, c .before .before .before .before .if1 .left) in
@@ -48,14 +48,14 @@ look-row-requires c κs = search needs
 
 -- src/lib.rt:149:1
 returns-3 : tie.Need-returns-3
-returns-3 c = 
+returns-3 c =
     let a = c .before .before .before .args in
     let p = c .before .before .before .pre in
     (p .0, strip-spaced (a .sought) (a .strip) (a .k) (now (a .rows)) 0 (c .enum-told .given .1))
 
 -- src/lib.rt:149:1
 returns-4 : tie.Need-returns-4
-returns-4 c = 
+returns-4 c =
     let a = c .before .before .before .before .before .before .before .before .before .args in
     let p = c .before .before .before .before .before .before .before .before .before .pre in
     (c .look-row .ensures .0, strip-shown (a .sought) (a .strip) (a .k) (now (a .rows)) 0 (c .before .before .before .before .before .before .strip .given .1) _ _ _ (not-false _ (c .before .before .before .before .if2 .left)) (omega (arith, c .before .before .before .before .before .before .before .before .if1 .left)) (p .1 .1) (c .before .before .before .user-shown .ensures) (c .look-row .ensures .1))

@@ -31,13 +31,13 @@ least-requires c κs = search needs
 
 -- src/lib.rt:345:9
 look-strip-requires : tie.Need-look-strip-requires
-look-strip-requires c κs = 
+look-strip-requires c κs =
     let q = c .before .before .before .before .seek .ensures in
     (kept-none, (omega (arith, q .0, c .before .before .before .before .before .before .pre .1), omega (arith, c .before .before .least .ensures, c .before .before .before .lines-left .ensures)))
 
 -- src/lib.rt:347:9
 returns : tie.Need-returns
-returns c = 
+returns c =
     let a = c .before .before .before .before .before .before .before .before .args in
     let q = c .before .before .before .before .before .before .seek in
     let e = c .before .before .before .before .least .ensures ∙ ap (λ (x : ℕ). min x (a .left)) (c .before .before .before .before .before .lines-left .ensures) in
@@ -50,13 +50,13 @@ sub-look-lines c = search needs
 
 -- src/lib.rt:349:9
 look-lines-requires : tie.Need-look-lines-requires
-look-lines-requires c κs = 
+look-lines-requires c κs =
     let q = c .before .before .before .before .before .before .before .before .seek .ensures in
     (c .before .before .before .before .before .before .before .before .before .before .pre .0, (c .before .before .before .look-strip .ensures .0, (omega (arith, q .0, c .before .before .before .before .before .before .before .before .before .before .pre .1), q .1 .0)))
 
 -- src/lib.rt:351:9
 returns-2 : tie.Need-returns-2
-returns-2 c = 
+returns-2 c =
     let a = c .before .before .before .before .before .before .before .before .before .before .before .before .args in
     let q = c .before .before .before .before .before .before .before .before .before .before .seek in
     let e = c .before .before .before .before .before .before .before .before .least .ensures ∙ ap (λ (x : ℕ). min x (a .left)) (c .before .before .before .before .before .before .before .before .before .lines-left .ensures) in
@@ -74,7 +74,7 @@ rows-read-requires c κs = (c .before .before .before .before .before .before .b
 
 -- src/lib.rt:335:1
 returns-3 : tie.Need-returns-3
-returns-3 c = 
+returns-3 c =
     let a = c .before .before .before .before .before .before .before .before .before .before .before .before .before .before .before .before .args in
     let q = c .before .before .before .before .before .before .before .before .before .before .before .before .before .before .seek in
     let e = c .before .before .before .before .before .before .before .before .before .before .before .before .least .ensures ∙ ap (λ (x : ℕ). min x (a .left)) (c .before .before .before .before .before .before .before .before .before .before .before .before .before .lines-left .ensures) in

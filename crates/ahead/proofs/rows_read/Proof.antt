@@ -55,7 +55,7 @@ loop-again c = (search needs, part-none _ _ _ _ _ (c .before .before .before .be
 
 -- src/lib.rt:303:1
 returns-2 : tie.Need-returns-2 Inv-loop μ-loop
-returns-2 c = 
+returns-2 c =
     let l = c .before .loop in
     let e : l .i ≡ c .before .before .before .args .listed = omega (arith, l .inv .0, c .loop-test .left) in
     sym (sym (parts-all _ _ _ _ _ _ (c .before .before .before .pre .1 .1)) ∙ rw e at (l .inv .1))

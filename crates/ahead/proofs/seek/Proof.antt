@@ -40,11 +40,14 @@ user-shown-requires c κs = search needs
 
 -- src/lib.rt:317:1
 returns : tie.Need-returns
-returns c = 
-    let e = c .before .before .before .most .ensures in
-    (refl,
-    (record { some = omega (arith, e); small = search needs; shown = c .user-shown .ensures },
-    record { bytes = λ i. c .before .before .before .before .before .shared-slice-known .given i .fits; starts = rw (c .before .before .codes .ensures) at (c .before .starts .ensures); height = e }))
+returns c =
+    let e = c .before .before .before .most .ensures in (
+      refl,
+      (
+        record { some = omega (arith, e); small = search needs; shown = c .user-shown .ensures },
+        record { bytes = λ i. c .before .before .before .before .before .shared-slice-known .given i .fits; starts = rw (c .before .before .codes .ensures) at (c .before .starts .ensures); height = e },
+      ),
+    )
 
 pub seek-spec : {M : Type 1} → statement M
 seek-spec =
