@@ -310,11 +310,11 @@ fn part_reads<'a>(ram: &'a [u8], marks: &'a [u8; 512], address: u16, n: u16, cel
         if high == user {
             return true;
         }
+        left -= 1;
         p = (p + 1) % 512;
         if marks[p] != 0 {
             return false;
         }
-        left -= 1;
     }
     false
 }

@@ -106,10 +106,10 @@ part-reads-spec =
     shared-slice-read-high
     returns
     returns-2
+    sub-left
     add-p
     element-copy-out-if3
     returns-3
-    sub-left
     loop-less
     loop-again
     returns-4)
