@@ -275,8 +275,8 @@ fn look_lines(
         }
         let low = ram[2 * p];
         let high = ram[2 * p + 1];
-        let shown = begun_lines(sought.height, low, high);
-        if left < shown {
+        let strip_lines = begun_lines(sought.height, low, high);
+        if left < strip_lines {
             return look_last(marks, rows, listed, sought, low, high, left);
         }
         let looked = look_whole(marks, rows, listed, sought, low, high);
@@ -284,7 +284,7 @@ fn look_lines(
             return looked;
         }
         listed = looked.listed;
-        left -= shown;
+        left -= strip_lines;
         p = (p + 1) % 512;
     }
     Looked {
@@ -344,15 +344,16 @@ fn rows_read<'a>(
 }
 
 // What is looked for, of a cell.
-fn seek(ram: &[u8], settings: Settings, cell: u16) -> Sought
+fn seek(ram: &[u8], settings: Settings, n: u16, cell: u16) -> Sought
     requires { ⌜ length (now ram) ≡ 1024 ⌝ }
     requires { ⌜ cell < 1024 ⌝ }
+    requires { ⌜ n ≡ codesOf settings ⌝ }
     ensures { λ r. ⌜ (r .cell ≡ cell) × (Whole r × Ready (now (ram .entry)) settings r) ⌝ }
 {
     let height = most(1, settings.ch as u16);
     Sought {
         cell: cell,
-        starts: starts(ram, codes(settings), cell),
+        starts: starts(ram, n, cell),
         height: height as u8,
         whole: user_shown(height as u8, false, 0, height, cell),
     }
@@ -366,7 +367,8 @@ pub fn reads(ram: &[u8], settings: Settings, left: u16, walk: Walk, cell: u16) -
 {
     let mut marks = [0u8; 512];
     let mut rows = [0u16; 512];
-    let sought = seek(ram, settings, cell);
+    let n = codes(settings);
+    let sought = seek(ram, settings, n, cell);
     let strip = walk.strip;
     let k = least(strip.lines_left(), left);
     let first = look_strip(&mut marks, &mut rows, sought, strip, k);
@@ -385,5 +387,5 @@ pub fn reads(ram: &[u8], settings: Settings, left: u16, walk: Walk, cell: u16) -
     if looked.found {
         return true;
     }
-    rows_read(ram, &marks, &rows, looked.listed, codes(settings), cell)
+    rows_read(ram, &marks, &rows, looked.listed, n, cell)
 }

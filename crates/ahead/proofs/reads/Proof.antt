@@ -1,8 +1,8 @@
 use Prim.Native.Nat.{ℕ, min}
 use mathlib.Core.Path.{sym, ap, _∙_}
+use native.Mathlib.Omega.{arith}
 use denote.Ref.{now}
 use Rattle.ahead.proofs.Looks.{found-first, found-later, found-row}
-use native.Mathlib.Omega.{arith}
 use Rattle.ahead.proofs.Marks.{kept-none}
 use borrow.Author.Needs.{needs}
 use Rattle.ahead.proofs.reads.Statement.{statement}
@@ -17,76 +17,78 @@ use Rattle.ahead.proofs.rows_read.Reads as rows-read-reads
 use Rattle.ahead.proofs.seek.Reads as seek-reads
 use Rattle.walk.proofs.Strip.lines_left.Reads as lines-left-reads
 
--- src/lib.rt:342:9
+-- src/lib.rt:370:9
+codes-requires : tie.Need-codes-requires
+codes-requires c κs = search needs
+
+-- src/lib.rt:371:9
 seek-requires : tie.Need-seek-requires
 seek-requires c κs = search needs
 
--- src/lib.rt:344:19
+-- src/lib.rt:373:19
 lines-left-requires : tie.Need-lines-left-requires
 lines-left-requires c κs = search needs
 
--- src/lib.rt:344:9
+-- src/lib.rt:373:9
 least-requires : tie.Need-least-requires
 least-requires c κs = search needs
 
--- src/lib.rt:345:9
+-- src/lib.rt:374:9
 look-strip-requires : tie.Need-look-strip-requires
-look-strip-requires c κs =
+look-strip-requires c κs = 
     let q = c .before .before .before .before .seek .ensures in
-    (kept-none, (omega (arith, q .0, c .before .before .before .before .before .before .pre .1), omega (arith, c .before .before .least .ensures, c .before .before .before .lines-left .ensures)))
+    (kept-none, (omega (arith, q .0, c .before .before .before .before .before .before .before .pre .1), omega (arith, c .before .before .least .ensures, c .before .before .before .lines-left .ensures)))
 
--- src/lib.rt:347:9
+-- src/lib.rt:376:9
 returns : tie.Need-returns
-returns c =
-    let a = c .before .before .before .before .before .before .before .before .args in
+returns c = 
+    let a = c .before .before .before .before .before .before .before .before .before .args in
     let q = c .before .before .before .before .before .before .seek in
     let e = c .before .before .before .before .least .ensures ∙ ap (λ (x : ℕ). min x (a .left)) (c .before .before .before .before .before .lines-left .ensures) in
     let first = c .before .look-strip .ensures .1 (now (a .ram)) (a .settings) (q .ensures .1 .1) in
     rw (sym (q .ensures .0)) (sym (found-first (now (a .ram)) (a .settings) (a .left) (a .walk) (q .result) _ e _ _ _ first (c .if1 .taken)))
 
--- src/lib.rt:349:79
+-- src/lib.rt:384:9
 sub-look-lines : tie.Need-sub-look-lines
 sub-look-lines c = search needs
 
--- src/lib.rt:349:9
+-- src/lib.rt:378:9
 look-lines-requires : tie.Need-look-lines-requires
-look-lines-requires c κs =
+look-lines-requires c κs = 
     let q = c .before .before .before .before .before .before .before .before .seek .ensures in
-    (c .before .before .before .before .before .before .before .before .before .before .pre .0, (c .before .before .before .look-strip .ensures .0, (omega (arith, q .0, c .before .before .before .before .before .before .before .before .before .before .pre .1), q .1 .0)))
+    let p = c .before .before .before .before .before .before .before .before .before .before .before .pre in
+    (p .0, (c .before .before .before .look-strip .ensures .0, (omega (arith, q .0, p .1), q .1 .0)))
 
--- src/lib.rt:351:9
+-- src/lib.rt:388:9
 returns-2 : tie.Need-returns-2
-returns-2 c =
-    let a = c .before .before .before .before .before .before .before .before .before .before .before .before .args in
+returns-2 c = 
+    let a = c .before .before .before .before .before .before .before .before .before .before .before .before .before .args in
     let q = c .before .before .before .before .before .before .before .before .before .before .seek in
     let e = c .before .before .before .before .before .before .before .before .least .ensures ∙ ap (λ (x : ℕ). min x (a .left)) (c .before .before .before .before .before .before .before .before .before .lines-left .ensures) in
     let first = c .before .before .before .before .before .look-strip .ensures .1 (now (a .ram)) (a .settings) (q .ensures .1 .1) in
     rw (sym (q .ensures .0))
     (sym (found-later (now (a .ram)) (a .settings) (a .left) (a .walk) (q .result) _ e _ _ _ first _ _ (c .before .look-lines .ensures .1 (a .settings) (q .ensures .1 .1)) (c .before .before .before .before .if1 .left) (c .if2 .taken)))
 
--- src/lib.rt:353:50
-codes-requires : tie.Need-codes-requires
-codes-requires c κs = search needs
-
--- src/lib.rt:353:5
+-- src/lib.rt:390:5
 rows-read-requires : tie.Need-rows-read-requires
-rows-read-requires c κs = (c .before .before .before .before .before .before .before .before .before .before .before .before .before .before .before .pre .0, (c .before .before .before .before .before .before .before .before .before .before .before .before .before .before .before .pre .1, c .before .before .before .before .look-lines .ensures .0))
+rows-read-requires c κs = search needs
 
--- src/lib.rt:335:1
+-- src/lib.rt:363:1
 returns-3 : tie.Need-returns-3
-returns-3 c =
+returns-3 c = 
     let a = c .before .before .before .before .before .before .before .before .before .before .before .before .before .before .before .before .args in
-    let q = c .before .before .before .before .before .before .before .before .before .before .before .before .before .before .seek in
-    let e = c .before .before .before .before .before .before .before .before .before .before .before .before .least .ensures ∙ ap (λ (x : ℕ). min x (a .left)) (c .before .before .before .before .before .before .before .before .before .before .before .before .before .lines-left .ensures) in
-    let first = c .before .before .before .before .before .before .before .before .before .look-strip .ensures .1 (now (a .ram)) (a .settings) (q .ensures .1 .1) in
+    let q = c .before .before .before .before .before .before .before .before .before .before .before .before .before .seek in
+    let e = c .before .before .before .before .before .before .before .before .before .before .before .least .ensures ∙ ap (λ (x : ℕ). min x (a .left)) (c .before .before .before .before .before .before .before .before .before .before .before .before .lines-left .ensures) in
+    let first = c .before .before .before .before .before .before .before .before .look-strip .ensures .1 (now (a .ram)) (a .settings) (q .ensures .1 .1) in
     c .rows-read .ensures
-    ∙ rw (sym (q .ensures .0), c .before .codes .ensures)
-    (found-row (now (a .ram)) (a .settings) (a .left) (a .walk) (q .result) _ e _ _ _ first _ _ (c .before .before .before .before .before .look-lines .ensures .1 (a .settings) (q .ensures .1 .1)) (c .before .before .before .before .before .before .before .before .if1 .left) (c .before .before .before .before .if2 .left))
+    ∙ rw (sym (q .ensures .0), c .before .before .before .before .before .before .before .before .before .before .before .before .before .before .codes .ensures)
+    (found-row (now (a .ram)) (a .settings) (a .left) (a .walk) (q .result) _ e _ _ _ first _ _ (c .before .before .before .before .look-lines .ensures .1 (a .settings) (q .ensures .1 .1)) (c .before .before .before .before .before .before .before .if1 .left) (c .before .before .before .if2 .left))
 
 pub reads-spec : {M : Type 1} → statement M
 reads-spec =
     tie.close
     (tie.spec
+    codes-requires
     seek-requires
     lines-left-requires
     least-requires
@@ -95,6 +97,5 @@ reads-spec =
     sub-look-lines
     look-lines-requires
     returns-2
-    codes-requires
     rows-read-requires
     returns-3)
