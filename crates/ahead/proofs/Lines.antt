@@ -1,27 +1,26 @@
 -- The rows of several lines of a strip, and the remaining lines strip by strip.
 -- Assumes nothing.
-use Prim.Native.Nat.{ℕ, zero, suc, _+_, _-_, _*_, _/_, _%_, _≤_, _<_, min, max}
+use Prim.Native.Nat.{ℕ, zero, suc, _+_, _-_, _*_, _/_, _%_, _≤_, _<_, min}
 use mathlib.Core.Path.{_≡_, refl, sym, ap, ap₂, _∙_, subst}
-use mathlib.Core.Bool.{Bool, true, false, cond, _&&_, _||_, true≢false}
+use mathlib.Core.Bool.{Bool, true, false, cond, _&&_, _||_}
 use mathlib.Core.List.{List, [], _∷_, _++_, append-assoc}
 use native.Mathlib.Nat.{not-suc-le-zero}
-use native.Mathlib.Numerals.{sub-one}
 use native.Mathlib.Decide.{decLe}
 use native.Mathlib.Omega.{arith}
 use borrow.Author.Tests.{eqb-false, leb-false, eq-eqb, le-leb, lt-leb, ne-eqb, lt-ltb, le-ltb}
-use lib.Dec.{eqb, ltb, leb}
+use lib.Dec.{eqb, ltb}
 use lib.ListN.{getD}
 use Rattle.cells.specs.Reading.{Reading, done, read, bind, fmap, value, cells, among}
 use Rattle.cells.proofs.Laws.{cells-bind}
 use Rattle.registers.specs.declared.Settings.{Settings}
 use Rattle.raster.specs.declared.ScanLine.{ScanLine}
-use Rattle.raster.specs.Raster.{InStrip, stripLines, unzoomed, sliceNumber, interpolated, columnsOf}
+use Rattle.raster.specs.Raster.{stripLines, unzoomed, sliceNumber, interpolated, columnsOf}
 use Rattle.walk.specs.declared.Strip.{Strip}
 use Rattle.walk.specs.declared.Strip.the-variants.{Spacing, Characters}
 use Rattle.walk.specs.declared.Walk.{Walk}
 use Rattle.walk.specs.Walk.{even, next, atLeastOne, stripOf, over, linesLeft, begun, advanced, nextLine}
 use Rattle.walk.proofs.Laws.{stripOf-begun}
-use Rattle.line.specs.Line.{Place, Scanned, codes, rowOf, shownRow, scan}
+use Rattle.line.specs.Line.{Place, Scanned, rowOf, shownRow, scan}
 use Rattle.line.proofs.Laws.{interpolated-bound}
 use Rattle.line.proofs.Strips.{scan-value, scan-cells}
 use Rattle.ahead.specs.Ahead.{remaining}
@@ -210,7 +209,7 @@ begun-left ch height low high e h = by (decLe 128 high)
 pub begun-some : (height low high : ℕ) → 1 ≤ height → 1 ≤ begunLines height low high
 begun-some height low high h = by (ltb high 128) (eqb (high / 32 % 2) 1)
   where
-    by : (t zoom : Bool) → 1 ≤ cond t (max 1 low) (stripLines height zoom)
+    by : (t zoom : Bool) → 1 ≤ cond t (atLeastOne low) (stripLines height zoom)
     by true zoom = omega arith
     by false true = omega arith
     by false false = h

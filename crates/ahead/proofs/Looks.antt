@@ -1,7 +1,7 @@
 -- Strip by strip the search finds the cell or lists rows: what it has found adds up to what the lines read.
 -- Assumes nothing.
 use Prim.Native.Nat.{ℕ, _+_, _-_, _*_, _/_, _%_, _≤_, _<_, min}
-use mathlib.Core.Path.{_≡_, refl, sym, ap, ap₂, _∙_, subst}
+use mathlib.Core.Path.{_≡_, sym, ap, _∙_, subst}
 use mathlib.Core.Bool.{Bool, true, false, _&&_, _||_, true≢false}
 use mathlib.Core.List.{List}
 use native.Mathlib.Omega.{arith}
@@ -14,11 +14,11 @@ use Rattle.raster.specs.Raster.{stripLines}
 use Rattle.walk.specs.declared.Strip.{Strip}
 use Rattle.walk.specs.declared.Strip.the-variants.{Spacing, Characters}
 use Rattle.walk.specs.declared.Walk.{Walk}
-use Rattle.walk.specs.Walk.{even, atLeastOne, stripOf, linesLeft}
+use Rattle.walk.specs.Walk.{stripOf, linesLeft}
 use Rattle.ahead.specs.Ahead.{remaining}
 use Rattle.ahead.specs.declared.Sought.{Sought}
 use Rattle.ahead.specs.declared.Looked.{Looked}
-use Rattle.ahead.specs.Looking.{pairOf, codesOf, codesTo, sliceShown, stripReads, begunLines, rowReads, userReads, anyRow, Kept, Listed, Adds, Whole, Ready, RowLooked, StripLooked, BegunLooked, LinesLooked}
+use Rattle.ahead.specs.Looking.{codesOf, codesTo, sliceShown, stripReads, begunLines, rowReads, userReads, anyRow, Listed, Adds, Posed, Ready, RowLooked, StripLooked, BegunLooked, LinesLooked}
 use Rattle.ahead.proofs.Rows.{or-false, or-true, or-assoc, row-near, row-far, code-even, code-of, code-next}
 use Rattle.ahead.proofs.Slices.{whole-zoom}
 use Rattle.ahead.proofs.Lines.{or-with, strip-spacing, strip-disabled, strip-none, strip-characters, begun-none, begun-reads, begun-left, from-even, none-left, descriptor-here, descriptor-on, strip-passed}
@@ -92,11 +92,11 @@ module _ (q : Sought) (strip : Strip) (lines : ℕ) (rows : List ℕ) (k : ℕ) 
 
 -- ---- the strip of a descriptor
 
-pub whole-begun : (q : Sought) (zoom : Bool) (left : ℕ) → Whole q → stripLines (q .height) zoom ≤ left
+pub whole-begun : (q : Sought) (zoom : Bool) (left : ℕ) → Posed q → stripLines (q .height) zoom ≤ left
     → q .whole ≡ sliceShown (q .cell) (q .height) zoom (min (stripLines (q .height) zoom) left) 0 && ltb (q .cell) 988
 whole-begun q zoom left w h =
     let m : min (stripLines (q .height) zoom) left ≡ stripLines (q .height) zoom = omega arith in
-    w .shown
+    w .whole
     ∙ ap (λ (x : Bool). x && ltb (q .cell) 988)
     (sym (ap (λ (x : ℕ). sliceShown (q .cell) (q .height) zoom x 0) m ∙ whole-zoom (q .cell) (q .height) zoom))
 

@@ -2,7 +2,7 @@
 -- Assumes nothing.
 use Prim.Native.Nat.{ℕ, zero, suc, _+_, _-_, _*_, _/_, _%_, _≤_, _<_}
 use mathlib.Core.Path.{_≡_, refl, sym, ap, ap₂, _∙_, subst}
-use mathlib.Core.Bool.{Bool, true, false, cond, _&&_, _||_}
+use mathlib.Core.Bool.{Bool, true, false, cond, _||_}
 use mathlib.Core.List.{List, [], _∷_}
 use native.Mathlib.Decide.{ℕ-discrete}
 use native.Mathlib.Nat.{not-suc-le-zero, le-of-suc-le-suc}
@@ -15,7 +15,7 @@ use lib.Seq.{getD-set-same, getD-set-other}
 use Rattle.walk.specs.Walk.{even, next}
 use Rattle.glyph.specs.Glyph.{endsLine}
 use Rattle.ahead.specs.Looking.{userHigh, userReads, marked, Among, Kept, anyRow, Listed, partReads, anyPart}
-use Rattle.ahead.proofs.Rows.{or-false, iff, or-cases, or-first, or-second, user-same, code-even, code-of, code-next}
+use Rattle.ahead.proofs.Rows.{iff, or-cases, or-first, or-second, user-same, code-even, code-of, code-next}
 
 T-true : {b : Bool} → T b → b ≡ true
 T-true {b = true} t = refl

@@ -7,14 +7,14 @@ use mathlib.Core.List.{List, [], _∷_, _++_}
 use native.Mathlib.Decide.{ℕ-discrete, decLt, decLe}
 use native.Mathlib.Nat.{not-suc-le-zero, mod-eq-of-lt, mod-add-mod, add-mod-right, mul-add-mod-self-left, mul-comm}
 use native.Mathlib.Omega.{arith}
-use borrow.Author.Tests.{eq-eqb, ne-eqb, eqb-true, eqb-false, lt-ltb, le-ltb, ltb-true, ltb-false}
+use borrow.Author.Tests.{eq-eqb, ne-eqb, lt-ltb, le-ltb}
 use lib.Dec.{T, eqb, ltb, eqb-refl, eqb→eq, ltb→lt, lt→ltb}
-use lib.ListN.{getD, length}
-use Rattle.cells.specs.Reading.{Reading, done, read, bind, fmap, value, cells, among}
+use lib.ListN.{getD}
+use Rattle.cells.specs.Reading.{Reading, done, bind, fmap, cells, among}
 use Rattle.cells.proofs.Laws.{cells-bind, cells-fmap}
 use Rattle.raster.specs.declared.Slice.{Slice}
 use Rattle.walk.specs.Walk.{even, next}
-use Rattle.glyph.specs.Glyph.{Glyph, endsLine, glyphOf, inRam, userCell}
+use Rattle.glyph.specs.Glyph.{endsLine, glyphOf, inRam, userCell}
 use Rattle.line.specs.Line.{Place, codes}
 use Rattle.ahead.specs.Looking.{pairOf, userHigh, userSlice, rowReads, userReads, codeBack, codesTo, Starts}
 

@@ -1,12 +1,12 @@
 -- Which lines of a strip show a slice: the search looks at the first that could.
 -- Assumes nothing.
-use Prim.Native.Nat.{ℕ, zero, suc, _+_, _-_, _*_, _/_, _%_, _≤_, _<_, max}
+use Prim.Native.Nat.{ℕ, zero, suc, _+_, _-_, _*_, _/_, _≤_, _<_, max}
 use mathlib.Core.Path.{_≡_, refl, sym, ap, _∙_, subst}
-use mathlib.Core.Bool.{Bool, true, false, _&&_, _||_}
+use mathlib.Core.Bool.{Bool, true, false, _||_}
 use native.Mathlib.Nat.{div-mul-le-self, lt-div-mul-add, div-eq-of-lt-le, add-mul, one-mul, mul-le-mul}
 use native.Mathlib.Decide.{ℕ-discrete, decLe}
 use native.Mathlib.Omega.{arith}
-use lib.Dec.{T, eqb, leb, ltb, eqb-refl, eqb→eq, leb→le, le→leb, ltb→lt, lt→ltb}
+use lib.Dec.{T, eqb, ltb, eqb-refl, eqb→eq, ltb→lt, lt→ltb}
 use Rattle.raster.specs.Raster.{stripLines, unzoomed, sliceNumber}
 use Rattle.ahead.specs.Looking.{userSlice, sliceShown}
 use Rattle.ahead.proofs.Rows.{iff, or-cases, or-first, or-second}

@@ -1,7 +1,7 @@
 -- How the search for a cell looks at a row of codes and at a strip: what the promises of its inner functions cite. The search's own
 -- promise (membership in the cells of the remaining lines) does not speak of these.
 -- Assumes nothing.
-use Prim.Native.Nat.{ℕ, zero, suc, _+_, _-_, _*_, _/_, _%_, _≤_, _<_, min, max}
+use Prim.Native.Nat.{ℕ, zero, suc, _+_, _-_, _*_, _/_, _%_, _≤_, _<_, min}
 use mathlib.Core.Path.{_≡_}
 use mathlib.Core.Bool.{Bool, true, false, cond, _&&_, _||_}
 use mathlib.Core.List.{List, [], _∷_, _++_}
@@ -9,11 +9,9 @@ use lib.Dec.{eqb, ltb}
 use lib.ListN.{getD, length}
 use Rattle.cells.specs.Reading.{cells, among}
 use Rattle.registers.specs.declared.Settings.{Settings}
-use Rattle.raster.specs.declared.ScanLine.{ScanLine}
 use Rattle.raster.specs.Raster.{unzoomed, sliceNumber, stripLines, columnsOf}
 use Rattle.walk.specs.declared.Strip.{Strip}
 use Rattle.walk.specs.declared.Strip.the-variants.{Spacing}
-use Rattle.walk.specs.declared.Walk.{Walk}
 use Rattle.walk.specs.Walk.{even, next, advanced, atLeastOne, stripOf, linesLeft}
 use Rattle.glyph.specs.Glyph.{endsLine}
 use Rattle.line.specs.Line.{shownRow}
@@ -59,7 +57,8 @@ codeBack c j = 2 * ((c / 2 + 511 * j) % 512)
 abbrev pub codesTo : ℕ → ℕ → ℕ
 codesTo c a = (c / 2 + 512 - a / 2 % 512) % 512
 
--- back from the cell's own code the next ones do not end a line, up to the m-th or to the n-th
+-- rows that start at the cell's own code, or fewer than m codes before it, read it: back from it no code ends a line, up to the m-th
+-- or to the n-th
 pub record Starts (ram : List ℕ) (c n m : ℕ) : Type 0 where
   pub most : m ≤ n
   pub on : (j : ℕ) → 1 ≤ j → j < m → getD ram (codeBack c j + 1) 0 ≡ 255 → ⊥
@@ -83,7 +82,7 @@ stripReads ram s k strip c = among c (rowCells ram s k strip)
 
 -- how many lines the strip of a descriptor has
 abbrev pub begunLines : ℕ → ℕ → ℕ → ℕ
-begunLines height low high = cond (ltb high 128) (max 1 low) (stripLines height (eqb (high / 32 % 2) 1))
+begunLines height low high = cond (ltb high 128) (atLeastOne low) (stripLines height (eqb (high / 32 % 2) 1))
 
 -- ---- the rows that show the cell's slice
 
@@ -98,7 +97,7 @@ pub record Among (rows : List ℕ) (k p : ℕ) : Type 0 where
   pub below : at < k
   pub is : getD rows at 0 / 2 % 512 ≡ p
 
--- every marked row is listed, and no other
+-- every marked row is listed, and there are as many as are marked
 pub record Kept (marks rows : List ℕ) (k : ℕ) : Type 0 where
   pub all : length marks ≡ 512
   pub room : length rows ≡ 512
@@ -110,7 +109,7 @@ unfoldable pub anyRow : List ℕ → ℕ → ℕ → List ℕ → ℕ → Bool
 anyRow ram c n rows zero = false
 anyRow ram c n rows (suc k) = userReads ram c n (getD rows k 0) || anyRow ram c n rows k
 
--- is it shown by the codes from an address on that stand before the next marked row?
+-- is it shown by the codes from an address on that stand before the next marked row? and by those of the first k rows?
 unfoldable pub partReads : List ℕ → List ℕ → ℕ → ℕ → ℕ → Bool
 partReads ram marks c zero a = false
 partReads ram marks c (suc n) a =
@@ -134,27 +133,29 @@ pub record Adds (ram : List ℕ) (c n : ℕ) (b : Bool) (rows : List ℕ) (k : �
   pub hit : r .found ≡ true → anyRow ram c n rows k || b ≡ true
   pub miss : r .found ≡ false → anyRow ram c n rows′ (r .listed) ≡ anyRow ram c n rows k || b
 
--- the height is one of a strip, and a strip of it that is shown whole shows the slice or not
-pub record Whole (q : Sought) : Type 0 where
+-- the cell is one of the RAM, the height one of a strip, and a strip of it that is shown whole shows the cell's slice or not
+pub record Posed (q : Sought) : Type 0 where
+  pub cell : q .cell < 1024
   pub some : 1 ≤ q .height
-  pub small : q .height < 256
-  pub shown : q .whole ≡ sliceShown (q .cell) (q .height) false (q .height) 0 && ltb (q .cell) 988
+  pub whole : q .whole ≡ sliceShown (q .cell) (q .height) false (q .height) 0 && ltb (q .cell) 988
 
--- what is sought in a frame
+-- it is sought in a frame of these settings
 pub record Ready (ram : List ℕ) (s : Settings) (q : Sought) : Type 0 where
   pub bytes : (i : ℕ) → getD ram i 0 < 256
   pub starts : Starts ram (q .cell) (codesOf s) (q .starts)
   pub height : q .height ≡ atLeastOne (s .ch)
 
+-- the row at an address was looked at
 abbrev pub RowLooked : Sought → Bool → ℕ → List ℕ → ℕ → List ℕ → Looked → Type 0
 RowLooked q shown a rows k rows′ r =
     (ram : List ℕ) (n : ℕ) → Starts ram (q .cell) n (q .starts) → Adds ram (q .cell) n (rowReads ram (q .cell) shown n a) rows k rows′ r
 
+-- so many lines of a strip
 abbrev pub StripLooked : Sought → Strip → ℕ → List ℕ → ℕ → List ℕ → Looked → Type 0
 StripLooked q strip lines rows k rows′ r =
     (ram : List ℕ) (s : Settings) → Ready ram s q → Adds ram (q .cell) (codesOf s) (stripReads ram s lines strip (q .cell)) rows k rows′ r
 
--- the strip of a descriptor, from its first line on
+-- as many lines of the strip of a descriptor, from its first on
 abbrev pub BegunLooked : Sought → ℕ → ℕ → ℕ → List ℕ → ℕ → List ℕ → Looked → Type 0
 BegunLooked q low high left rows k rows′ r =
     (ram : List ℕ) (s : Settings) → Ready ram s q

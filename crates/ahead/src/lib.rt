@@ -9,7 +9,7 @@ ghost use Rattle.cells.specs.Reading.{cells, among};
 ghost use Rattle.raster.specs.Raster.{stripLines};
 ghost use Rattle.walk.specs.Walk.{linesLeft};
 ghost use Rattle.ahead.specs.Ahead.{remaining};
-ghost use Rattle.ahead.specs.Looking.{codesOf, sliceShown, Starts, begunLines, Kept, anyRow, Listed, partReads, Whole, Ready, RowLooked, StripLooked, BegunLooked, LinesLooked};
+ghost use Rattle.ahead.specs.Looking.{codesOf, sliceShown, Starts, begunLines, Kept, anyRow, Listed, partReads, Posed, Ready, RowLooked, StripLooked, BegunLooked, LinesLooked};
 use registers::Settings;
 use walk::Strip;
 use walk::Walk;
@@ -124,7 +124,7 @@ fn look_row(
     shown: bool,
 ) -> Looked
     requires { ⌜ Kept (now marks) (now rows) listed ⌝ }
-    requires { ⌜ sought .cell < 1024 ⌝ }
+    requires { ⌜ Posed sought ⌝ }
     ensures { λ r. ⌜ Kept (now (marks .exit)) (now (rows .exit)) (r .listed) ⌝ }
     ensures { λ r. ⌜ RowLooked sought shown address (now (rows .entry)) listed (now (rows .exit)) r ⌝ }
 {
@@ -155,7 +155,7 @@ fn look_strip(
     k: u16,
 ) -> Looked
     requires { ⌜ Kept (now marks) (now rows) 0 ⌝ }
-    requires { ⌜ sought .cell < 1024 ⌝ }
+    requires { ⌜ Posed sought ⌝ }
     requires { ⌜ k ≤ linesLeft strip ⌝ }
     ensures { λ r. ⌜ Kept (now (marks .exit)) (now (rows .exit)) (r .listed) ⌝ }
     ensures { λ r. ⌜ StripLooked sought strip k (now (rows .entry)) 0 (now (rows .exit)) r ⌝ }
@@ -195,7 +195,7 @@ fn look_whole(
     high: u8,
 ) -> Looked
     requires { ⌜ Kept (now marks) (now rows) listed ⌝ }
-    requires { ⌜ (sought .cell < 1024) × Whole sought ⌝ }
+    requires { ⌜ Posed sought ⌝ }
     ensures { λ r. ⌜ Kept (now (marks .exit)) (now (rows .exit)) (r .listed) ⌝ }
     ensures { λ r. ⌜ BegunLooked sought low high (begunLines (sought .height) low high) (now (rows .entry)) listed (now (rows .exit)) r ⌝ }
 {
@@ -220,7 +220,7 @@ fn look_last(
     left: u16,
 ) -> Looked
     requires { ⌜ Kept (now marks) (now rows) listed ⌝ }
-    requires { ⌜ (sought .cell < 1024) × Whole sought ⌝ }
+    requires { ⌜ Posed sought ⌝ }
     requires { ⌜ (1 ≤ left) × (left < begunLines (sought .height) low high) ⌝ }
     ensures { λ r. ⌜ Kept (now (marks .exit)) (now (rows .exit)) (r .listed) ⌝ }
     ensures { λ r. ⌜ BegunLooked sought low high left (now (rows .entry)) listed (now (rows .exit)) r ⌝ }
@@ -258,7 +258,7 @@ fn look_lines(
 ) -> Looked
     requires { ⌜ length (now ram) ≡ 1024 ⌝ }
     requires { ⌜ Kept (now marks) (now rows) already ⌝ }
-    requires { ⌜ (sought .cell < 1024) × Whole sought ⌝ }
+    requires { ⌜ Posed sought ⌝ }
     ensures { λ r. ⌜ Kept (now (marks .exit)) (now (rows .exit)) (r .listed) ⌝ }
     ensures { λ r. ⌜ LinesLooked (now (ram .entry)) sought lines descriptor (now (rows .entry)) already (now (rows .exit)) r ⌝ }
 {
@@ -348,7 +348,7 @@ fn seek(ram: &[u8], settings: Settings, n: u16, cell: u16) -> Sought
     requires { ⌜ length (now ram) ≡ 1024 ⌝ }
     requires { ⌜ cell < 1024 ⌝ }
     requires { ⌜ n ≡ codesOf settings ⌝ }
-    ensures { λ r. ⌜ (r .cell ≡ cell) × (Whole r × Ready (now (ram .entry)) settings r) ⌝ }
+    ensures { λ r. ⌜ (r .cell ≡ cell) × (Posed r × Ready (now (ram .entry)) settings r) ⌝ }
 {
     let height = most(1, settings.ch as u16);
     Sought {

@@ -1,27 +1,23 @@
+-- `look_last`: as many lines as are left of the strip of a descriptor (`begun-dark`, `begun-shown`).
+-- Assumes nothing.
 use Prim.Native.Nat.{_/_, _%_, min}
 use mathlib.Core.Path.{_≡_}
 use native.Mathlib.Omega.{arith}
+use borrow.Author.Needs.{needs}
 use denote.Ref.{now}
 use lib.Dec.{eqb}
 use Rattle.raster.specs.Raster.{stripLines}
 use Rattle.ahead.proofs.Lines.{begun-strip}
 use Rattle.ahead.proofs.Looks.{begun-dark, begun-shown}
-use borrow.Author.Needs.{needs}
 use Rattle.ahead.proofs.look_last.Statement.{statement}
 use Rattle.ahead.proofs.look_last.Tie as tie
-use Rattle.ahead.proofs.look_last.Reads as reads
-use Rattle.ahead.proofs.look_last.Lts as lts
-use Rattle.ahead.proofs.look_row.Reads as look-row-reads
-use Rattle.ahead.proofs.user_shown.Reads as user-shown-reads
 
--- src/lib.rt:229:9
 returns : tie.Need-returns
 returns c =
     let a = c .before .args in
     let p = c .before .pre in
     (p .0, begun-dark (a .sought) (a .low) (a .high) (a .left) (now (a .rows)) (a .listed) (c .if1 .taken))
 
--- src/lib.rt:234:9
 user-shown-requires : tie.Need-user-shown-requires
 user-shown-requires c κs =
     let a = c .before .args in
@@ -29,23 +25,18 @@ user-shown-requires c κs =
     let s = begun-strip (a .sought .height) (a .low) (a .high) (omega (arith, c .if1 .left)) in
     (p .1 .1 .0, omega (arith, s, p .1 .1 .1))
 
--- src/lib.rt:235:19
 cast-address : tie.Need-cast-address
 cast-address c = search needs
 
--- src/lib.rt:235:19
 mul-address : tie.Need-mul-address
 mul-address c = search needs
 
--- src/lib.rt:235:19
 add-address : tie.Need-add-address
 add-address c = search needs
 
--- src/lib.rt:236:5
 look-row-requires : tie.Need-look-row-requires
 look-row-requires c κs = search needs
 
--- src/lib.rt:213:1
 returns-2 : tie.Need-returns-2
 returns-2 c =
     let a = c .before .before .before .before .before .args in

@@ -1,40 +1,33 @@
+-- `look_strip`: each way through the code is a case of what the rows of a strip read.
+-- Assumes nothing.
 use Prim.Native.Nat.{_≤_}
 use native.Mathlib.Omega.{arith}
-use denote.Ref.{now}
+use borrow.Author.Needs.{needs}
 use borrow.Author.Tests.{not-true, not-false}
+use denote.Ref.{now}
 use Rattle.ahead.proofs.Lines.{lines-in}
 use Rattle.ahead.proofs.Looks.{strip-empty, strip-spaced, strip-dark, strip-shown}
-use borrow.Author.Needs.{needs}
 use Rattle.ahead.proofs.look_strip.Statement.{statement}
 use Rattle.ahead.proofs.look_strip.Tie as tie
-use Rattle.ahead.proofs.look_strip.Reads as reads
-use Rattle.ahead.proofs.look_strip.Lts as lts
-use Rattle.ahead.proofs.look_row.Reads as look-row-reads
-use Rattle.ahead.proofs.user_shown.Reads as user-shown-reads
 
--- src/lib.rt:166:9
 returns : tie.Need-returns
 returns c =
     let a = c .before .args in
     let p = c .before .pre in
     (p .0, strip-empty (a .sought) (a .strip) (a .k) (now (a .rows)) 0 (c .if1 .taken))
 
--- src/lib.rt:169:39
 enum-told : tie.Need-enum-told
 enum-told c = search needs
 
--- src/lib.rt:171:13
 enum-known-strip : tie.Need-enum-known-strip
 enum-known-strip c = search needs
 
--- src/lib.rt:178:17
 returns-2 : tie.Need-returns-2
 returns-2 c =
     let a = c .before .before .before .before .before .args in
     let p = c .before .before .before .before .before .pre in
     (p .0, strip-dark (a .sought) (a .strip) (a .k) (now (a .rows)) 0 (c .before .before .strip .given .1) (not-true _ (c .if2 .taken)))
 
--- src/lib.rt:180:17
 user-shown-requires : tie.Need-user-shown-requires
 user-shown-requires c κs =
     let a = c .before .before .before .before .before .args in
@@ -42,18 +35,15 @@ user-shown-requires c κs =
     let h : 1 ≤ a .k = omega (arith, c .before .before .before .before .if1 .left) in
     (h, lines-in (a .k) (a .strip) (c .before .before .strip .given .1) h (p .1 .1))
 
--- src/lib.rt:181:13
 look-row-requires : tie.Need-look-row-requires
 look-row-requires c κs = search needs
 
--- src/lib.rt:149:1
 returns-3 : tie.Need-returns-3
 returns-3 c =
     let a = c .before .before .before .args in
     let p = c .before .before .before .pre in
     (p .0, strip-spaced (a .sought) (a .strip) (a .k) (now (a .rows)) 0 (c .enum-told .given .1))
 
--- src/lib.rt:149:1
 returns-4 : tie.Need-returns-4
 returns-4 c =
     let a = c .before .before .before .before .before .before .before .before .before .args in

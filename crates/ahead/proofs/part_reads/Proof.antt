@@ -1,13 +1,12 @@
+-- `part_reads`: each turn passes one code; what is left of the row shows the user character exactly if the row does.
+-- Assumes nothing.
 use Prim.Native.Nat.{_*_, _≤_, _<_}
 use mathlib.Core.Path.{_≡_, _∙_}
-use native.Mathlib.Omega.{arith}
 use borrow.Author.Needs.{needs}
 use Rattle.ahead.specs.Looking.{partReads}
 use Rattle.ahead.proofs.Marks.{part-start, here-end, here-user, here-next, here-other, reads-none}
 use Rattle.ahead.proofs.part_reads.Statement.{statement}
 use Rattle.ahead.proofs.part_reads.Tie as tie
-use Rattle.ahead.proofs.part_reads.Reads as reads
-use Rattle.ahead.proofs.part_reads.Lts as lts
 
 abbrev Inv-loop : tie.InvT-loop
 Inv-loop ram marks address n cell user p₀ left₀ p left =
@@ -16,69 +15,54 @@ Inv-loop ram marks address n cell user p₀ left₀ p left =
 abbrev μ-loop : tie.MeasureT-loop
 μ-loop ram marks address n cell user p₀ left₀ p left = left
 
--- src/lib.rt:302:17
 add-user : tie.Need-add-user Inv-loop μ-loop
 add-user c = search needs
 
--- src/lib.rt:302:16
 cast-user : tie.Need-cast-user Inv-loop μ-loop
 cast-user c = search needs
 
--- src/lib.rt:303:17
 cast-p : tie.Need-cast-p Inv-loop μ-loop
 cast-p c = search needs
 
--- src/lib.rt:305:5
 loop-holds : tie.Need-loop-holds Inv-loop μ-loop
 loop-holds c = (search needs, search needs, part-start _ _ _ _ _)
 
--- src/lib.rt:306:24
 mul-high : tie.Need-mul-high Inv-loop μ-loop
 mul-high c = search needs
 
--- src/lib.rt:306:24
 add-high : tie.Need-add-high Inv-loop μ-loop
 add-high c = search needs
 
--- src/lib.rt:306:20
 shared-slice-read-high : tie.Need-shared-slice-read-high Inv-loop μ-loop
 shared-slice-read-high c = search needs
 
--- src/lib.rt:308:13
 returns : tie.Need-returns Inv-loop μ-loop
 returns c =
     let l = c .before .before .before .loop in
     here-end _ _ _ (l .left) (l .p) (c .before .before .loop-test .taken) (l .inv .0) (c .if1 .taken) ∙ l .inv .2
 
--- src/lib.rt:311:13
 returns-2 : tie.Need-returns-2 Inv-loop μ-loop
 returns-2 c =
     let l = c .before .before .before .before .loop in
     here-user _ _ _ (l .left) (l .p) (c .before .before .before .loop-test .taken) (l .inv .0) (c .before .if1 .left) (c .if2 .taken) ∙ l .inv .2
 
--- src/lib.rt:313:14
 add-p : tie.Need-add-p Inv-loop μ-loop
 add-p c = search needs
 
--- src/lib.rt:314:12
 element-copy-out-if3 : tie.Need-element-copy-out-if3 Inv-loop μ-loop
 element-copy-out-if3 c = search needs
 
--- src/lib.rt:315:13
 returns-3 : tie.Need-returns-3 Inv-loop μ-loop
 returns-3 c =
     let l = c .before .before .before .before .before .before .loop in
     here-next _ _ _ (l .left) (l .p) (c .before .before .before .before .before .loop-test .taken) (l .inv .0) (c .before .before .before .if1 .left) (c .before .before .if2 .left) (c .if3 .taken) ∙ l .inv .2
 
--- src/lib.rt:317:9
 sub-left : tie.Need-sub-left Inv-loop μ-loop
 sub-left c = search needs
 
--- src/lib.rt:305:5
 loop-less : tie.Need-loop-less Inv-loop μ-loop
 loop-less c = search needs
 
--- src/lib.rt:305:5
 loop-again : tie.Need-loop-again Inv-loop μ-loop
 loop-again c =
     let l = c .before .before .before .before .before .before .loop in (
@@ -87,7 +71,6 @@ loop-again c =
       here-other _ _ _ (l .left) (l .p) (c .before .before .before .before .before .loop-test .taken) (l .inv .0) (c .before .before .before .if1 .left) (c .before .before .if2 .left) (c .if3 .left) ∙ l .inv .2,
     )
 
--- src/lib.rt:297:1
 returns-4 : tie.Need-returns-4 Inv-loop μ-loop
 returns-4 c = reads-none _ _ _ (c .before .loop .left) _ (c .loop-test .left) ∙ c .before .loop .inv .2
 

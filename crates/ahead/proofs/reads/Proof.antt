@@ -1,67 +1,51 @@
+-- `reads`: the strip on screen, the lines from the next descriptor on, and then the listed rows.
+-- Assumes nothing.
 use Prim.Native.Nat.{ℕ, min}
 use mathlib.Core.Path.{sym, ap, _∙_}
 use native.Mathlib.Omega.{arith}
+use borrow.Author.Needs.{needs}
 use denote.Ref.{now}
 use Rattle.ahead.proofs.Looks.{found-first, found-later, found-row}
 use Rattle.ahead.proofs.Marks.{kept-none}
-use borrow.Author.Needs.{needs}
 use Rattle.ahead.proofs.reads.Statement.{statement}
 use Rattle.ahead.proofs.reads.Tie as tie
-use Rattle.ahead.proofs.reads.Reads as reads
-use Rattle.ahead.proofs.reads.Lts as lts
-use Rattle.ahead.proofs.codes.Reads as codes-reads
-use Rattle.ahead.proofs.least.Reads as least-reads
-use Rattle.ahead.proofs.look_lines.Reads as look-lines-reads
-use Rattle.ahead.proofs.look_strip.Reads as look-strip-reads
-use Rattle.ahead.proofs.rows_read.Reads as rows-read-reads
-use Rattle.ahead.proofs.seek.Reads as seek-reads
-use Rattle.walk.proofs.Strip.lines_left.Reads as lines-left-reads
 
--- src/lib.rt:370:9
 codes-requires : tie.Need-codes-requires
 codes-requires c κs = search needs
 
--- src/lib.rt:371:9
 seek-requires : tie.Need-seek-requires
 seek-requires c κs = search needs
 
--- src/lib.rt:373:19
 lines-left-requires : tie.Need-lines-left-requires
 lines-left-requires c κs = search needs
 
--- src/lib.rt:373:9
 least-requires : tie.Need-least-requires
 least-requires c κs = search needs
 
--- src/lib.rt:374:9
 look-strip-requires : tie.Need-look-strip-requires
-look-strip-requires c κs = 
+look-strip-requires c κs =
     let q = c .before .before .before .before .seek .ensures in
-    (kept-none, (omega (arith, q .0, c .before .before .before .before .before .before .before .pre .1), omega (arith, c .before .before .least .ensures, c .before .before .before .lines-left .ensures)))
+    (kept-none, (q .1 .0, omega (arith, c .before .before .least .ensures, c .before .before .before .lines-left .ensures)))
 
--- src/lib.rt:376:9
 returns : tie.Need-returns
-returns c = 
+returns c =
     let a = c .before .before .before .before .before .before .before .before .before .args in
     let q = c .before .before .before .before .before .before .seek in
     let e = c .before .before .before .before .least .ensures ∙ ap (λ (x : ℕ). min x (a .left)) (c .before .before .before .before .before .lines-left .ensures) in
     let first = c .before .look-strip .ensures .1 (now (a .ram)) (a .settings) (q .ensures .1 .1) in
     rw (sym (q .ensures .0)) (sym (found-first (now (a .ram)) (a .settings) (a .left) (a .walk) (q .result) _ e _ _ _ first (c .if1 .taken)))
 
--- src/lib.rt:384:9
 sub-look-lines : tie.Need-sub-look-lines
 sub-look-lines c = search needs
 
--- src/lib.rt:378:9
 look-lines-requires : tie.Need-look-lines-requires
-look-lines-requires c κs = 
+look-lines-requires c κs =
     let q = c .before .before .before .before .before .before .before .before .seek .ensures in
     let p = c .before .before .before .before .before .before .before .before .before .before .before .pre in
-    (p .0, (c .before .before .before .look-strip .ensures .0, (omega (arith, q .0, p .1), q .1 .0)))
+    (p .0, (c .before .before .before .look-strip .ensures .0, q .1 .0))
 
--- src/lib.rt:388:9
 returns-2 : tie.Need-returns-2
-returns-2 c = 
+returns-2 c =
     let a = c .before .before .before .before .before .before .before .before .before .before .before .before .before .args in
     let q = c .before .before .before .before .before .before .before .before .before .before .seek in
     let e = c .before .before .before .before .before .before .before .before .least .ensures ∙ ap (λ (x : ℕ). min x (a .left)) (c .before .before .before .before .before .before .before .before .before .lines-left .ensures) in
@@ -69,13 +53,11 @@ returns-2 c =
     rw (sym (q .ensures .0))
     (sym (found-later (now (a .ram)) (a .settings) (a .left) (a .walk) (q .result) _ e _ _ _ first _ _ (c .before .look-lines .ensures .1 (a .settings) (q .ensures .1 .1)) (c .before .before .before .before .if1 .left) (c .if2 .taken)))
 
--- src/lib.rt:390:5
 rows-read-requires : tie.Need-rows-read-requires
 rows-read-requires c κs = search needs
 
--- src/lib.rt:363:1
 returns-3 : tie.Need-returns-3
-returns-3 c = 
+returns-3 c =
     let a = c .before .before .before .before .before .before .before .before .before .before .before .before .before .before .before .before .args in
     let q = c .before .before .before .before .before .before .before .before .before .before .before .before .before .seek in
     let e = c .before .before .before .before .before .before .before .before .before .before .before .least .ensures ∙ ap (λ (x : ℕ). min x (a .left)) (c .before .before .before .before .before .before .before .before .before .before .before .before .lines-left .ensures) in

@@ -1,15 +1,14 @@
+-- `rows_read`: no part of a row passed so far shows the user character; the parts are the rows (`parts-all`).
+-- Assumes nothing.
 use Prim.Native.Nat.{_-_, _≤_}
-use mathlib.Core.Path.{_≡_, sym, _∙_}
 use mathlib.Core.Bool.{false}
+use mathlib.Core.Path.{_≡_, sym, _∙_}
 use native.Mathlib.Omega.{arith}
 use borrow.Author.Needs.{needs}
 use Rattle.ahead.specs.Looking.{anyPart}
 use Rattle.ahead.proofs.Marks.{kept-most, no-part, part-none, part-found, parts-all}
 use Rattle.ahead.proofs.rows_read.Statement.{statement}
 use Rattle.ahead.proofs.rows_read.Tie as tie
-use Rattle.ahead.proofs.rows_read.Reads as reads
-use Rattle.ahead.proofs.rows_read.Lts as lts
-use Rattle.ahead.proofs.part_reads.Reads as part-reads-reads
 
 abbrev Inv-loop : tie.InvT-loop
 Inv-loop ram marks rows listed n cell i₀ i = (i ≤ listed) × (anyPart ram marks cell n rows i ≡ false)
@@ -17,43 +16,33 @@ Inv-loop ram marks rows listed n cell i₀ i = (i ≤ listed) × (anyPart ram ma
 abbrev μ-loop : tie.MeasureT-loop
 μ-loop ram marks rows listed n cell i₀ i = listed - i
 
--- src/lib.rt:310:5
 loop-holds : tie.Need-loop-holds Inv-loop μ-loop
 loop-holds c = (search needs, no-part _ _ _ _ _)
 
--- src/lib.rt:311:40
 cast-part-reads : tie.Need-cast-part-reads Inv-loop μ-loop
 cast-part-reads c = search needs
 
--- src/lib.rt:311:35
 mul-part-reads : tie.Need-mul-part-reads Inv-loop μ-loop
 mul-part-reads c = search needs
 
--- src/lib.rt:311:35
 element-copy-out-part-reads : tie.Need-element-copy-out-part-reads Inv-loop μ-loop
 element-copy-out-part-reads c = omega (arith, kept-most _ _ _ (c .before .before .before .pre .1 .1))
 
--- src/lib.rt:311:12
 part-reads-requires : tie.Need-part-reads-requires Inv-loop μ-loop
 part-reads-requires c κs = search needs
 
--- src/lib.rt:312:13
 returns : tie.Need-returns Inv-loop μ-loop
 returns c = part-found _ _ _ _ _ _ (c .before .before .before .before .before .before .pre .1 .1) (c .before .before .before .before .loop .i) (c .before .before .before .loop-test .taken) (sym (c .before .part-reads .ensures) ∙ c .if1 .taken)
 
--- src/lib.rt:314:9
 add-i : tie.Need-add-i Inv-loop μ-loop
 add-i c = search needs
 
--- src/lib.rt:310:5
 loop-less : tie.Need-loop-less Inv-loop μ-loop
 loop-less c = search needs
 
--- src/lib.rt:310:5
 loop-again : tie.Need-loop-again Inv-loop μ-loop
 loop-again c = (search needs, part-none _ _ _ _ _ (c .before .before .before .before .loop .i) (c .before .before .before .before .loop .inv .1) (sym (c .before .part-reads .ensures) ∙ c .if1 .left))
 
--- src/lib.rt:303:1
 returns-2 : tie.Need-returns-2 Inv-loop μ-loop
 returns-2 c =
     let l = c .before .loop in
