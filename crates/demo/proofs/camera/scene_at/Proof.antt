@@ -1,0 +1,52 @@
+-- `scene_at`: the tests, from the front to the back, pick the case of `scene`.
+-- Assumes nothing.
+use borrow.Author.Tests.{le-ltb, lt-ltb}
+use Rattle.demo.specs.Camera.{scene}
+use borrow.Author.Needs.{needs}
+use Rattle.demo.proofs.camera.scene_at.Statement.{statement}
+use Rattle.demo.proofs.camera.scene_at.Tie as tie
+
+sill-at-requires : tie.Need-sill-at-requires
+sill-at-requires c κs = search needs
+
+returns : tie.Need-returns
+unfolding scene
+returns c = rw (lt-ltb _ _ (c .before .if1 .taken), c .sill-at .ensures)
+
+distance-requires : tie.Need-distance-requires
+distance-requires c κs = search needs
+
+post-at-requires : tie.Need-post-at-requires
+post-at-requires c κs = search needs
+
+returns-2 : tie.Need-returns-2
+unfolding scene
+returns-2 c = rw (le-ltb _ _ (c .before .before .before .if1 .left), ← c .before .before .distance .ensures, lt-ltb _ _ (c .before .if2 .taken), c .post-at .ensures)
+
+town-at-requires : tie.Need-town-at-requires
+town-at-requires c κs = search needs
+
+returns-3 : tie.Need-returns-3
+unfolding scene
+returns-3 c = rw (le-ltb _ _ (c .before .before .before .before .if1 .left), ← c .before .before .before .distance .ensures, le-ltb _ _ (c .before .before .if2 .left), lt-ltb _ _ (c .before .if3 .taken), c .town-at .ensures)
+
+traffic-at-requires : tie.Need-traffic-at-requires
+traffic-at-requires c κs = search needs
+
+returns-4 : tie.Need-returns-4
+unfolding scene
+returns-4 c = rw (le-ltb _ _ (c .before .before .before .before .if1 .left), ← c .before .before .before .distance .ensures, le-ltb _ _ (c .before .before .if2 .left), le-ltb _ _ (c .before .if3 .left), c .traffic-at .ensures)
+
+pub scene-at-spec : {M : Type 1} → statement M
+scene-at-spec =
+    tie.close
+    (tie.spec
+    sill-at-requires
+    returns
+    distance-requires
+    post-at-requires
+    returns-2
+    town-at-requires
+    returns-3
+    traffic-at-requires
+    returns-4)

@@ -1,0 +1,30 @@
+-- `draw_mixed`: the line that the draw left, mixed.
+-- Assumes nothing.
+use mathlib.Core.Path.{ap, _∙_}
+use Rattle.device.specs.Device.{DrawOutcome}
+use Rattle.demo.specs.Picture.{lineOutcome, mixedDraw}
+use borrow.Author.Needs.{needs}
+use Rattle.demo.proofs.draw_mixed.Statement.{statement}
+use Rattle.demo.proofs.draw_mixed.Tie as tie
+
+draw-line-requires : tie.Need-draw-line-requires
+draw-line-requires c κs = search needs
+
+mix-line-requires : tie.Need-mix-line-requires
+mix-line-requires c κs = search needs
+
+same-length : tie.Need-same-length
+same-length c = search needs
+
+same-length-2 : tie.Need-same-length-2
+same-length-2 c = search needs
+
+returns : tie.Need-returns
+returns c =
+    let d = c .before .before .before .before .before .before .before .before .draw-line in
+    ap (lineOutcome (d .result .device)) (c .before .before .before .mix-line .ensures)
+    ∙ ap (λ (o : DrawOutcome). mixedDraw o (c .before .before .before .before .before .before .before .before .before .before .before .before .before .before .args .y)) (d .ensures)
+
+pub draw-mixed-spec : {M : Type 1} → statement M
+draw-mixed-spec =
+    tie.close (tie.spec draw-line-requires mix-line-requires same-length same-length-2 returns)

@@ -1,0 +1,74 @@
+-- `next_line`: the draw into a line buffer of W bytes, mixed into the first 3 W bytes of out.
+-- Assumes nothing.
+use Prim.Native.Nat.{ℕ, _*_, _≤_}
+use mathlib.Core.Path.{sym, ap, _∙_}
+use mathlib.Core.List.{List, _++_}
+use native.Mathlib.Omega.{arith}
+use denote.Ref.{now}
+use lib.ListN.{length, drop, replicate, length-replicate}
+use lib.Seq.{length-take-le}
+use Rattle.device.specs.Device.{drawLine}
+use Rattle.report.proofs.Texts.{width-most, blank}
+use Rattle.demo.specs.Picture.{LineOutcome, lineOutcome, mixedDraw}
+use borrow.Author.Needs.{needs}
+use Rattle.demo.proofs.next_line.Statement.{statement}
+use Rattle.demo.proofs.next_line.Tie as tie
+
+width-of-requires : tie.Need-width-of-requires
+width-of-requires c κs = search needs
+
+cast-width : tie.Need-cast-width
+cast-width c = search needs
+
+mul-n : tie.Need-mul-n
+mul-n c = search needs
+
+array-borrow-prefix-line : tie.Need-array-borrow-prefix-line
+array-borrow-prefix-line c = omega (arith, c .width-of .ensures, width-most (c .before .before .before .before .args .device))
+
+slice-aggregate-draw-mixed : tie.Need-slice-aggregate-draw-mixed
+slice-aggregate-draw-mixed c =
+    let w = c .before .width-of .result in
+    let h : w ≤ 768 = omega (arith, c .before .width-of .ensures, width-most (c .before .before .before .before .before .args .device)) in
+    sym (ap length (blank w h) ∙ length-replicate w 0)
+
+slice-relend-prefix-draw-mixed : tie.Need-slice-relend-prefix-draw-mixed
+slice-relend-prefix-draw-mixed c = omega (arith, c .before .width-of .ensures, width-most (c .before .before .before .before .before .args .device))
+
+slice-aggregate-draw-mixed-2 : tie.Need-slice-aggregate-draw-mixed-2
+slice-aggregate-draw-mixed-2 c = sym (length-take-le _ _ (omega (arith, c .before .before .width-of .ensures, width-most (c .before .before .before .before .before .before .args .device))))
+
+draw-mixed-requires : tie.Need-draw-mixed-requires
+draw-mixed-requires c κs =
+    let w = c .before .before .width-of .result in
+    let h : w ≤ 768 = omega (arith, c .before .before .width-of .ensures, width-most (c .before .before .before .before .before .before .args .device)) in
+    length-take-le (3 * w) _ (omega arith) ∙ ap (λ (n : ℕ). 3 * n) (sym (ap length (blank w h) ∙ length-replicate w 0))
+
+same-length : tie.Need-same-length
+same-length c = search needs
+
+returns : tie.Need-returns
+returns c =
+    let a = c .before .before .before .before .before .before .before .before .before .before .args in
+    let w = c .before .before .before .before .before .before .width-of .result in
+    let h : w ≤ 768 = omega (arith, c .before .before .before .before .before .before .width-of .ensures, width-most (c .before .before .before .before .before .before .before .before .before .before .args .device)) in
+    ap (λ (m : LineOutcome). lineOutcome (m .device) (m .out ++ drop (3 * w) (now (a .out))))
+    (c .before .before .before .draw-mixed .ensures
+    ∙ ap (λ (line : List ℕ). mixedDraw (drawLine (a .device) (now (a .ram)) (now (a .font)) line) (a .y)) (blank w h))
+    ∙ ap (λ (n : ℕ). let m : LineOutcome = mixedDraw (drawLine (a .device) (now (a .ram)) (now (a .font)) (replicate n 0)) (a .y) in lineOutcome (m .device) (m .out ++ drop (3 * n) (now (a .out))))
+    (c .before .before .before .before .before .before .width-of .ensures)
+
+pub next-line-spec : {M : Type 1} → statement M
+next-line-spec =
+    tie.close
+    (tie.spec
+    width-of-requires
+    cast-width
+    mul-n
+    array-borrow-prefix-line
+    slice-aggregate-draw-mixed
+    slice-relend-prefix-draw-mixed
+    slice-aggregate-draw-mixed-2
+    draw-mixed-requires
+    same-length
+    returns)

@@ -1,0 +1,90 @@
+-- `play`: what is played and the events that are left are all of the traffic.
+-- Assumes nothing.
+use Prim.Native.Nat.{_+_, _-_, _*_, _/_}
+use mathlib.Core.Path.{_≡_, refl, sym, ap, _∙_}
+use native.Mathlib.Omega.{arith}
+use denote.Ref.{now}
+use lib.ListN.{length, drop, length-drop}
+use Rattle.device.specs.Device.{eventOutcome, hearEvent}
+use Rattle.demo.specs.Picture.{played}
+use Rattle.demo.proofs.Playing.{played-more, played-end}
+use borrow.Author.Needs.{needs}
+use Rattle.demo.proofs.play.Statement.{statement}
+use Rattle.demo.proofs.play.Tie as tie
+
+abbrev Inv-loop : tie.InvT-loop
+Inv-loop ram₀ traffic next₀ i₀ ram next i = (length ram ≡ length ram₀) × (played (drop (2 * i) traffic) next ram ≡ played traffic next₀ ram₀)
+
+abbrev μ-loop : tie.MeasureT-loop
+μ-loop ram₀ traffic next₀ i₀ ram next i = length traffic / 2 - i
+
+loop-holds : tie.Need-loop-holds Inv-loop μ-loop
+loop-holds c = (search needs, refl)
+
+mul-of-kind : tie.Need-mul-of-kind Inv-loop μ-loop
+mul-of-kind c = search needs
+
+shared-slice-read-of-kind : tie.Need-shared-slice-read-of-kind Inv-loop μ-loop
+shared-slice-read-of-kind c = search needs
+
+mul-of-kind-2 : tie.Need-mul-of-kind-2 Inv-loop μ-loop
+mul-of-kind-2 c = search needs
+
+add-of-kind : tie.Need-add-of-kind Inv-loop μ-loop
+add-of-kind c = search needs
+
+shared-slice-read-of-kind-2 : tie.Need-shared-slice-read-of-kind-2 Inv-loop μ-loop
+shared-slice-read-of-kind-2 c = search needs
+
+of-kind-requires : tie.Need-of-kind-requires Inv-loop μ-loop
+of-kind-requires c κs = search needs
+
+hear-requires : tie.Need-hear-requires Inv-loop μ-loop
+hear-requires c κs = search needs
+
+add-i : tie.Need-add-i Inv-loop μ-loop
+add-i c = search needs
+
+loop-less : tie.Need-loop-less Inv-loop μ-loop
+loop-less c = search needs
+
+loop-again : tie.Need-loop-again Inv-loop μ-loop
+loop-again c =
+    let l = c .before .before .before .before .before .before .before .before .before .loop in
+    let a = c .before .before .before .before .before .before .before .before .before .before .before .before .args in
+    let n : 2 * (l .i + 1) ≡ 2 * l .i + 2 = omega arith in (
+      search needs,
+      rw n
+          (played-more (now (a .traffic)) (l .next) (l .ram) (2 * l .i) (eventOutcome (c .before .before .before .hear .result) _) (omega arith)
+          (c .before .before .before .hear .ensures ∙ ap (hearEvent (l .next) (l .ram)) (c .before .before .before .before .of-kind .ensures)))
+          ∙ l .inv .1,
+    )
+
+same-length : tie.Need-same-length Inv-loop μ-loop
+same-length c = search needs
+
+returns : tie.Need-returns Inv-loop μ-loop
+returns c =
+    let l = c .before .loop in
+    let a = c .before .before .before .before .args in
+    played-end (drop (2 * l .i) (now (a .traffic))) (l .next) (l .ram) (simp length-drop (omega arith)) ∙ l .inv .1
+
+pub play-spec : {M : Type 1} → statement M
+play-spec =
+    tie.close
+    (tie.spec
+    Inv-loop
+    μ-loop
+    loop-holds
+    mul-of-kind
+    shared-slice-read-of-kind
+    mul-of-kind-2
+    add-of-kind
+    shared-slice-read-of-kind-2
+    of-kind-requires
+    hear-requires
+    add-i
+    loop-less
+    loop-again
+    same-length
+    returns)
