@@ -4,7 +4,15 @@ CFLAGS = -std=c11 -O2 -Wall -Wextra -Werror -pedantic -Iinclude
 CARGO = CARGO_TARGET_DIR=target/cargo cargo
 MANIFEST = --quiet --offline --manifest-path compare/Cargo.toml
 
-.PHONY: library example model comparison speed
+.PHONY: demo library example model comparison speed
+
+# the picture: proves, builds and runs it, and shows it as text
+demo:
+	rt check demo preview
+	mkdir -p target/demo
+	target/bin/demo < crates/demo/stdin > target/demo/frame.ppm
+	@echo "the picture: $(CURDIR)/target/demo/frame.ppm"
+	@target/bin/preview < target/demo/frame.ppm
 
 # proves osd and all below it, and writes target/staticlib/libosd.a
 library:

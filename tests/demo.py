@@ -1,5 +1,6 @@
 #!/usr/bin/env python3
-"""Makes stdin and stdout of crates/demo: the sample font with a host's bus traffic, and the picture by tests/model.py.
+"""Makes stdin and stdout of crates/demo: the sample font with a host's bus traffic, and the picture by tests/model.py. Makes those of
+crates/preview too: a small picture, and its characters.
 
 The traffic sends a stop page as a host would. Camera and mixing are written here a second time, and share nothing with the Rattle
 code: the camera is painted as shapes, one over the other, and the overlay is laid over what they leave.
@@ -191,10 +192,46 @@ def picture(font):
     return out
 
 
+# ---- the preview: a Braille character for every 4 columns of 8 lines
+
+DOTS = ((64, 160), (208, 112), (88, 184), (232, 136))      # how bright a dot's pixel is at least, row by row
+
+
+def small_picture():
+    """Greys from black to white, then the eight colours of the overlay: 72 × 24 pixels, and two columns and five lines to spare."""
+    width, lines = 74, 29
+    out = bytearray(b'P6\n%03d %03d\n255\n' % (width, lines))
+    for y in range(lines):
+        for x in range(width):
+            grey = (x * 24 + y) * 255 // (width * 24)
+            out.extend([grey] * 3 if y < 16 else [255 if x // 9 & bit else 0 for bit in (4, 2, 1)])
+    return out
+
+
+def characters(picture):
+    _, size, _, pixels = picture.split(b'\n', 3)
+    width, lines = map(int, size.split())
+    text = []
+    for y in range(0, lines - 7, 8):
+        for x in range(0, width - 3, 4):
+            pattern = 0x2800
+            for row in range(4):
+                for column in range(2):
+                    at = 3 * ((y + 2 * row) * width + x + 2 * column)
+                    red, green, blue = pixels[at:at + 3]
+                    if (2 * red + 5 * green + blue) // 8 >= DOTS[row][column]:
+                        # the dots of a Braille pattern are numbered down the left column, then the right; 7 and 8 lie below
+                        pattern += 1 << (row + 3 * column if row < 3 else 6 + column)
+            text.append(chr(pattern))
+        text.append('\n')
+    return ''.join(text).encode()
+
+
 font = sample_font()
 send_stop_page()
-crate = HERE.parent / 'crates' / 'demo'
-crate.mkdir(exist_ok=True)
-(crate / 'stdin').write_bytes(bytes(font) + traffic)
-(crate / 'stdout').write_bytes(picture(font))
+crates = HERE.parent / 'crates'
+(crates / 'demo' / 'stdin').write_bytes(bytes(font) + traffic)
+(crates / 'demo' / 'stdout').write_bytes(picture(font))
+(crates / 'preview' / 'stdin').write_bytes(small_picture())
+(crates / 'preview' / 'stdout').write_bytes(characters(small_picture()))
 print('%d events' % (len(traffic) // 2))

@@ -1,6 +1,6 @@
 -- The laws of a host's traffic that is played event by event.
 -- Assumes nothing.
-use Prim.Native.Nat.{ℕ, suc, _+_, _*_, _<_, _≤_}
+use Prim.Native.Nat.{ℕ, suc, _+_, _<_}
 use mathlib.Core.Path.{_≡_, refl, sym, ap, _∙_}
 use mathlib.Core.List.{List, [], _∷_}
 use native.Mathlib.Nat.{not-suc-le-zero, le-of-suc-le-suc}
@@ -10,7 +10,7 @@ use lib.Seq.{drop-cons}
 use Rattle.bus.specs.Bus.{eventOf}
 use Rattle.device.specs.declared.Device.{Device}
 use Rattle.device.specs.Device.{EventOutcome, hearEvent}
-use Rattle.demo.specs.Picture.{Host, played, host}
+use Rattle.demo.specs.Picture.{played, host}
 
 module _ (traffic : List ℕ) (d : Device) (ram : List ℕ) (n : ℕ) where
   -- one event more

@@ -5,7 +5,7 @@
 ghost use mathlib.Core.Path.{_≡_};
 ghost use Prim.Native.Nat.{_*_, _≤_};
 ghost use lib.ListN.{length};
-ghost use Rattle.device.specs.Device.{drawLine, lineWidth};
+ghost use Rattle.device.specs.Device.{drawLine};
 ghost use Rattle.demo.specs.Picture.{played, host, full, mix, mixed, lineOutcome, mixedDraw, nextLine};
 use bus::Event;
 use camera::Colour;

@@ -1,11 +1,11 @@
 -- `mix_line`: what is mixed and the columns that are left are the whole line.
 -- Assumes nothing.
 use Prim.Native.Nat.{_+_, _-_, _*_, _≤_}
-use mathlib.Core.Path.{_≡_, refl, sym, ap, _∙_}
+use mathlib.Core.Path.{_≡_, refl, ap, _∙_}
 use mathlib.Core.List.{_++_}
 use native.Mathlib.Omega.{arith}
 use denote.Ref.{now}
-use lib.ListN.{length, getD, take, drop, set, length-set}
+use lib.ListN.{length, take, drop, set, length-set}
 use lib.Seq.{lt-length-set}
 use Rattle.demo.specs.Picture.{mix, mixed}
 use Rattle.demo.proofs.Mixing.{mixed-more, mixed-whole}

@@ -1,0 +1,32 @@
+-- `checked`: the tests pick the case of `shown`.
+-- Assumes nothing.
+use mathlib.Core.Path.{ap}
+use borrow.Author.Tests.{lt-ltb, le-ltb}
+use native.Mathlib.Omega.{arith}
+use Rattle.preview.specs.declared.Size.{Size}
+use Rattle.preview.specs.Preview.{shown}
+use borrow.Author.Needs.{needs}
+use Rattle.preview.proofs.checked.Statement.{statement}
+use Rattle.preview.proofs.checked.Tie as tie
+
+not-shown-requires : tie.Need-not-shown-requires
+not-shown-requires c κs = search needs
+
+returns : tie.Need-returns
+unfolding shown
+returns c = (rw (lt-ltb _ _ (c .before .if1 .taken), c .not-shown .ensures), omega (arith, ap (λ (s : Size). s .width) (c .not-shown .ensures)))
+
+not-shown-requires-2 : tie.Need-not-shown-requires-2
+not-shown-requires-2 c κs = search needs
+
+returns-2 : tie.Need-returns-2
+unfolding shown
+returns-2 c = (rw (le-ltb _ _ (c .before .before .if1 .left), lt-ltb _ _ (c .before .if2 .taken), c .not-shown2 .ensures), omega (arith, ap (λ (s : Size). s .width) (c .not-shown2 .ensures)))
+
+returns-3 : tie.Need-returns-3
+unfolding shown
+returns-3 c = (rw (le-ltb _ _ (c .before .if1 .left), le-ltb _ _ (c .if2 .left)), search needs)
+
+pub checked-spec : {M : Type 1} → statement M
+checked-spec =
+    tie.close (tie.spec not-shown-requires returns not-shown-requires-2 returns-2 returns-3)
