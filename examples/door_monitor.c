@@ -1,13 +1,16 @@
 /*
- * Firmware in small: a host sends a page over the two-wire bus, the monitor shows it, and the host changes a text during the frame
- * without disturbing it. Prints the lines of one row of characters, and what the device answered.
+ * Firmware in small: a host sends a page over the two-wire bus and the monitor shows it. During the frame the host writes a second
+ * page to cells that the frame does not read, and changes to it; the frame goes on as it was, and the next one shows the new page.
  *
  *     cc -Iinclude examples/door_monitor.c target/staticlib/libosd.a
  */
 #include "osd.h"
 
 #include <stdio.h>
-#include <string.h>
+
+/* LD 6 */
+#define WIDTH (12 * (6 + 1))
+#define LINES 20
 
 static uint8_t device[OSD_DEVICE_LEN];
 static uint8_t ram[OSD_RAM_LEN];
@@ -19,21 +22,21 @@ static uint32_t event(uint8_t kind, uint8_t byte)
     return osd_bus(device, sizeof device, ram, sizeof ram, kind, byte);
 }
 
-/* A transfer to consecutive addresses, as the host's driver makes it. Answers how many bytes were not acknowledged. */
-static int send(uint16_t address, const uint8_t *bytes, size_t n)
+/* A transfer to consecutive addresses, as the host's driver makes it. Answers how many events were refused. */
+static int host_writes(uint16_t address, const uint8_t *bytes, size_t n)
 {
     int refused = 0;
-    event(OSD_START, 0);
-    refused += OSD_REFUSAL(event(OSD_BYTE, 0xBA)) != 0;
-    refused += OSD_REFUSAL(event(OSD_BYTE, (uint8_t)(address >> 8))) != 0;
-    refused += OSD_REFUSAL(event(OSD_BYTE, (uint8_t)address)) != 0;
+    refused += OSD_REFUSAL(event(OSD_START, 0)) != OSD_ACCEPTED;
+    refused += OSD_REFUSAL(event(OSD_BYTE, OSD_SLAVE_WRITE)) != OSD_ACCEPTED;
+    refused += OSD_REFUSAL(event(OSD_BYTE, (uint8_t)(address >> 8))) != OSD_ACCEPTED;
+    refused += OSD_REFUSAL(event(OSD_BYTE, (uint8_t)address)) != OSD_ACCEPTED;
     for (size_t i = 0; i < n; i++)
-        refused += OSD_REFUSAL(event(OSD_BYTE, bytes[i])) != 0;
-    event(OSD_STOP, 0);
+        refused += OSD_REFUSAL(event(OSD_BYTE, bytes[i])) != OSD_ACCEPTED;
+    refused += OSD_REFUSAL(event(OSD_STOP, 0)) != OSD_ACCEPTED;
     return refused;
 }
 
-/* A letter O and a letter K in the lent font, slices 5 to 14. */
+/* Puts a letter into the lent font, slices 5 to 14. */
 static void letter(int number, const uint16_t *slices)
 {
     for (int s = 0; s < 10; s++) {
@@ -42,55 +45,78 @@ static void letter(int number, const uint16_t *slices)
     }
 }
 
-/* The next line: one character of text for each pixel, or the refusal. */
+static void show(const char *what, uint32_t answer)
+{
+    printf("%s: refusal %u, value %u\n", what, (unsigned)OSD_REFUSAL(answer), (unsigned)OSD_VALUE(answer));
+}
+
+/* The next line, a character of text for each pixel: foreground, background, or the camera. */
 static void draw(void)
 {
     uint32_t answer = osd_draw(device, sizeof device, ram, sizeof ram, font, sizeof font, line, sizeof line);
     if (OSD_REFUSAL(answer) != OSD_ACCEPTED) {
-        printf("refused %u\n", (unsigned)OSD_REFUSAL(answer));
+        show("draw", answer);
         return;
     }
-    for (int x = 0; x < 84; x++)
+    for (int x = 0; x < WIDTH; x++)
         putchar(line[x] & OSD_FBLK ? (line[x] & OSD_R ? '#' : '-') : '.');
-    printf(" %u cells\n", (unsigned)OSD_VALUE(answer));
+    printf(" %u\n", (unsigned)OSD_VALUE(answer));
 }
 
-static void ask(unsigned cell)
+/* How many of these cells do the frame's remaining lines read? */
+static unsigned still_read(uint32_t first, size_t n)
 {
-    printf("cell %u: %u\n", cell, (unsigned)osd_cell(device, sizeof device, ram, sizeof ram, cell));
+    unsigned read = 0;
+    for (uint32_t cell = first; cell < first + n; cell++)
+        read += OSD_VALUE(osd_cell(device, sizeof device, ram, sizeof ram, cell));
+    return read;
 }
 
 int main(void)
 {
     static const uint16_t o[10] = {0x0F0, 0x198, 0x30C, 0x30C, 0x30C, 0x30C, 0x30C, 0x30C, 0x198, 0x0F0};
     static const uint16_t k[10] = {0x30C, 0x318, 0x330, 0x360, 0x3C0, 0x3C0, 0x360, 0x330, 0x318, 0x30C};
-    /* 84 pixels, characters from pixel 36, CH 18, OSD on */
+    /* LD, DD 4 (characters from pixel 36), CH 18, OSD on with page 0 */
     static const uint8_t settings[] = {6, 4, 18, 0x80};
-    /* one spacing line, then a row of characters at cell 512 */
-    static const uint8_t page[] = {1, 0x00, 0x00, 0xC2};
-    /* O and K in white on blue, and the end of the line */
-    static const uint8_t text[] = {0x71, 'O', 0x71, 'K', 0x00, 0xFF};
-    static const uint8_t later[] = {0x71, 'K', 0x71, 'O'};
+    /* page 0, at cell 0: a spacing line, then a row of characters at cell 512: O and K in white on blue, and the end of the line */
+    static const uint8_t page_0[] = {1, 0x00, 0x00, 0xC2};
+    static const uint8_t text_0[] = {0x71, 'O', 0x71, 'K', 0x00, 0xFF};
+    /* page 1, at cell 64: the same with the row at cell 600, K and O */
+    static const uint8_t page_1[] = {1, 0x00, 0x58, 0xC2};
+    static const uint8_t text_1[] = {0x71, 'K', 0x71, 'O', 0x00, 0xFF};
+    /* P 1, with OSD, FBK and FL as they are */
+    static const uint8_t to_page_1[] = {0x81};
+    int refused = 0;
 
+    if (osd_device_len() != OSD_DEVICE_LEN)
+        return 1;
     letter('O', o);
     letter('K', k);
-    osd_fresh(device, sizeof device);
-    printf("not acknowledged: %d\n", send(0x3FF0, settings, sizeof settings) + send(0, page, sizeof page) + send(512, text, sizeof text));
+    show("fresh", osd_fresh(device, sizeof device));
+    refused += host_writes(0x3FF0, settings, sizeof settings);
+    refused += host_writes(0, page_0, sizeof page_0);
+    refused += host_writes(512, text_0, sizeof text_0);
+    printf("events refused: %d\n", refused);
 
-    printf("frame start: %u\n", (unsigned)osd_frame_start(device, sizeof device, 20));
-    ask(512);
-    ask(600);
-    for (int i = 0; i < 9; i++)
+    show("frame start", osd_frame_start(device, sizeof device, LINES));
+    for (int i = 0; i < LINES / 2; i++)
+        draw();
+    printf("cells still read of the old text: %u\n", still_read(512, sizeof text_0));
+    printf("cells still read of the new page: %u\n", still_read(600, sizeof text_1) + still_read(64, sizeof page_1));
+    refused += host_writes(600, text_1, sizeof text_1);
+    refused += host_writes(64, page_1, sizeof page_1);
+    refused += host_writes(0x3FF3, to_page_1, sizeof to_page_1);
+    printf("events refused: %d\n", refused);
+    for (int i = LINES / 2; i < LINES + 1; i++)
         draw();
 
-    /* the frame still reads cell 512, so the new text goes to a free row, and a new page is made for it */
-    printf("not acknowledged: %d\n", send(600, later, sizeof later));
-    for (int i = 9; i < 21; i++)
+    show("frame start", osd_frame_start(device, sizeof device, LINES));
+    for (int i = 0; i < LINES; i++)
         draw();
 
     event(OSD_START, 0);
-    printf("unknown slave address: %u\n", (unsigned)event(OSD_BYTE, 0x42));
-    printf("a byte to a deaf device: %u\n", (unsigned)event(OSD_BYTE, 0x00));
-    printf("a record of another length: %u\n", (unsigned)osd_reset(device, sizeof device - 1));
+    show("unknown slave address", event(OSD_BYTE, 0x42));
+    show("a byte to a deaf device", event(OSD_BYTE, 0x00));
+    show("a record of another length", osd_reset(device, sizeof device - 1));
     return 0;
 }

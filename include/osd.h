@@ -1,50 +1,60 @@
 /*
  * osd.h - a software stand-in for the on-screen display controller STV9425/26.
  *
- * The library (libosd.a, x86-64) takes a host's two-wire traffic, keeps 1,024 cells of RAM and sixteen registers, reads a lent
- * font, and hands out each scan line's red, green, blue and fast blanking. It allocates nothing, calls nothing, and keeps no state
- * outside the buffers that you lend it. Every function is proved to end and to stay within these buffers for any bytes in them.
+ * The library (libosd.a) takes a host's two-wire traffic, keeps 1,024 cells of RAM and sixteen registers, reads a lent font, and
+ * hands out each scan line's red, green, blue and fast blanking. Every function is proved to end and to stay within the buffers
+ * that you lend it, for any bytes in them.
+ *
+ * It allocates nothing and keeps no state outside these buffers. It needs memset from your C library and nothing else (a bare-metal
+ * build must supply one). It is x86-64 ELF code for the System V calling convention, and uses SSE registers.
  *
  * Buffers. You own all of them; the library keeps no pointer after a call has returned.
  *
- *     device   OSD_DEVICE_LEN bytes, any alignment: the device's record. Make it with osd_fresh, then keep it as it is. It may be
- *              copied, saved and restored byte by byte. Bytes that were corrupted are some other device, and cause no fault.
- *     ram      OSD_RAM_LEN bytes. Noise is fine. Changed by osd_bus alone.
+ *     device   OSD_DEVICE_LEN bytes, any alignment: the device's record. Make it with osd_fresh. It may be copied, saved and
+ *              restored byte by byte. Bytes that were corrupted are some other device, and cause no fault.
+ *     ram      OSD_RAM_LEN bytes; any bytes will do. Changed by osd_bus alone.
  *     font     OSD_FONT_LEN bytes, only read. 128 characters of 18 slices of two bytes: first PX7 to PX0, then PX11 to PX8 in the
  *              low bits; PX11 is the leftmost pixel.
  *     line     at least as many bytes as the line has pixels, 12 * (LD + 1): OSD_LINE_MAX is always enough. One byte a pixel,
- *              OSD_FBLK | OSD_R | OSD_G | OSD_B. Bytes behind the line stay as they are.
+ *              OSD_FBLK | OSD_R | OSD_G | OSD_B. Bytes after the line's last pixel stay as they are.
  *
- * Give each buffer with its length: another length is refused, not overrun. A pointer may be NULL where its length is 0. A buffer
- * that a call may write (no const) must overlap no other buffer of that call.
+ * Give each buffer with its true length. A device, RAM or font of any other length is refused, and so is a line that is too short;
+ * a length that is larger than the buffer cannot be noticed. A pointer may be NULL where its length is 0. A buffer that a call may
+ * write (no const) must overlap no other buffer of that call.
+ *
+ * Calls on different buffers may run at the same time. While a call runs, nobody else may write its buffers, or read those that it
+ * may write: if bus events arrive in an interrupt, keep it out while osd_draw or osd_cell runs.
  *
  * Answers. Every function but osd_device_len answers one number, refusal * 65,536 + value: OSD_REFUSAL(answer) is 0 where the call
- * was accepted, OSD_VALUE(answer) is then its value. A refused call changes no byte of any buffer, except that a bus event with an
- * unknown slave address leaves the device deaf until the next start or stop. Where several refusals fit, the one that is named
- * first at the function is given.
+ * was accepted, OSD_VALUE(answer) is then its value. With a refusal the value is 0, but 255 with OSD_NOT_ACKNOWLEDGED. A refused
+ * call changes no byte of any buffer, except that a bus event with an unknown slave address leaves the device deaf until the next
+ * start or stop. Where several refusals fit, the one that is named first at the function is given.
  *
- * Example: a frame of 288 lines.
+ * Registers, descriptors and codes are those of the STV9425/26; register 3FF0 holds LD, 3FF1 DD, 3FF2 CH, and 3FF3 OSD (bit 7), FBK
+ * (6), FL (5, 4) and P (2 to 0).
+ *
+ * Example: a frame of 288 lines. (examples/door_monitor.c is a whole program.)
  *
  *     static uint8_t device[OSD_DEVICE_LEN], ram[OSD_RAM_LEN], line[OSD_LINE_MAX];
  *     extern const uint8_t font[OSD_FONT_LEN];
  *
  *     osd_fresh(device, sizeof device);
- *     osd_bus(device, sizeof device, ram, sizeof ram, OSD_START, 0);          // the host writes OSD on, page 0, to register 3FF3
- *     osd_bus(device, sizeof device, ram, sizeof ram, OSD_BYTE, 0xBA);
+ *     osd_bus(device, sizeof device, ram, sizeof ram, OSD_START, 0);     // the host turns OSD on, with page 0: 80 to register 3FF3
+ *     osd_bus(device, sizeof device, ram, sizeof ram, OSD_BYTE, OSD_SLAVE_WRITE);
  *     osd_bus(device, sizeof device, ram, sizeof ram, OSD_BYTE, 0x3F);
  *     osd_bus(device, sizeof device, ram, sizeof ram, OSD_BYTE, 0xF3);
  *     osd_bus(device, sizeof device, ram, sizeof ram, OSD_BYTE, 0x80);
- *     osd_bus(device, sizeof device, ram, sizeof ram, OSD_STOP, 0);
+ *     osd_bus(device, sizeof device, ram, sizeof ram, OSD_STOP, 0);      // and likewise the page's descriptors and codes
  *     osd_frame_start(device, sizeof device, 288);
- *     for (int i = 0; i < 288; i++) {
- *         osd_draw(device, sizeof device, ram, sizeof ram, font, sizeof font, line, sizeof line);
- *         show(line);                                                         // where OSD_FBLK is set, the overlay; else the camera
- *     }
+ *     for (int i = 0; i < 288; i++)
+ *         if (OSD_REFUSAL(osd_draw(device, sizeof device, ram, sizeof ram, font, sizeof font, line, sizeof line)) == OSD_ACCEPTED)
+ *             show(line);                                                // where OSD_FBLK is set the overlay, else the camera
  *
- * Writing during a frame. A byte stored to a cell that the frame's remaining lines read can show in them. Ask osd_cell first: a store
- * to a cell of which it answers 0 changes no remaining line of the frame, nor does a store to a register that leaves LD, DD, CH,
- * OSD, FBK and FL as they are. To show a new page, write it to cells that the present one does not use and change P: P counts from
- * the next frame start.
+ * Writing during a frame. A byte stored to a cell that the frame's remaining lines read can show in them. Ask osd_cell about each cell
+ * that you will store to: a store to a cell of which it answers 0 changes no remaining line and no other cell's answer, nor does a
+ * store to a register that leaves LD, DD, CH, OSD, FBK and FL as they are. To show a new page, write it to cells that the present
+ * one does not use and change P, which counts from the next frame start. P stands in register 3FF3 with OSD, FBK and FL: store it
+ * with their bits as they are.
  */
 #ifndef OSD_H
 #define OSD_H
@@ -77,6 +87,10 @@ extern "C" {
 #define OSD_FETCH 2 /* the host reads a byte */
 #define OSD_STOP 3
 
+/* Slave addresses. */
+#define OSD_SLAVE_WRITE 0xBA
+#define OSD_SLAVE_READ 0xBB
+
 /* The parts of an answer. */
 #define OSD_REFUSAL(answer) ((answer) >> 16)
 #define OSD_VALUE(answer) ((answer) & 0xFFFF)
@@ -89,6 +103,7 @@ extern "C" {
 #define OSD_NO_LINE 4          /* no frame, or all its lines are drawn */
 #define OSD_NOT_ACKNOWLEDGED 5 /* the event is not acknowledged; the value is 255 */
 #define OSD_FRAME_LINES 6      /* lines is 0 or above OSD_FRAME_LINES_MAX */
+#define OSD_BENCH_LENGTH 7     /* the bench program's: no function here gives it */
 #define OSD_CELL_RANGE 8       /* cell is OSD_RAM_LEN or above */
 #define OSD_NOT_TAKEN 255      /* device is not OSD_DEVICE_LEN bytes, or kind is above OSD_STOP */
 
@@ -106,16 +121,25 @@ extern "C" {
  *     26      strip on screen: bit 0 characters (else spacing), bit 1 ZY, bit 2 DE
  *     27      characters: height (CH as taken); spacing: lines left
  *     28, 29  characters: code address; spacing: 0
- *     30, 31  characters: scan line of the strip, 0 before the first; spacing: 0
+ *     30, 31  characters: scan line of the strip, from 1; spacing: 0
+ *
+ * Any bytes are some record: another bus state is idle; byte 1 is read in state 4 only, of byte 26 only bits 0 to 2, and bytes 28
+ * to 31 (like bits 1 and 2 of byte 26) for characters only.
  */
 
-/* The length of a device's record: OSD_DEVICE_LEN of the library that is linked. */
+/* The record's length in the linked library. Compare it with OSD_DEVICE_LEN at start-up to find a header of another version. */
 uint32_t osd_device_len(void);
 
-/* Makes a fresh device, whatever the bytes were. Clear the RAM yourself if you want it clear. Refusal: OSD_NOT_TAKEN. Value 0. */
+/*
+ * Makes a fresh device, whatever the bytes were. A new part's RAM is all zero: clear yours if you want that.
+ * Refusal: OSD_NOT_TAKEN. Value 0.
+ */
 uint32_t osd_fresh(uint8_t *device, size_t device_len);
 
-/* Resets: registers to their reset values, bus idle, counter 0, no frame, next frame number 0. Refusal: OSD_NOT_TAKEN. Value 0. */
+/*
+ * As osd_fresh: registers to their reset values, bus idle, counter 0, no frame, next frame number 0. The RAM stays.
+ * Refusal: OSD_NOT_TAKEN. Value 0.
+ */
 uint32_t osd_reset(uint8_t *device, size_t device_len);
 
 /*
@@ -125,7 +149,11 @@ uint32_t osd_reset(uint8_t *device, size_t device_len);
  */
 uint32_t osd_bus(uint8_t *device, size_t device_len, uint8_t *ram, size_t ram_len, uint8_t kind, uint8_t byte);
 
-/* Starts a frame of 1 to 2,048 lines; a running frame is broken off. Refusals: OSD_NOT_TAKEN, OSD_FRAME_LINES. Value 0. */
+/*
+ * Starts a frame of 1 to 2,048 lines, with the page that P names now and the next frame number (0 to 63 and round again; flashing
+ * goes by it). A frame that still runs is abandoned. A refused start uses up no number.
+ * Refusals: OSD_NOT_TAKEN, OSD_FRAME_LINES. Value 0.
+ */
 uint32_t osd_frame_start(uint8_t *device, size_t device_len, uint32_t lines);
 
 /*

@@ -4,21 +4,17 @@ import pathlib
 
 import model
 
+LINES = 20
 O = (0x0F0, 0x198, 0x30C, 0x30C, 0x30C, 0x30C, 0x30C, 0x30C, 0x198, 0x0F0)
 K = (0x30C, 0x318, 0x330, 0x360, 0x3C0, 0x3C0, 0x360, 0x330, 0x318, 0x30C)
 device, ram, font, output = model.Device(), [0] * 1024, [0] * 4608, []
 
 
-def event(kind, x=0):
-    refusal, byte = device.event(ram, kind, x)
-    return refusal * 65536 + byte
-
-
-def send(address, data):
-    event('start')
-    refused = sum(event('byte', x) >= 65536 for x in [0xBA, address >> 8, address & 255] + data)
-    event('stop')
-    return refused
+def host_writes(address, data):
+    answers = [device.event(ram, 'start')]
+    answers += [device.event(ram, 'byte', x) for x in [0xBA, address >> 8, address & 255] + data]
+    answers += [device.event(ram, 'stop')]
+    return sum(refusal != 0 for refusal, _ in answers)
 
 
 def letter(number, slices):
@@ -27,35 +23,43 @@ def letter(number, slices):
         font[36 * number + 2 * (s + 4) + 1] = bits >> 8
 
 
-def draw():
-    line = [0] * 768
-    refusal, cells = device.draw(ram, font, line)
-    if refusal:
-        output.append('refused %d' % refusal)
-        return
-    shown = ''.join(('#' if x & 4 else '-') if x & 8 else '.' for x in line[:84])
-    output.append('%s %d cells' % (shown, cells))
+def show(what, refusal, value=0):
+    output.append('%s: refusal %d, value %d' % (what, refusal, value))
 
 
-def ask(cell):
-    refusal, value = device.ask(ram, cell)
-    output.append('cell %d: %d' % (cell, refusal * 65536 + value))
+def draw(times):
+    for _ in range(times):
+        line = [0] * 768
+        refusal, cells = device.draw(ram, font, line)
+        if refusal:
+            show('draw', refusal)
+            continue
+        shown = ''.join(('#' if x & 4 else '-') if x & 8 else '.' for x in line[:84])
+        output.append('%s %d' % (shown, cells))
+
+
+def still_read(first, n):
+    return sum(device.ask(ram, cell)[1] for cell in range(first, first + n))
 
 
 letter(ord('O'), O)
 letter(ord('K'), K)
-refused = send(0x3FF0, [6, 4, 18, 0x80]) + send(0, [1, 0, 0, 0xC2]) + send(512, [0x71, ord('O'), 0x71, ord('K'), 0, 0xFF])
-output.append('not acknowledged: %d' % refused)
-output.append('frame start: %d' % device.start(20))
-ask(512)
-ask(600)
-for _ in range(9):
-    draw()
-output.append('not acknowledged: %d' % send(600, [0x71, ord('K'), 0x71, ord('O')]))
-for _ in range(12):
-    draw()
-event('start')
-output.append('unknown slave address: %d' % event('byte', 0x42))
-output.append('a byte to a deaf device: %d' % event('byte', 0))
-output.append('a record of another length: %d' % (255 * 65536))      # the interface's own refusal
+show('fresh', 0)
+refused = host_writes(0x3FF0, [6, 4, 18, 0x80]) + host_writes(0, [1, 0, 0, 0xC2])
+refused += host_writes(512, [0x71, ord('O'), 0x71, ord('K'), 0, 0xFF])
+output.append('events refused: %d' % refused)
+show('frame start', device.start(LINES))
+draw(LINES // 2)
+output.append('cells still read of the old text: %d' % still_read(512, 6))
+output.append('cells still read of the new page: %d' % (still_read(600, 6) + still_read(64, 4)))
+refused += host_writes(600, [0x71, ord('K'), 0x71, ord('O'), 0, 0xFF]) + host_writes(64, [1, 0, 0x58, 0xC2])
+refused += host_writes(0x3FF3, [0x81])
+output.append('events refused: %d' % refused)
+draw(LINES - LINES // 2 + 1)
+show('frame start', device.start(LINES))
+draw(LINES)
+device.event(ram, 'start')
+show('unknown slave address', *device.event(ram, 'byte', 0x42))
+show('a byte to a deaf device', *device.event(ram, 'byte', 0))
+show('a record of another length', 255)      # the interface's own refusal
 pathlib.Path(__file__).parent.parent.joinpath('examples', 'door_monitor.stdout').write_text('\n'.join(output) + '\n')

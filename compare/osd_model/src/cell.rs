@@ -63,10 +63,7 @@ struct ShownRows {
 }
 
 impl ShownRows {
-    const NONE: ShownRows = ShownRows {
-        rows: RowSet::EMPTY,
-        slice_rows: RowSet::EMPTY,
-    };
+    const NONE: ShownRows = ShownRows { rows: RowSet::EMPTY, slice_rows: RowSet::EMPTY };
 
     /// Adds what the strip shows in the frame's `left` lines; answers the
     /// number of its lines.
@@ -103,15 +100,9 @@ struct UserSlice {
 impl UserSlice {
     fn at(cell: u16) -> UserSlice {
         if cell < ALL_USER_CELLS {
-            UserSlice {
-                code: FIRST_USER + (cell / USER_CELLS) as u8,
-                slice: Some(cell % USER_CELLS / 2),
-            }
+            UserSlice { code: FIRST_USER + (cell / USER_CELLS) as u8, slice: Some(cell % USER_CELLS / 2) }
         } else {
-            UserSlice {
-                code: END_OF_LINE,
-                slice: None,
-            }
+            UserSlice { code: END_OF_LINE, slice: None }
         }
     }
 
@@ -185,8 +176,7 @@ impl RowSet {
     fn starts(&self) -> impl Iterator<Item = usize> + '_ {
         self.0.iter().enumerate().flat_map(|(index, &bits)| {
             let rest = |bits: u64| (bits != 0).then_some(bits);
-            successors(rest(bits), move |bits| rest(bits & (bits - 1)))
-                .map(move |bits| 64 * index + bits.trailing_zeros() as usize)
+            successors(rest(bits), move |bits| rest(bits & (bits - 1))).map(move |bits| 64 * index + bits.trailing_zeros() as usize)
         })
     }
 }

@@ -50,13 +50,7 @@ pub(crate) fn font_words(font: &[u8]) -> Result<&FontWords, Refusal> {
 /// Paints all of `line` with the frame's next line, whose strip has been
 /// entered, and answers the RAM cells read for codes and slices.
 #[inline]
-pub(crate) fn line(
-    registers: &Registers,
-    frame: &Frame,
-    ram: &RamWords,
-    font: &FontWords,
-    line: &mut [u8],
-) -> u32 {
+pub(crate) fn line(registers: &Registers, frame: &Frame, ram: &RamWords, font: &FontWords, line: &mut [u8]) -> u32 {
     if !registers.display_on() {
         line.fill(0);
         return 0;
@@ -104,9 +98,7 @@ impl<'a> Row<'a> {
         Row {
             codes: ram,
             user: ram[slice..].first_chunk().expect("18 + 19 × 25 < 512"),
-            font: font[font_slice..]
-                .first_chunk()
-                .expect("17 + 18 × 127 < 2304"),
+            font: font[font_slice..].first_chunk().expect("17 + 18 × 127 < 2304"),
             font_mask,
             next: usize::from(row),
             reads: 0,
@@ -180,27 +172,16 @@ impl Inks {
         for (colour, pixels) in (0..8).zip(&mut background) {
             *pixels = eight(BLANKING | colour);
         }
-        Inks {
-            plain,
-            background,
-            hiding: if hidden { 0x80 } else { 0 },
-        }
+        Inks { plain, background, hiding: if hidden { 0x80 } else { 0 } }
     }
 
     /// Twelve pixels; `bits` has 1 for foreground.
     #[inline(always)]
     fn character(&self, attributes: u8, bits: u16) -> [u8; COLUMNS] {
-        let bits = if attributes & self.hiding == 0 {
-            bits
-        } else {
-            0
-        };
+        let bits = if attributes & self.hiding == 0 { bits } else { 0 };
         let foreground = eight(BLANKING | (attributes >> 4 & 7));
         let background = self.background[usize::from(attributes & 15)];
-        let mut pixels = Pixels {
-            left: background,
-            right: background as u32,
-        };
+        let mut pixels = Pixels { left: background, right: background as u32 };
         pixels.flip(bits, foreground ^ background);
         // BK3 and BK1: what stands to the right of foreground is shadow.
         if attributes & 0b1010 == 0b1010 {

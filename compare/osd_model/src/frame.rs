@@ -57,13 +57,7 @@ impl Descriptor {
         if self.is_spacing() {
             return Strip::Spacing(self.lines(height));
         }
-        Strip::Characters(Characters {
-            row: self.row(),
-            height,
-            zoom: self.zoom(),
-            enabled: self.shows_codes(),
-            drawn: 0,
-        })
+        Strip::Characters(Characters { row: self.row(), height, zoom: self.zoom(), enabled: self.shows_codes(), drawn: 0 })
     }
 }
 
@@ -110,9 +104,7 @@ impl Strip {
     pub(crate) fn lines_left(self) -> u8 {
         match self {
             Strip::Spacing(left) => left,
-            Strip::Characters(strip) => {
-                (strip.height << u8::from(strip.zoom)).saturating_sub(strip.drawn)
-            }
+            Strip::Characters(strip) => (strip.height << u8::from(strip.zoom)).saturating_sub(strip.drawn),
         }
     }
 
@@ -138,20 +130,10 @@ pub(crate) struct Frame {
 }
 
 impl Frame {
-    pub(crate) const STOPPED: Frame = Frame {
-        number: 0,
-        left: 0,
-        descriptor: 0,
-        strip: Strip::Spacing(0),
-    };
+    pub(crate) const STOPPED: Frame = Frame { number: 0, left: 0, descriptor: 0, strip: Strip::Spacing(0) };
 
     pub(crate) fn begin(number: u8, lines: u16, descriptor: u16) -> Frame {
-        Frame {
-            number,
-            left: lines,
-            descriptor,
-            strip: Strip::Spacing(0),
-        }
+        Frame { number, left: lines, descriptor, strip: Strip::Spacing(0) }
     }
 
     /// Reads the next descriptor if the strip on screen is over; answers the cells read.
@@ -200,10 +182,7 @@ impl Steps {
     #[inline]
     pub(crate) fn of_slice(slice: u16, height: u8) -> Steps {
         let height = u16::from(height);
-        Steps {
-            first: ((2 * slice).saturating_sub(1) * height).div_ceil(36),
-            last: ((2 * slice + 1) * height - 1) / 36,
-        }
+        Steps { first: ((2 * slice).saturating_sub(1) * height).div_ceil(36), last: ((2 * slice + 1) * height - 1) / 36 }
     }
 
     /// Is one of them in `from..=to`?

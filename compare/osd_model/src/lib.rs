@@ -102,13 +102,7 @@ impl Device {
     /// A device as after power-up and reset.
     #[must_use]
     pub const fn fresh() -> Device {
-        Device {
-            bus: Bus::Idle,
-            counter: 0,
-            registers: Registers::RESET,
-            next_frame: 0,
-            frame: Frame::STOPPED,
-        }
+        Device { bus: Bus::Idle, counter: 0, registers: Registers::RESET, next_frame: 0, frame: Frame::STOPPED }
     }
 
     /// Resets registers, bus, counter and frame numbering, and stops the frame.
@@ -136,9 +130,7 @@ impl Device {
         if self.frame.left == 0 {
             return Err(Refusal::NoLineLeft);
         }
-        let line = line
-            .get_mut(..self.registers.width())
-            .ok_or(Refusal::LineBuffer)?;
+        let line = line.get_mut(..self.registers.width()).ok_or(Refusal::LineBuffer)?;
 
         let descriptor_reads = self.frame.enter_strip(ram, self.registers.height());
         let reads = draw::line(&self.registers, &self.frame, ram, font, line);
@@ -153,12 +145,7 @@ impl Device {
         if cell >= RAM_LEN as u32 {
             return Err(Refusal::NoSuchCell);
         }
-        Ok(cell::is_read(
-            &self.registers,
-            &self.frame,
-            ram,
-            cell as u16,
-        ))
+        Ok(cell::is_read(&self.registers, &self.frame, ram, cell as u16))
     }
 
     /// Pixels of a line under the present registers: 12 to 768.

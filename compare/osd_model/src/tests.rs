@@ -11,12 +11,7 @@ use crate::registers::Registers;
 use crate::{bus_bytes, Device, Refusal, DEVICE_LEN, FONT_LEN, RAM_LEN};
 
 fn blank() -> (Device, Vec<u8>, Vec<u8>, Vec<u8>) {
-    (
-        Device::fresh(),
-        vec![0; RAM_LEN],
-        vec![0; FONT_LEN],
-        vec![0xEE; 800],
-    )
+    (Device::fresh(), vec![0; RAM_LEN], vec![0; FONT_LEN], vec![0xEE; 800])
 }
 
 fn poke(device: &mut Device, ram: &mut [u8], address: u16, bytes: &[u8]) {
@@ -32,9 +27,7 @@ fn peek(device: &mut Device, ram: &mut [u8], address: u16, count: usize) -> Vec<
     poke(device, ram, address, &[]);
     device.bus(ram, Start).unwrap();
     device.bus(ram, Byte(0xBB)).unwrap();
-    (0..count)
-        .map(|_| device.bus(ram, Fetch).unwrap())
-        .collect()
+    (0..count).map(|_| device.bus(ram, Fetch).unwrap()).collect()
 }
 
 /// The bench program's example: one character, then the end of the line.
@@ -57,10 +50,7 @@ fn worked_example() {
     device.frame_start(1).unwrap();
     assert_eq!(device.width(), 60);
     assert_eq!(device.draw(&ram, &font, &mut line), Ok(6));
-    assert_eq!(
-        hex(&line[..60]),
-        "000000000000000000000000000000000000F9999999FFFF000000000000"
-    );
+    assert_eq!(hex(&line[..60]), "000000000000000000000000000000000000F9999999FFFF000000000000");
     assert!(line[60..].iter().all(|&byte| byte == 0xEE));
 }
 
@@ -80,28 +70,14 @@ fn shadow_and_flash() {
     for number in 1..64 {
         device.frame_start(1).unwrap();
         assert_eq!(device.draw(&ram, &font, &mut line), Ok(6));
-        let shown = if number < 16 {
-            "F8F88888FFF8"
-        } else {
-            "888888888888"
-        };
+        let shown = if number < 16 { "F8F88888FFF8" } else { "888888888888" };
         assert_eq!(hex(&line[36..48]), shown);
     }
 }
 
 #[test]
 fn slices() {
-    let table = [
-        (18, 1, 1),
-        (18, 18, 18),
-        (36, 2, 1),
-        (36, 35, 18),
-        (37, 1, 0),
-        (63, 1, 0),
-        (63, 2, 1),
-        (1, 1, 18),
-        (12, 1, 2),
-    ];
+    let table = [(18, 1, 1), (18, 18, 18), (36, 2, 1), (36, 35, 18), (37, 1, 0), (63, 1, 0), (63, 2, 1), (1, 1, 18), (12, 1, 2)];
     for (height, step, slice) in table {
         assert_eq!(slice_of_step(step, height), slice);
     }
@@ -140,9 +116,7 @@ fn user_character_25_slice_18() {
     ram[986..988].copy_from_slice(&[0x01, 0xF8]);
     poke(&mut device, &mut ram, 0x3FF2, &[1]); // CH 1: slice 18 only
     device.frame_start(1).unwrap();
-    let asked: Vec<u32> = (0..1024)
-        .filter(|&cell| device.cell(&ram, cell).unwrap())
-        .collect();
+    let asked: Vec<u32> = (0..1024).filter(|&cell| device.cell(&ram, cell).unwrap()).collect();
     assert_eq!(asked, [0, 1, 4, 5, 6, 7, 986, 987]);
     assert_eq!(device.draw(&ram, &font, &mut line), Ok(8));
     assert_eq!(hex(&line[36..48]), "F9999999999F");
@@ -171,12 +145,7 @@ fn most_reads_and_wrap_over_1023() {
 fn descriptors_once_around() {
     let (mut device, mut ram, ..) = blank(); // spacings of one line
     poke(&mut device, &mut ram, 0x3FF3, &[0x83]); // P 3: from cell 192
-    for (lines, next_to_last, last) in [
-        (510, false, false),
-        (511, true, false),
-        (512, true, true),
-        (2048, true, true),
-    ] {
+    for (lines, next_to_last, last) in [(510, false, false), (511, true, false), (512, true, true), (2048, true, true)] {
         device.frame_start(lines).unwrap();
         assert_eq!(device.cell(&ram, 189), Ok(next_to_last));
         assert_eq!(device.cell(&ram, 190), Ok(last));
@@ -237,11 +206,7 @@ fn refusals_and_their_order() {
     }
     assert_eq!(device, fresh);
     let mut draw = |device: &mut Device, ram_len: usize, font_len: usize, line_len: usize| {
-        let ram = if ram_len > 1024 {
-            &[0; 1025]
-        } else {
-            &ram[..ram_len]
-        };
+        let ram = if ram_len > 1024 { &[0; 1025] } else { &ram[..ram_len] };
         let answer = device.draw(ram, &font[..font_len], &mut line[..line_len]);
         answer.map_err(Refusal::number)
     };
@@ -328,17 +293,7 @@ impl Slow {
     fn fresh() -> Slow {
         let mut registers = [0; 16];
         registers[..8].copy_from_slice(&[0x3F, 8, 0x12, 0, 0x22, 0x33, 0x28, 0x0A]);
-        Slow {
-            bus: 0,
-            held: 0,
-            counter: 0,
-            registers,
-            next: 0,
-            number: 0,
-            left: 0,
-            descriptor: 0,
-            strip: None,
-        }
+        Slow { bus: 0, held: 0, counter: 0, registers, next: 0, number: 0, left: 0, descriptor: 0, strip: None }
     }
 
     fn bus(&mut self, ram: &mut [u8], event: Event) -> (u8, u8) {
@@ -485,13 +440,7 @@ fn same_as_the_slow_model() {
         let mut events: Vec<Event> = vec![];
         for number in 0..4 {
             let byte = noise.register(number);
-            events.extend([
-                Start,
-                Byte(0xBA),
-                Byte(0x3F),
-                Byte(0xF0 + number as u8),
-                Byte(byte),
-            ]);
+            events.extend([Start, Byte(0xBA), Byte(0x3F), Byte(0xF0 + number as u8), Byte(byte)]);
         }
         for _step in 0..300 {
             for event in events.drain(..) {

@@ -11,9 +11,10 @@
 --   26      strip on screen: bit 0 characters (else spacing), bit 1 ZY, bit 2 DE
 --   27      characters: height (CH as taken); spacing: lines left
 --   28, 29  characters: code address; spacing: 0
---   30, 31  characters: scan line of the strip, 0 before the first; spacing: 0
+--   30, 31  characters: scan line of the strip; spacing: 0
 --
--- Any 32 bytes are read as some record: another bus state is idle, and other bits of byte 26 are not read.
+-- Any 32 bytes are read as some record: another bus state is idle; byte 1 is read in state 4 only, of byte 26 only bits 0 to 2, and
+-- bytes 28 to 31 (like bits 1 and 2 of byte 26) for characters only.
 -- Assumes nothing.
 use Prim.Native.Nat.{ℕ, _+_, _*_, _/_, _%_}
 use mathlib.Core.Path.{_≡_}

@@ -23,7 +23,9 @@ const DEVICE_LENGTH: usize = 32;
 
 const RAM_LENGTH: usize = 1024;
 
-// The bus states in which data bytes and fetches come, by their numbers.
+// Bus states by their numbers.
+const DEAF: u8 = 1;
+
 const WRITING: u8 = 5;
 
 const READING: u8 = 6;
@@ -31,7 +33,7 @@ const READING: u8 = 6;
 // Refusal 255, the interface's own.
 const NOT_TAKEN: u32 = 0xFF0000;
 
-// The refusal's number above, the value below.
+// The refusal's number in the high half, the value in the low half.
 fn answer(refusal: u8, value: u16) -> u32
     ensures { λ r. ⌜ r ≡ refusal * 65536 + value ⌝ }
 {
@@ -110,8 +112,8 @@ fn ignore(device: &mut [u8], state: State)
     requires { ⌜ length (now device) ≡ 32 ⌝ }
     ensures { λ _. ⌜ now (device .exit) ≡ ignoredOn state (now (device .entry)) ⌝ }
 {
-    if layout::state_number(state) == 1 {
-        device[0] = 1;
+    if layout::state_number(state) == DEAF {
+        device[0] = DEAF;
     }
 }
 
@@ -174,8 +176,8 @@ fn read_next(device: &mut [u8], ram: &mut [u8]) -> u32
     load(device, ram, address) as u32
 }
 
-// Only the bus part and one register are read and written: the rest of the record stays where it is. Data bytes and fetches come
-// most often, so they are looked for first.
+// Of the record only the bus part and at most one register are read and written. Data bytes and fetches come most often, so they are
+// looked for first.
 #[no_mangle]
 pub extern "C" fn osd_bus(device: &mut [u8], ram: &mut [u8], kind: u8, byte: u8) -> u32
     ensures { λ r. ⌜ record { device = now (device .exit); ram = now (ram .exit); answer = r } ≡ busOn (now (device .entry)) (now (ram .entry)) kind byte ⌝ }

@@ -159,16 +159,32 @@ fn cells(name: &str, rounds: u32, mut pair: Pair) {
         let (a, b) = race(
             rounds / 4,
             TIMES,
-            || (0..TIMES).for_each(|_| drop(black_box(linked::cell(&ours, &ram, black_box(cell))))),
-            || (0..TIMES).for_each(|_| drop(black_box(model_cell(&model, &ram, black_box(cell))))),
+            || {
+                (0..TIMES).for_each(|_| {
+                    black_box(linked::cell(&ours, &ram, black_box(cell)));
+                })
+            },
+            || {
+                (0..TIMES).for_each(|_| {
+                    black_box(model_cell(&model, &ram, black_box(cell)));
+                })
+            },
         );
         worst = (worst.0.max(a), worst.1.max(b));
     }
     let mean = race(
         rounds,
         RAM as u32,
-        || (0..RAM as u32).for_each(|cell| drop(black_box(linked::cell(&ours, &ram, cell)))),
-        || (0..RAM as u32).for_each(|cell| drop(black_box(model_cell(&model, &ram, cell)))),
+        || {
+            (0..RAM as u32).for_each(|cell| {
+                black_box(linked::cell(&ours, &ram, cell));
+            })
+        },
+        || {
+            (0..RAM as u32).for_each(|cell| {
+                black_box(model_cell(&model, &ram, cell));
+            })
+        },
     );
     row(&format!("{name}, worst"), worst);
     row(&format!("{name}, mean"), mean);
@@ -244,7 +260,9 @@ fn main() {
     bus("a bus event, writing", rounds, &font, false);
     bus("a bus event, reading", rounds, &font, true);
     for ch in [1, 18, 63] {
-        for (name, ram) in [("full page", &font_page), ("stop page", &stop), ("noise", &noise), ("all descriptors", &all_descriptors())] {
+        for (name, ram) in
+            [("full page", &font_page), ("stop page", &stop), ("noise", &noise), ("all descriptors", &all_descriptors())]
+        {
             let pair = Pair::new(ram.clone(), &font, [63, 4, ch, 0x80]);
             cells(&format!("a cell question, CH {ch}, {name}"), rounds, pair);
         }
