@@ -1,7 +1,7 @@
 // What the frame's remaining lines read. The strips are walked once, each in constant time: a strip's row reads the cell as a code
 // if it starts closely before it; the rows that show the cell's slice are listed, and then looked through for its user character.
 ghost use mathlib.Core.Path.{_≡_};
-ghost use mathlib.Core.Bool.{true, false, _&&_};
+ghost use mathlib.Core.Bool.{false, _&&_};
 ghost use Prim.Native.Nat.{_+_, _≤_, _<_, min, max};
 ghost use lib.Dec.{ltb};
 ghost use lib.ListN.{length};
@@ -32,26 +32,6 @@ pub struct Sought {
 pub struct Looked {
     pub found: bool,
     pub listed: u16,
-}
-
-impl Looked {
-    fn hit(listed: u16) -> Looked
-        ensures { λ r. ⌜ r ≡ record { found = true; listed = listed } ⌝ }
-    {
-        Looked {
-            found: true,
-            listed: listed,
-        }
-    }
-
-    fn miss(listed: u16) -> Looked
-        ensures { λ r. ⌜ r ≡ record { found = false; listed = listed } ⌝ }
-    {
-        Looked {
-            found: false,
-            listed: listed,
-        }
-    }
 }
 
 fn least(a: u16, b: u16) -> u16
@@ -149,12 +129,21 @@ fn look_row(
     ensures { λ r. ⌜ RowLooked sought shown address (now (rows .entry)) listed (now (rows .exit)) r ⌝ }
 {
     if (sought.cell / 2 + 512 - address / 2 % 512) % 512 < sought.starts {
-        return Looked::hit(listed);
+        return Looked {
+            found: true,
+            listed: listed,
+        };
     }
     if shown {
-        return Looked::miss(list_row(marks, rows, listed, address));
+        return Looked {
+            found: false,
+            listed: list_row(marks, rows, listed, address),
+        };
     }
-    Looked::miss(listed)
+    Looked {
+        found: false,
+        listed: listed,
+    }
 }
 
 // The next k lines of the strip on screen.
@@ -171,11 +160,15 @@ fn look_strip(
     ensures { λ r. ⌜ Kept (now (marks .exit)) (now (rows .exit)) (r .listed) ⌝ }
     ensures { λ r. ⌜ StripLooked sought strip k (now (rows .entry)) 0 (now (rows .exit)) r ⌝ }
 {
+    let none = Looked {
+        found: false,
+        listed: 0,
+    };
     if k == 0 {
-        return Looked::miss(0);
+        return none;
     }
     match strip {
-        Strip::Spacing { left: _ } => Looked::miss(0),
+        Strip::Spacing { left: _ } => none,
         Strip::Characters {
             address,
             height,
@@ -184,7 +177,7 @@ fn look_strip(
             line,
         } => {
             if !enabled {
-                return Looked::miss(0);
+                return none;
             }
             let shown = user_shown(height, zoom, line.0, k, sought.cell);
             look_row(marks, rows, 0, sought, address, shown)
@@ -207,7 +200,10 @@ fn look_whole(
     ensures { λ r. ⌜ BegunLooked sought low high (begunLines (sought .height) low high) (now (rows .entry)) listed (now (rows .exit)) r ⌝ }
 {
     if high < 192 {
-        return Looked::miss(listed);
+        return Looked {
+            found: false,
+            listed: listed,
+        };
     }
     let address = (high % 4) as u16 * 256 + low as u16;
     look_row(marks, rows, listed, sought, address, sought.whole)
@@ -230,7 +226,10 @@ fn look_last(
     ensures { λ r. ⌜ BegunLooked sought low high left (now (rows .entry)) listed (now (rows .exit)) r ⌝ }
 {
     if high < 192 {
-        return Looked::miss(listed);
+        return Looked {
+            found: false,
+            listed: listed,
+        };
     }
     let shown = user_shown(sought.height, high / 32 % 2 == 1, 0, left, sought.cell);
     let address = (high % 4) as u16 * 256 + low as u16;
@@ -269,7 +268,10 @@ fn look_lines(
     let mut listed = already;
     while left > 0 {
         if own == p {
-            return Looked::hit(listed);
+            return Looked {
+                found: true,
+                listed: listed,
+            };
         }
         let low = ram[2 * p];
         let high = ram[2 * p + 1];
@@ -285,7 +287,10 @@ fn look_lines(
         left -= strip_lines;
         p = (p + 1) % 512;
     }
-    Looked::miss(listed)
+    Looked {
+        found: false,
+        listed: listed,
+    }
 }
 
 // Do the codes of a row, n at the most, show the cell's user character before the next marked row, which sees the rest?

@@ -12,14 +12,11 @@ use Rattle.ahead.proofs.Looks.{begun-dark, begun-shown}
 use Rattle.ahead.proofs.look_last.Statement.{statement}
 use Rattle.ahead.proofs.look_last.Tie as tie
 
-miss-requires : tie.Need-miss-requires
-miss-requires c κs = search needs
-
 returns : tie.Need-returns
 returns c =
-    let a = c .before .before .args in
-    let p = c .before .before .pre in
-    rw (c .miss .ensures) (p .0, begun-dark (a .sought) (a .low) (a .high) (a .left) (now (a .rows)) (a .listed) (c .before .if1 .taken))
+    let a = c .before .args in
+    let p = c .before .pre in
+    (p .0, begun-dark (a .sought) (a .low) (a .high) (a .left) (now (a .rows)) (a .listed) (c .if1 .taken))
 
 user-shown-requires : tie.Need-user-shown-requires
 user-shown-requires c κs =
@@ -53,7 +50,6 @@ pub look-last-spec : {M : Type 1} → statement M
 look-last-spec =
     tie.close
     (tie.spec
-    miss-requires
     returns
     user-shown-requires
     cast-address

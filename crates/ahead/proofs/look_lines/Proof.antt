@@ -30,14 +30,8 @@ loop-holds c =
     let s = c .before .before in
     (search needs, s .pre .1 .0, sum-start (now (s .args .ram)) (s .args .sought) (now (s .args .rows)) (s .args .already) (s .args .lines) (s .args .descriptor))
 
-hit-requires : tie.Need-hit-requires Inv-loop μ-loop
-hit-requires c κs = search needs
-
 returns : tie.Need-returns Inv-loop μ-loop
-returns c =
-    let a = c .before .before .before .before .before .before .args in
-    let l = c .before .before .before .loop in
-    rw (c .hit .ensures) (l .inv .1, lines-here (now (a .ram)) (a .sought) (now (a .rows)) (a .already) (a .lines) (a .descriptor) (l .rows) (l .listed) (l .left) (l .p) (l .inv .2) (l .inv .0) _ _ refl (c .before .before .loop-test .taken) (c .before .if1 .taken))
+returns c = (c .before .before .loop .inv .1, lines-here (now (c .before .before .before .before .before .args .ram)) (c .before .before .before .before .before .args .sought) (now (c .before .before .before .before .before .args .rows)) (c .before .before .before .before .before .args .already) (c .before .before .before .before .before .args .lines) (c .before .before .before .before .before .args .descriptor) (c .before .before .loop .rows) (c .before .before .loop .listed) (c .before .before .loop .left) (c .before .before .loop .p) (c .before .before .loop .inv .2) (c .before .before .loop .inv .0) _ _ refl (c .before .loop-test .taken) (c .if1 .taken))
 
 mul-low : tie.Need-mul-low Inv-loop μ-loop
 mul-low c = search needs
@@ -61,56 +55,41 @@ look-last-requires : tie.Need-look-last-requires Inv-loop μ-loop
 look-last-requires c κs = (c .before .before .before .before .before .before .before .before .loop .inv .1, (c .before .before .before .before .before .before .before .before .before .before .before .pre .1 .1, (c .before .before .before .before .before .before .before .loop-test .taken, omega (arith, c .before .before .before .begun-lines .ensures, c .before .before .if2 .taken))))
 
 returns-2 : tie.Need-returns-2 Inv-loop μ-loop
-returns-2 c =
-    let a = c .before .before .before .before .before .before .before .before .before .before .before .before .args in
-    let l = c .before .before .before .before .before .before .before .before .before .loop in (
-      c .look-last .ensures .0,
-      lines-last (now (a .ram)) (a .sought) (now (a .rows)) (a .already) (a .lines) (a .descriptor) (l .rows) (l .listed) (l .left) (l .p) (l .inv .2) (l .inv .0) _ _ (c .before .before .before .before .before .before .before .before .loop-test .taken) (c .before .before .before .before .before .before .before .if1 .left) (c .before .before .before .before .before .shared-slice-known3 .given (2 * l .p + 1) .fits) (c .look-last .ensures .1)
-          (omega (arith, c .before .before .before .before .begun-lines .ensures, c .before .before .before .if2 .taken)),
-    )
+returns-2 c = (
+  c .look-last .ensures .0,
+  lines-last (now (c .before .before .before .before .before .before .before .before .before .before .before .before .args .ram)) (c .before .before .before .before .before .before .before .before .before .before .before .before .args .sought) (now (c .before .before .before .before .before .before .before .before .before .before .before .before .args .rows)) (c .before .before .before .before .before .before .before .before .before .before .before .before .args .already) (c .before .before .before .before .before .before .before .before .before .before .before .before .args .lines) (c .before .before .before .before .before .before .before .before .before .before .before .before .args .descriptor) (c .before .before .before .before .before .before .before .before .before .loop .rows) (c .before .before .before .before .before .before .before .before .before .loop .listed) (c .before .before .before .before .before .before .before .before .before .loop .left) (c .before .before .before .before .before .before .before .before .before .loop .p) (c .before .before .before .before .before .before .before .before .before .loop .inv .2) (c .before .before .before .before .before .before .before .before .before .loop .inv .0) _ _ (c .before .before .before .before .before .before .before .before .loop-test .taken) (c .before .before .before .before .before .before .before .if1 .left) (c .before .before .before .before .before .shared-slice-known3 .given (2 * c .before .before .before .before .before .before .before .before .before .loop .p + 1) .fits) (c .look-last .ensures .1)
+      (omega (arith, c .before .before .before .before .begun-lines .ensures, c .before .before .before .if2 .taken)),
+)
 
 look-whole-requires : tie.Need-look-whole-requires Inv-loop μ-loop
 look-whole-requires c κs = (c .before .before .before .before .before .before .before .before .loop .inv .1, c .before .before .before .before .before .before .before .before .before .before .before .pre .1 .1)
 
 returns-3 : tie.Need-returns-3 Inv-loop μ-loop
 returns-3 c =
-    let a = c .before .before .before .before .before .before .before .before .before .before .before .before .before .args in
-    let l = c .before .before .before .before .before .before .before .before .before .before .loop in
-    let b = c .before .before .before .before .before .before .shared-slice-known3 .given (2 * l .p + 1) .fits in (
+    let b = c .before .before .before .before .before .before .shared-slice-known3 .given (2 * c .before .before .before .before .before .before .before .before .before .before .loop .p + 1) .fits in (
       c .before .look-whole .ensures .0,
-      lines-found (now (a .ram)) (a .sought) (now (a .rows)) (a .already) (a .lines) (a .descriptor) (l .rows) (l .listed) (l .left) (l .p) (l .inv .2) (l .inv .0) _ _ (c .before .before .before .before .before .before .before .before .before .loop-test .taken) (c .before .before .before .before .before .before .before .before .if1 .left) b
-          (begun-whole (a .sought) (getD (now (a .ram)) (2 * l .p) 0) (getD (now (a .ram)) (2 * l .p + 1) 0) (l .left) _ _ _ _ b (omega (arith, c .before .before .before .before .before .begun-lines .ensures, c .before .before .before .before .if2 .left)) (c .before .look-whole .ensures .1)) _ (c .if3 .taken),
+      lines-found (now (c .before .before .before .before .before .before .before .before .before .before .before .before .before .args .ram)) (c .before .before .before .before .before .before .before .before .before .before .before .before .before .args .sought) (now (c .before .before .before .before .before .before .before .before .before .before .before .before .before .args .rows)) (c .before .before .before .before .before .before .before .before .before .before .before .before .before .args .already) (c .before .before .before .before .before .before .before .before .before .before .before .before .before .args .lines) (c .before .before .before .before .before .before .before .before .before .before .before .before .before .args .descriptor) (c .before .before .before .before .before .before .before .before .before .before .loop .rows) (c .before .before .before .before .before .before .before .before .before .before .loop .listed) (c .before .before .before .before .before .before .before .before .before .before .loop .left) (c .before .before .before .before .before .before .before .before .before .before .loop .p) (c .before .before .before .before .before .before .before .before .before .before .loop .inv .2) (c .before .before .before .before .before .before .before .before .before .before .loop .inv .0) _ _ (c .before .before .before .before .before .before .before .before .before .loop-test .taken) (c .before .before .before .before .before .before .before .before .if1 .left) b
+          (begun-whole (c .before .before .before .before .before .before .before .before .before .before .before .before .before .args .sought) (getD (now (c .before .before .before .before .before .before .before .before .before .before .before .before .before .args .ram)) (2 * c .before .before .before .before .before .before .before .before .before .before .loop .p) 0) (getD (now (c .before .before .before .before .before .before .before .before .before .before .before .before .before .args .ram)) (2 * c .before .before .before .before .before .before .before .before .before .before .loop .p + 1) 0) (c .before .before .before .before .before .before .before .before .before .before .loop .left) _ _ _ _ b (omega (arith, c .before .before .before .before .before .begun-lines .ensures, c .before .before .before .before .if2 .left)) (c .before .look-whole .ensures .1)) _ (c .if3 .taken),
     )
 
 add-p : tie.Need-add-p Inv-loop μ-loop
 add-p c = search needs
 
 loop-less : tie.Need-loop-less Inv-loop μ-loop
-loop-less c =
-    let a = c .before .before .before .before .before .before .before .before .before .before .before .before .before .args in
-    let l = c .before .before .before .before .before .before .before .before .before .before .loop in
-    omega (arith, c .before .before .before .before .before .begun-lines .ensures, c .before .before .before .before .if2 .left, c .before .before .before .before .before .before .before .before .before .loop-test .taken, begun-some (a .sought .height) (getD (now (a .ram)) (2 * l .p) 0) (getD (now (a .ram)) (2 * l .p + 1) 0) (c .before .before .before .before .before .before .before .before .before .before .before .before .before .pre .1 .1 .some))
+loop-less c = omega (arith, c .before .before .before .before .before .begun-lines .ensures, c .before .before .before .before .if2 .left, c .before .before .before .before .before .before .before .before .before .loop-test .taken, begun-some (c .before .before .before .before .before .before .before .before .before .before .before .before .before .args .sought .height) (getD (now (c .before .before .before .before .before .before .before .before .before .before .before .before .before .args .ram)) (2 * c .before .before .before .before .before .before .before .before .before .before .loop .p) 0) (getD (now (c .before .before .before .before .before .before .before .before .before .before .before .before .before .args .ram)) (2 * c .before .before .before .before .before .before .before .before .before .before .loop .p + 1) 0) (c .before .before .before .before .before .before .before .before .before .before .before .before .before .pre .1 .1 .some))
 
 loop-again : tie.Need-loop-again Inv-loop μ-loop
 loop-again c =
-    let a = c .before .before .before .before .before .before .before .before .before .before .before .before .before .args in
-    let l = c .before .before .before .before .before .before .before .before .before .before .loop in
-    let b = c .before .before .before .before .before .before .shared-slice-known3 .given (2 * l .p + 1) .fits in (
+    let b = c .before .before .before .before .before .before .shared-slice-known3 .given (2 * c .before .before .before .before .before .before .before .before .before .before .loop .p + 1) .fits in (
       search needs,
       c .before .look-whole .ensures .0,
       rw (c .before .before .before .before .before .begun-lines .ensures)
-          (sum-on (now (a .ram)) (a .sought) (now (a .rows)) (a .already) (a .lines) (a .descriptor) (l .rows) (l .listed) (l .left) (l .p) (l .inv .2) (l .inv .0) _ _ (c .before .before .before .before .before .before .before .before .before .loop-test .taken) (c .before .before .before .before .before .before .before .before .if1 .left) b
-          (begun-whole (a .sought) (getD (now (a .ram)) (2 * l .p) 0) (getD (now (a .ram)) (2 * l .p + 1) 0) (l .left) _ _ _ _ b (omega (arith, c .before .before .before .before .before .begun-lines .ensures, c .before .before .before .before .if2 .left)) (c .before .look-whole .ensures .1)) (c .if3 .left)),
+          (sum-on (now (c .before .before .before .before .before .before .before .before .before .before .before .before .before .args .ram)) (c .before .before .before .before .before .before .before .before .before .before .before .before .before .args .sought) (now (c .before .before .before .before .before .before .before .before .before .before .before .before .before .args .rows)) (c .before .before .before .before .before .before .before .before .before .before .before .before .before .args .already) (c .before .before .before .before .before .before .before .before .before .before .before .before .before .args .lines) (c .before .before .before .before .before .before .before .before .before .before .before .before .before .args .descriptor) (c .before .before .before .before .before .before .before .before .before .before .loop .rows) (c .before .before .before .before .before .before .before .before .before .before .loop .listed) (c .before .before .before .before .before .before .before .before .before .before .loop .left) (c .before .before .before .before .before .before .before .before .before .before .loop .p) (c .before .before .before .before .before .before .before .before .before .before .loop .inv .2) (c .before .before .before .before .before .before .before .before .before .before .loop .inv .0) _ _ (c .before .before .before .before .before .before .before .before .before .loop-test .taken) (c .before .before .before .before .before .before .before .before .if1 .left) b
+          (begun-whole (c .before .before .before .before .before .before .before .before .before .before .before .before .before .args .sought) (getD (now (c .before .before .before .before .before .before .before .before .before .before .before .before .before .args .ram)) (2 * c .before .before .before .before .before .before .before .before .before .before .loop .p) 0) (getD (now (c .before .before .before .before .before .before .before .before .before .before .before .before .before .args .ram)) (2 * c .before .before .before .before .before .before .before .before .before .before .loop .p + 1) 0) (c .before .before .before .before .before .before .before .before .before .before .loop .left) _ _ _ _ b (omega (arith, c .before .before .before .before .before .begun-lines .ensures, c .before .before .before .before .if2 .left)) (c .before .look-whole .ensures .1)) (c .if3 .left)),
     )
 
-miss-requires : tie.Need-miss-requires Inv-loop μ-loop
-miss-requires c κs = search needs
-
 returns-4 : tie.Need-returns-4 Inv-loop μ-loop
-returns-4 c =
-    let a = c .before .before .before .before .before .args in
-    let l = c .before .before .loop in
-    rw (c .miss .ensures) (l .inv .1, lines-over (now (a .ram)) (a .sought) (now (a .rows)) (a .already) (a .lines) (a .descriptor) (l .rows) (l .listed) (l .left) (l .p) (l .inv .2) (l .inv .0) (c .before .loop-test .left))
+returns-4 c = (c .before .loop .inv .1, lines-over (now (c .before .before .before .before .args .ram)) (c .before .before .before .before .args .sought) (now (c .before .before .before .before .args .rows)) (c .before .before .before .before .args .already) (c .before .before .before .before .args .lines) (c .before .before .before .before .args .descriptor) (c .before .loop .rows) (c .before .loop .listed) (c .before .loop .left) (c .before .loop .p) (c .before .loop .inv .2) (c .before .loop .inv .0) (c .loop-test .left))
 
 pub look-lines-spec : {M : Type 1} → statement M
 look-lines-spec =
@@ -121,7 +100,6 @@ look-lines-spec =
     cast-own
     cast-p
     loop-holds
-    hit-requires
     returns
     mul-low
     shared-slice-read-low
@@ -136,5 +114,4 @@ look-lines-spec =
     add-p
     loop-less
     loop-again
-    miss-requires
     returns-4)

@@ -13,47 +13,26 @@ add-if1 c = search needs
 sub-if1 : tie.Need-sub-if1
 sub-if1 c = search needs
 
-hit-requires : tie.Need-hit-requires
-hit-requires c κs = search needs
-
 returns : tie.Need-returns
 returns c =
-    let a = c .before .before .before .before .args in
-    let p = c .before .before .before .before .pre in
-    rw (c .hit .ensures) (p .0, row-found (a .sought) (a .shown) (a .address) (now (a .rows)) (a .listed) (p .1 .cell) _ _ refl (c .before .if1 .taken))
+    let a = c .before .before .before .args in
+    let p = c .before .before .before .pre in
+    (p .0, row-found (a .sought) (a .shown) (a .address) (now (a .rows)) (a .listed) (p .1 .cell) _ _ refl (c .if1 .taken))
 
 list-row-requires : tie.Need-list-row-requires
 list-row-requires c κs = search needs
 
-miss-requires : tie.Need-miss-requires
-miss-requires c κs = search needs
-
 returns-2 : tie.Need-returns-2
 returns-2 c =
-    let a = c .before .before .before .before .before .before .before .before .args in
-    let p = c .before .before .before .before .before .before .before .before .pre in
-    rw (c .miss .ensures)
-    (c .before .list-row .ensures .kept, row-listed (a .sought) (a .shown) (a .address) (now (a .rows)) (a .listed) (p .1 .cell) _ _ _ (c .before .before .before .before .before .if1 .left) (c .before .before .before .before .if2 .taken) (c .before .list-row .ensures))
-
-miss-requires-2 : tie.Need-miss-requires-2
-miss-requires-2 c κs = search needs
+    let a = c .before .before .before .before .before .before .before .args in
+    let p = c .before .before .before .before .before .before .before .pre in
+    (c .list-row .ensures .kept, row-listed (a .sought) (a .shown) (a .address) (now (a .rows)) (a .listed) (p .1 .cell) _ _ _ (c .before .before .before .before .if1 .left) (c .before .before .before .if2 .taken) (c .list-row .ensures))
 
 returns-3 : tie.Need-returns-3
 returns-3 c =
-    let a = c .before .before .before .before .before .args in
-    let p = c .before .before .before .before .before .pre in
-    rw (c .miss2 .ensures) (p .0, row-passed (a .sought) (a .shown) (a .address) (now (a .rows)) (a .listed) (p .1 .cell) (c .before .before .if1 .left) (c .before .if2 .left))
+    let a = c .before .before .before .before .args in
+    let p = c .before .before .before .before .pre in
+    (p .0, row-passed (a .sought) (a .shown) (a .address) (now (a .rows)) (a .listed) (p .1 .cell) (c .before .if1 .left) (c .if2 .left))
 
 pub look-row-spec : {M : Type 1} → statement M
-look-row-spec =
-    tie.close
-    (tie.spec
-    add-if1
-    sub-if1
-    hit-requires
-    returns
-    list-row-requires
-    miss-requires
-    returns-2
-    miss-requires-2
-    returns-3)
+look-row-spec = tie.close (tie.spec add-if1 sub-if1 returns list-row-requires returns-2 returns-3)

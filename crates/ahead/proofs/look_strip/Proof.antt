@@ -10,32 +10,23 @@ use Rattle.ahead.proofs.Looks.{strip-empty, strip-spaced, strip-dark, s
 use Rattle.ahead.proofs.look_strip.Statement.{statement}
 use Rattle.ahead.proofs.look_strip.Tie as tie
 
-miss-requires : tie.Need-miss-requires
-miss-requires c κs = search needs
-
 returns : tie.Need-returns
 returns c =
-    let a = c .before .before .args in
-    let p = c .before .before .pre in
-    rw (c .miss .ensures) (p .0, strip-empty (a .sought) (a .strip) (a .k) (now (a .rows)) 0 (c .before .if1 .taken))
+    let a = c .before .args in
+    let p = c .before .pre in
+    (p .0, strip-empty (a .sought) (a .strip) (a .k) (now (a .rows)) 0 (c .if1 .taken))
 
 enum-told : tie.Need-enum-told
 enum-told c = search needs
 
-miss-requires-2 : tie.Need-miss-requires-2
-miss-requires-2 c κs = search needs
-
 enum-known-strip : tie.Need-enum-known-strip
 enum-known-strip c = search needs
 
-miss-requires-3 : tie.Need-miss-requires-3
-miss-requires-3 c κs = search needs
-
 returns-2 : tie.Need-returns-2
 returns-2 c =
-    let a = c .before .before .before .before .before .before .args in
-    let p = c .before .before .before .before .before .before .pre in
-    rw (c .miss3 .ensures) (p .0, strip-dark (a .sought) (a .strip) (a .k) (now (a .rows)) 0 (c .before .before .before .strip .given .1) (not-true _ (c .before .if2 .taken)))
+    let a = c .before .before .before .before .before .args in
+    let p = c .before .before .before .before .before .pre in
+    (p .0, strip-dark (a .sought) (a .strip) (a .k) (now (a .rows)) 0 (c .before .before .strip .given .1) (not-true _ (c .if2 .taken)))
 
 user-shown-requires : tie.Need-user-shown-requires
 user-shown-requires c κs =
@@ -49,28 +40,23 @@ look-row-requires c κs = search needs
 
 returns-3 : tie.Need-returns-3
 returns-3 c =
-    let a = c .before .before .before .before .args in
-    let p = c .before .before .before .before .pre in
-    rw (c .miss2 .ensures) (p .0, strip-spaced (a .sought) (a .strip) (a .k) (now (a .rows)) 0 (c .before .enum-told .given .1))
+    let a = c .before .before .before .args in
+    let p = c .before .before .before .pre in
+    (p .0, strip-spaced (a .sought) (a .strip) (a .k) (now (a .rows)) 0 (c .enum-told .given .1))
 
 returns-4 : tie.Need-returns-4
 returns-4 c =
     let a = c .before .before .before .before .before .before .before .before .before .args in
-    let p = c .before .before .before .before .before .before .before .before .before .pre in (
-      c .look-row .ensures .0,
-      strip-shown (a .sought) (a .strip) (a .k) (now (a .rows)) 0 (c .before .before .before .before .before .before .strip .given .1) _ _ _ (not-false _ (c .before .before .before .before .if2 .left)) (omega (arith, c .before .before .before .before .before .before .before .before .if1 .left)) (p .1 .1) (c .before .before .before .user-shown .ensures) (c .look-row .ensures .1),
-    )
+    let p = c .before .before .before .before .before .before .before .before .before .pre in
+    (c .look-row .ensures .0, strip-shown (a .sought) (a .strip) (a .k) (now (a .rows)) 0 (c .before .before .before .before .before .before .strip .given .1) _ _ _ (not-false _ (c .before .before .before .before .if2 .left)) (omega (arith, c .before .before .before .before .before .before .before .before .if1 .left)) (p .1 .1) (c .before .before .before .user-shown .ensures) (c .look-row .ensures .1))
 
 pub look-strip-spec : {M : Type 1} → statement M
 look-strip-spec =
     tie.close
     (tie.spec
-    miss-requires
     returns
     enum-told
-    miss-requires-2
     enum-known-strip
-    miss-requires-3
     returns-2
     user-shown-requires
     look-row-requires

@@ -9,14 +9,11 @@ use Rattle.ahead.proofs.Looks.{begun-dark, begun-shown, whole-begun}
 use Rattle.ahead.proofs.look_whole.Statement.{statement}
 use Rattle.ahead.proofs.look_whole.Tie as tie
 
-miss-requires : tie.Need-miss-requires
-miss-requires c κs = search needs
-
 returns : tie.Need-returns
 returns c =
-    let a = c .before .before .args in
-    let p = c .before .before .pre in
-    rw (c .miss .ensures) (p .0, begun-dark (a .sought) (a .low) (a .high) (begunLines (a .sought .height) (a .low) (a .high)) (now (a .rows)) (a .listed) (c .before .if1 .taken))
+    let a = c .before .args in
+    let p = c .before .pre in
+    (p .0, begun-dark (a .sought) (a .low) (a .high) (begunLines (a .sought .height) (a .low) (a .high)) (now (a .rows)) (a .listed) (c .if1 .taken))
 
 cast-address : tie.Need-cast-address
 cast-address c = search needs
@@ -43,12 +40,4 @@ returns-2 c =
 
 pub look-whole-spec : {M : Type 1} → statement M
 look-whole-spec =
-    tie.close
-    (tie.spec
-    miss-requires
-    returns
-    cast-address
-    mul-address
-    add-address
-    look-row-requires
-    returns-2)
+    tie.close (tie.spec returns cast-address mul-address add-address look-row-requires returns-2)
