@@ -234,13 +234,16 @@ silence xs ram kind byte u = by (eqb (length xs) 32 && not (ltb 3 kind)) (not (e
   where
     e : Event
     e = eventOf kind byte
+
     s : Step
     s = step (busIn xs) e
+
     r : BusOutcome
     r = record { bus = busIn xs; registers = registersIn xs; ram = ram; reply = refused RamLength }
+
     by : (p t : Bool) → not (eqb (length ram) 1024) ≡ t
         → let o : BusOutcome = cond t r (taken s (registersIn xs) ram) in
-          (o .reply .refusal ≡ 0 → ⊥) → cond p (heardOn xs o) (record { device = xs; ram = ram; answer = notTaken }) .device ≡ xs
+        (o .reply .refusal ≡ 0 → ⊥) → cond p (heardOn xs o) (record { device = xs; ram = ram; answer = notTaken }) .device ≡ xs
     by false t q n = refl
     by true true q n = refl
     by true false q n =
@@ -253,9 +256,10 @@ start-silence xs lines = by (eqb (length xs) 32) (eqb lines 0 || ltb 2048 lines)
   where
     d : Device
     d = deviceIn xs
+
     by : (p t : Bool)
         → let o : StartOutcome = cond t (record { device = d; reply = refused FrameLines }) (record { device = inFrame d lines; reply = accepted 0 }) in
-          (o .reply .refusal ≡ 0 → ⊥) → cond p (startedOn xs o) (record { device = xs; answer = notTaken }) .device ≡ xs
+        (o .reply .refusal ≡ 0 → ⊥) → cond p (startedOn xs o) (record { device = xs; answer = notTaken }) .device ≡ xs
     by false t n = refl
     by true true n = refl
     by true false n = absurd (n refl)
@@ -267,11 +271,12 @@ draw-silence xs ram font line =
   where
     d : Device
     d = deviceIn xs
+
     by : (a p q r t : Bool)
         → let o : DrawOutcome =
-              cond p (notDrawn d line RamLength)
-              (cond q (notDrawn d line FontLength) (cond r (notDrawn d line NoLine) (cond t (notDrawn d line LineLength) (lineDrawn d ram font line)))) in
-          (o .reply .refusal ≡ 0 → ⊥) → cond a (drawnOn xs o) (record { device = xs; line = line; answer = notTaken }) .device ≡ xs
+        cond p (notDrawn d line RamLength)
+        (cond q (notDrawn d line FontLength) (cond r (notDrawn d line NoLine) (cond t (notDrawn d line LineLength) (lineDrawn d ram font line)))) in
+        (o .reply .refusal ≡ 0 → ⊥) → cond a (drawnOn xs o) (record { device = xs; line = line; answer = notTaken }) .device ≡ xs
     by false p q r t n = refl
     by true true q r t n = refl
     by true false true r t n = refl
@@ -288,7 +293,7 @@ deafness xs ram byte h k s a b = rw (eq-eqb _ _ h, eq-eqb _ _ k, s, ne-eqb _ _ a
 
 bus-rest : (xs ram : List ℕ) (kind byte : ℕ) → length xs ≡ 32 → kind ≤ 3
     → let o : EventOutcome = hearEvent (deviceIn xs) ram (eventOf kind byte) in
-      let r : BusDone = busOn xs ram kind byte in (r .ram ≡ o .ram) × (r .answer ≡ answerOf (o .reply))
+    let r : BusDone = busOn xs ram kind byte in (r .ram ≡ o .ram) × (r .answer ≡ answerOf (o .reply))
 unfolding busOn heardOn
 bus-rest xs ram kind byte h k = rw (eq-eqb _ _ h, le-ltb _ _ k) (refl, refl)
 
@@ -298,7 +303,7 @@ start-rest xs lines h = rw (eq-eqb _ _ h)
 
 draw-rest : (xs ram font line : List ℕ) → length xs ≡ 32
     → let o : DrawOutcome = drawLine (deviceIn xs) ram font line in
-      let r : DrawDone = drawOn xs ram font line in (r .line ≡ o .line) × (r .answer ≡ answerOf (o .reply))
+    let r : DrawDone = drawOn xs ram font line in (r .line ≡ o .line) × (r .answer ≡ answerOf (o .reply))
 unfolding drawOn drawnOn
 draw-rest xs ram font line h = rw (eq-eqb _ _ h) (refl, refl)
 
@@ -312,6 +317,7 @@ no-kind xs ram kind byte k = rw (lt-ltb _ _ k) (by (eqb (length xs) 32))
   where
     o : BusDone
     o = record { device = xs; ram = ram; answer = notTaken }
+
     by : (t : Bool) → cond (t && false) (heardOn xs (touched (hearEvent (deviceIn xs) ram (eventOf kind byte)))) o ≡ o
     by true = refl
     by false = refl

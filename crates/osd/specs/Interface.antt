@@ -133,13 +133,13 @@ pub record Crossing : Type 0 where
   pub fresh : (xs : List ℕ) → length xs ≡ 32 → (deviceIn (freshOn xs .device) ≡ freshDevice) × (freshOn xs .answer ≡ 0)
   pub bus : (xs ram : List ℕ) (kind byte : ℕ) → length xs ≡ 32 → kind ≤ 3
       → let o : EventOutcome = hearEvent (deviceIn xs) ram (eventOf kind byte) in
-        let r : BusDone = busOn xs ram kind byte in (deviceIn (r .device) ≡ o .device) × (r .ram ≡ o .ram) × (r .answer ≡ answerOf (o .reply))
+      let r : BusDone = busOn xs ram kind byte in (deviceIn (r .device) ≡ o .device) × (r .ram ≡ o .ram) × (r .answer ≡ answerOf (o .reply))
   pub start : (xs : List ℕ) (lines : ℕ) → length xs ≡ 32
       → let o : StartOutcome = startFrame (deviceIn xs) lines in
-        let r : Done = startOn xs lines in (deviceIn (r .device) ≡ o .device) × (r .answer ≡ answerOf (o .reply))
+      let r : Done = startOn xs lines in (deviceIn (r .device) ≡ o .device) × (r .answer ≡ answerOf (o .reply))
   pub draw : (xs ram font line : List ℕ) → length xs ≡ 32
       → let o : DrawOutcome = drawLine (deviceIn xs) ram font line in
-        let r : DrawDone = drawOn xs ram font line in (deviceIn (r .device) ≡ o .device) × (r .line ≡ o .line) × (r .answer ≡ answerOf (o .reply))
+      let r : DrawDone = drawOn xs ram font line in (deviceIn (r .device) ≡ o .device) × (r .line ≡ o .line) × (r .answer ≡ answerOf (o .reply))
   pub cell : (xs ram : List ℕ) (c : ℕ) → length xs ≡ 32 → cellOn xs ram c ≡ answerOf (askCell (deviceIn xs) ram c)
   -- refused with 255: nothing changes
   pub not-taken : (xs ram font line : List ℕ) (kind byte lines c : ℕ) → (length xs ≡ 32 → ⊥)
