@@ -1,36 +1,36 @@
 -- Each call of the interface, from what the device's function returned: the cases of the definitions.
 -- Assumes nothing.
 use Prim.Native.Nat.{ℕ, suc, _+_, _-_, _%_, _≤_, _<_}
-use mathlib.Core.Path.{_≡_, refl, sym, ap, ap₂, _∙_}
+use mathlib.Core.Path.{_≡_, refl, sym, ap, ap₂, subst, _∙_}
 use mathlib.Core.Bool.{Bool, true, false, cond}
 use mathlib.Core.List.{List, _∷_, _++_}
 use native.Mathlib.Omega.{arith}
-use borrow.Author.Tests.{eq-eqb, ne-eqb, lt-ltb, le-ltb}
-use lib.Dec.{eqb}
+use borrow.Author.Tests.{eq-eqb, ne-eqb, lt-ltb, le-ltb, eqb-true}
+use lib.Dec.{T, eqb}
 use lib.Bits.{bitAnd}
 use lib.ListN.{length, getD, take, drop, set, take-append-drop, length-take, length-drop}
-use lib.Seq.{drop-drop, set-append-left, length-take-le, getD-take, getD-drop}
+use lib.Seq.{set-getD, drop-drop, set-append-left, length-take-le, getD-take, getD-drop}
 use Rattle.refusals.specs.declared.Refusal.{Refusal}
 use Rattle.refusals.specs.declared.Refusal.the-variants.{RamLength, FontLength, LineLength, NoLine, NotAcknowledged, FrameLines, BenchLength, CellRange}
 use Rattle.refusals.specs.Refusals.{numberOf, refused}
 use Rattle.registers.specs.declared.Registers.{Registers}
 use Rattle.registers.specs.Registers.{kept, stored}
 use Rattle.bus.specs.declared.State.{State}
-use Rattle.bus.specs.declared.State.the-variants.{Write, Read}
+use Rattle.bus.specs.declared.State.the-variants.{Idle, Deaf, Slave, High, Low, Write, Read}
 use Rattle.bus.specs.declared.Bus.{Bus}
 use Rattle.bus.specs.declared.Step.{Step}
 use Rattle.bus.specs.declared.Event.{Event}
 use Rattle.bus.specs.declared.Event.the-variants.{Byte, Fetch}
 use Rattle.bus.specs.declared.Effect.{Effect}
 use Rattle.bus.specs.declared.Effect.the-variants.{Acknowledge, Ignore, Store, Load}
-use Rattle.bus.specs.Bus.{eventOf, step, isRegister, registersWith, ramWith, answerTo, taken, busEvent, byteIn}
+use Rattle.bus.specs.Bus.{eventOf, ignores, fetchAt, step, isRegister, registersWith, ramWith, answerTo, taken, busEvent, byteIn}
 use Rattle.device.specs.declared.Device.{Device}
 use Rattle.device.specs.declared.StartDone.{StartDone}
 use Rattle.device.specs.declared.DrawDone.{DrawDone}
 use Rattle.device.specs.declared.StartAnswer.the-variants as start
 use Rattle.device.specs.declared.DrawAnswer.the-variants as draw
 use Rattle.device.specs.Device.{freshDevice, hearEvent, startOutcome, startFrame, drawOutcome, drawLine, askCell}
-use Rattle.layout.specs.Layout.{busBytes, busIn, registersIn, frameBytes, deviceBytes, deviceIn}
+use Rattle.layout.specs.Layout.{stateNumber, busBytes, busIn, registersIn, frameBytes, deviceBytes, deviceIn}
 use Rattle.osd.specs.Interface as osd
 use Rattle.osd.specs.Interface.{answerOf, notTaken, freshOn, ignoredOn, heardOn, stepOn, eventOn, touched, busOn, storedOn, startedOn, startOn, drawnOn, drawOn, cellOn}
 
@@ -183,6 +183,30 @@ pub applied-ignore : (xs ram ys : List ℕ) (s : Step) (a : ℕ) → s .effect �
 unfolding heardOn taken registersWith ramWith answerTo
 applied-ignore xs ram ys s a q e p = rw q (λ i. record { device = e i; ram = ram; answer = p i })
 
+-- ---- an event that is not acknowledged
+
+-- deaf is number 1, and no other number is deaf
+deaf-by : (a b c d e f : Bool) (held : ℕ)
+    → eqb (stateNumber (cond a Deaf (cond b Slave (cond c High (cond d (Low held) (cond e Write (cond f Read Idle))))))) 1 ≡ a
+deaf-by true b c d e f held = refl
+deaf-by false true c d e f held = refl
+deaf-by false false true d e f held = refl
+deaf-by false false false true e f held = refl
+deaf-by false false false false true f held = refl
+deaf-by false false false false false true held = refl
+deaf-by false false false false false false held = refl
+
+-- where the state stays, no byte changes
+pub ignored-same : (xs : List ℕ) → ignoredOn (busIn xs .state) xs ≡ xs
+ignored-same xs = rw (deaf-by (eqb n 1) (eqb n 2) (eqb n 3) (eqb n 4) (eqb n 5) (eqb n 6) (getD xs 1 0)) (by (eqb n 1) refl)
+  where
+    n : ℕ
+    n = getD xs 0 0
+
+    by : (t : Bool) → eqb n 1 ≡ t → cond t (set xs 0 1) xs ≡ xs
+    by true p = ap (set xs 0) (sym (eqb-true n 1 p)) ∙ set-getD xs 0 0
+    by false p = refl
+
 -- ---- a data byte and a fetch, seen by the number of the state
 
 -- the bus with its counter gone up
@@ -211,6 +235,51 @@ module _ (xs ram ys : List ℕ) (n : ℕ) (h : length xs ≡ 32) (p : n ≡ busI
     where
       by : step (busIn xs) Fetch ≡ record { bus = up Read (busIn xs .counter); effect = Load (busIn xs .counter % 0x4000) }
       by = rw six
+
+-- a fetch while not reading: no other number is reading
+abbrev isRead : State → Bool
+isRead Idle = false
+isRead Deaf = false
+isRead Slave = false
+isRead High = false
+isRead (Low high) = false
+isRead Write = false
+isRead Read = true
+
+read-by : (a b c d e : Bool) (held : ℕ) → T (isRead (cond a Deaf (cond b Slave (cond c High (cond d (Low held) (cond e Write Idle)))))) → ⊥
+read-by true b c d e held t = t
+read-by false true c d e held t = t
+read-by false false true d e held t = t
+read-by false false false true e held t = t
+read-by false false false false true held t = t
+read-by false false false false false held t = t
+
+not-reading : (xs : List ℕ) → (getD xs 0 0 ≡ 6 → ⊥) → busIn xs .state ≡ Read → ⊥
+not-reading xs n p =
+    let m = getD xs 0 0 in
+    let h = getD xs 1 0 in
+    read-by (eqb m 1) (eqb m 2) (eqb m 3) (eqb m 4) (eqb m 5) h
+    (subst (λ (f : Bool). T (isRead (cond (eqb m 1) Deaf (cond (eqb m 2) Slave (cond (eqb m 3) High (cond (eqb m 4) (Low h) (cond (eqb m 5) Write (cond f Read Idle))))))))
+    (ne-eqb _ _ n) (subst (λ (s : State). T (isRead s)) (sym p) tt))
+
+ignored-fetch : (b : Bus) → (b .state ≡ Read → ⊥) → step b Fetch ≡ ignores b
+unfolding step
+ignored-fetch b = by (b .state) refl
+  where
+    by : (s : State) → b .state ≡ s → (s ≡ Read → ⊥) → fetchAt s b ≡ ignores b
+    by Idle p n = refl
+    by Deaf p n = refl
+    by Slave p n = refl
+    by High p n = refl
+    by (Low high) p n = refl
+    by Write p n = refl
+    by Read p n = absurd (n refl)
+
+pub not-fetched : (xs ram : List ℕ) (a : ℕ) → (getD xs 0 0 ≡ 6 → ⊥) → a ≡ answerOf (refused NotAcknowledged)
+    → _≡_ {A = osd.BusDone} (record { device = xs; ram = ram; answer = a }) (eventOn xs ram Fetch)
+not-fetched xs ram a n p =
+    applied-ignore xs ram xs (ignores (busIn xs)) a refl (sym (ignored-same xs)) p
+    ∙ ap (stepOn xs ram) (sym (ignored-fetch (busIn xs) (not-reading xs n)))
 
 -- ---- bus event
 

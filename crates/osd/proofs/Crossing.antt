@@ -27,31 +27,9 @@ use Rattle.device.specs.Device.{freshDevice, EventOutcome, hearEvent, StartOutc
 use Rattle.layout.specs.Layout.{stateNumber, stateOf, busBytes, busIn, registersIn, frameBytes, frameIn, deviceBytes, deviceIn}
 use Rattle.layout.proofs.Laws.{frame-alike, read-back, event-back, start-back, draw-back}
 use Rattle.osd.specs.Interface.{answerOf, notTaken, Done, freshOn, BusDone, ignoredOn, heardOn, touched, busOn, startedOn, startOn, DrawDone, drawnOn, drawOn, cellOn, Crossing}
-use Rattle.osd.proofs.Calls.{fresh-not, bus-not-record, start-not, draw-not, cell-not}
+use Rattle.osd.proofs.Calls.{ignored-same, fresh-not, bus-not-record, start-not, draw-not, cell-not}
 
 -- ---- an event that is not acknowledged
-
--- deaf is number 1, and no other number is deaf
-deaf-by : (a b c d e f : Bool) (held : ℕ)
-    → eqb (stateNumber (cond a Deaf (cond b Slave (cond c High (cond d (Low held) (cond e Write (cond f Read Idle))))))) 1 ≡ a
-deaf-by true b c d e f held = refl
-deaf-by false true c d e f held = refl
-deaf-by false false true d e f held = refl
-deaf-by false false false true e f held = refl
-deaf-by false false false false true f held = refl
-deaf-by false false false false false true held = refl
-deaf-by false false false false false false held = refl
-
--- where the state stays, no byte changes
-ignored-same : (xs : List ℕ) → ignoredOn (busIn xs .state) xs ≡ xs
-ignored-same xs = rw (deaf-by (eqb n 1) (eqb n 2) (eqb n 3) (eqb n 4) (eqb n 5) (eqb n 6) (getD xs 1 0)) (by (eqb n 1) refl)
-  where
-    n : ℕ
-    n = getD xs 0 0
-
-    by : (t : Bool) → eqb n 1 ≡ t → cond t (set xs 0 1) xs ≡ xs
-    by true p = ap (set xs 0) (sym (eqb-true n 1 p)) ∙ set-getD xs 0 0
-    by false p = refl
 
 abbrev isIgnore : Effect → Bool
 isIgnore Acknowledge = false

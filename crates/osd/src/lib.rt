@@ -196,12 +196,12 @@ pub extern "C" fn osd_bus(device: &mut [u8], ram: &mut [u8], kind: u8, byte: u8)
         if state == WRITING {
             return write_next(device, ram, byte);
         }
-    } else {
+    }
+    if kind == 2 {
         if state == READING {
-            if kind == 2 {
-                return read_next(device, ram);
-            }
+            return read_next(device, ram);
         }
+        return refuse(Refusal::NotAcknowledged);
     }
     let bus = layout::bus_in(device);
     apply(device, ram, bus.take(Event::of_kind(kind, byte)))

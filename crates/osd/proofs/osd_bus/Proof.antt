@@ -5,7 +5,7 @@ use mathlib.Core.Path.{sym, ap}
 use borrow.Author.Needs.{needs}
 use Rattle.bus.specs.declared.Event.the-variants.{Byte, Fetch}
 use Rattle.bus.specs.Bus.{eventOf}
-use Rattle.osd.proofs.Calls.{bus-not-record, bus-not-kind, bus-refused, bus-heard, bus-applied}
+use Rattle.osd.proofs.Calls.{bus-not-record, bus-not-kind, bus-refused, bus-heard, bus-applied, not-fetched}
 use Rattle.osd.proofs.osd_bus.Statement.{statement}
 use Rattle.osd.proofs.osd_bus.Tie as tie
 
@@ -58,7 +58,18 @@ returns-5 c =
     let l = t .before .before .before in
     let b = (l .before .before .before .before .before .args .byte) in
     bus-heard _ _ _ b (l .before .before .if1 .left) (l .before .if2 .left) Fetch _
-    (l .if3 .left) (ap (λ (n : ℕ). eventOf n b) (sym (k .before .before .before .if7 .taken))) (k .read-next .ensures)
+    (l .if3 .left) (ap (λ (n : ℕ). eventOf n b) (sym (t .if6 .taken))) (k .read-next .ensures)
+
+refuse-requires-2 : tie.Need-refuse-requires-2
+refuse-requires-2 c κs = search needs
+
+returns-6 : tie.Need-returns-6
+returns-6 c =
+    let t = c .before .before in
+    let l = t .before .before .before in
+    let b = (l .before .before .before .before .before .args .byte) in
+    bus-heard _ _ _ b (l .before .before .if1 .left) (l .before .if2 .left) Fetch _
+    (l .if3 .left) (ap (λ (n : ℕ). eventOf n b) (sym (t .if6 .taken))) (not-fetched _ _ _ (c .before .if7 .left) (c .refuse2 .ensures))
 
 bus-in-requires : tie.Need-bus-in-requires
 bus-in-requires c κs = search needs
@@ -78,11 +89,11 @@ same-length-5 c = search needs
 same-length-6 : tie.Need-same-length-6
 same-length-6 c = search needs
 
-returns-6 : tie.Need-returns-6
-returns-6 c =
+returns-7 : tie.Need-returns-7
+returns-7 c =
     let k = c .before .before .before .before in
     let b = k .before .before .before .before .before in
-    let l = b .before .before .before .before in
+    let l = b .before .before .before .before .before in
     bus-applied _ _ _ _ (l .before .before .if1 .left) (l .before .if2 .left) (b .bus-in .result) (k .before .before .of-kind .result) (k .before .take .result) _
     (l .if3 .left) (b .bus-in .ensures) (k .before .before .of-kind .ensures) (k .before .take .ensures) (k .apply .ensures)
 
@@ -103,10 +114,12 @@ osd-bus-spec =
     same-length-3
     same-length-4
     returns-5
+    refuse-requires-2
+    returns-6
     bus-in-requires
     of-kind-requires
     take-requires
     apply-requires
     same-length-5
     same-length-6
-    returns-6)
+    returns-7)
