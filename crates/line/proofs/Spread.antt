@@ -17,7 +17,7 @@ use lib.Seq.{getD-append-add, drop-drop, drop-length}
 use Rattle.line.specs.declared.Ink.{Ink}
 use Rattle.line.specs.declared.Paint.{Paint}
 use Rattle.line.specs.Line.{inkOf, pixel, columns, shownBits}
-use Rattle.line.specs.Tables.{tabulate, inFour, facing, casting, maskTable, ofPixel, backs, fores, shows, paletteOf, paintOf, castsShadow, solid, shadowed, fourOf, twelveOf}
+use Rattle.line.specs.Tables.{tabulate, inFour, facing, casting, maskTable, ofPixel, fores, backs, backTable, shows, showTable, paintOf, castsShadow, solid, shadowed, fourOf, twelveOf}
 
 -- ---- tables
 
@@ -50,32 +50,35 @@ facing-at i h = first-at facing 32 _ i h
 
 pub casting-at : (i : ℕ) → i < 32 → getD maskTable (32 + i) 0 ≡ casting i
 unfolding maskTable
-casting-at i h = past-at facing 32 _ i ∙ tabulate-at casting 32 i h
+casting-at i h = past-at facing 32 _ i ∙ first-at casting 32 _ i h
 
-pub masks-length : length maskTable ≡ 64
+pub fore-at : (i : ℕ) → i < 16 → getD maskTable (64 + i) 0 ≡ fores i
+unfolding maskTable
+fore-at i h =
+    ap (λ (n : ℕ). getD (tabulate facing 0 32 ++ (tabulate casting 0 32 ++ tabulate fores 0 16)) n 0) (omega arith)
+    ∙ past-at facing 32 _ (32 + i)
+    ∙ past-at casting 32 _ i
+    ∙ tabulate-at fores 16 i h
+
+pub masks-length : length maskTable ≡ 80
 unfolding maskTable
 masks-length = simp (length-append, tabulate-length)
 
-module _ (plain : ℕ) (hidden : Bool) where
-  pub back-at : (i : ℕ) → i < 16 → getD (paletteOf plain hidden) i 0 ≡ backs plain i
-  unfolding paletteOf
-  back-at i h = first-at (backs plain) 16 _ i h
+pub back-at : (plain i : ℕ) → i < 16 → getD (backTable plain) i 0 ≡ backs plain i
+unfolding backTable
+back-at plain i h = tabulate-at (backs plain) 16 i h
 
-  pub fore-at : (i : ℕ) → i < 16 → getD (paletteOf plain hidden) (16 + i) 0 ≡ fores i
-  unfolding paletteOf
-  fore-at i h = past-at (backs plain) 16 _ i ∙ first-at fores 16 _ i h
+pub backs-length : (plain : ℕ) → length (backTable plain) ≡ 16
+unfolding backTable
+backs-length plain = tabulate-length (backs plain) 0 16
 
-  pub show-at : (i : ℕ) → i < 16 → getD (paletteOf plain hidden) (32 + i) 0 ≡ shows hidden i
-  unfolding paletteOf
-  show-at i h =
-      ap (λ (n : ℕ). getD (tabulate (backs plain) 0 16 ++ (tabulate fores 0 16 ++ tabulate (shows hidden) 0 16)) n 0) (omega arith)
-      ∙ past-at (backs plain) 16 _ (16 + i)
-      ∙ past-at fores 16 _ i
-      ∙ tabulate-at (shows hidden) 16 i h
+pub show-at : (hidden : Bool) (i : ℕ) → i < 16 → getD (showTable hidden) i 0 ≡ shows hidden i
+unfolding showTable
+show-at hidden i h = tabulate-at (shows hidden) 16 i h
 
-  pub palette-length : length (paletteOf plain hidden) ≡ 48
-  unfolding paletteOf
-  palette-length = simp (length-append, tabulate-length)
+pub shows-length : (hidden : Bool) → length (showTable hidden) ≡ 16
+unfolding showTable
+shows-length hidden = tabulate-length (shows hidden) 0 16
 
 -- ---- exclusive or and masks on bytes
 
@@ -288,22 +291,23 @@ module _ (i : ℕ) where
         two = omega arith;
       }
 
--- the paint of an ink
-abbrev pub painting : Ink → Paint
-painting ink =
+-- the paint of an ink, and the bits that are shown
+abbrev painting : Ink → ℕ → Paint
+painting ink kept =
     record {
       back = ofPixel (ink .back);
       fore = bitXor (ofPixel (ink .back)) (ofPixel (ink .fore));
       cast = bitXor (ofPixel (ink .back)) (ofPixel (ink .cast));
+      kept = kept;
     }
 
-module _ (ink : Ink) (hf : ink .fore < 256) (hc : ink .cast < 256) (hb : ink .back < 256) where
+module _ (ink : Ink) (kept : ℕ) (hf : ink .fore < 256) (hc : ink .cast < 256) (hb : ink .back < 256) where
   -- a change to a pixel, in a byte
   lane-change : (k i bit left p : ℕ) → Column k i bit left → p < 256 → lane k (bitXor (ofPixel (ink .back)) (ofPixel p)) ≡ bitXor (ink .back) p
   lane-change k i bit left p c h =
       lane-xor k (ofPixel (ink .back)) (ofPixel p) ∙ ap₂ bitXor (c .of-pixel (ink .back) hb) (c .of-pixel p h)
 
-  lane-shadowed : (k i bit left : ℕ) → Column k i bit left → lane k (shadowed (painting ink) i) ≡ pixel ink bit left
+  lane-shadowed : (k i bit left : ℕ) → Column k i bit left → lane k (shadowed (painting ink kept) i) ≡ pixel ink bit left
   unfolding shadowed
   lane-shadowed k i bit left c =
       lane-xor k _ _
@@ -314,17 +318,17 @@ module _ (ink : Ink) (hf : ink .fore < 256) (hc : ink .cast < 256) (hb : ink .ba
       (lane-and k _ _ ∙ ap₂ bitAnd (c .casts) (lane-change k i bit left (ink .cast) c hc)))
       ∙ chosen (ink .fore) (ink .cast) (ink .back) hf hc hb bit left (c .one) (c .two)
 
-  four-shadowed : (i : ℕ) → fourOf (shadowed (painting ink) i) ≡ fourColumns ink i
+  four-shadowed : (i : ℕ) → fourOf (shadowed (painting ink kept) i) ≡ fourColumns ink i
   unfolding fourOf
   four-shadowed i =
-      let n = shadowed (painting ink) i in
+      let n = shadowed (painting ink kept) i in
       let first : n % 256 ≡ lane 0 n = omega arith in
       ap₂ (λ (x : ℕ) (l : List ℕ). x ∷ l) (first ∙ lane-shadowed 0 i _ _ (column-0 i))
       (ap₂ (λ (x : ℕ) (l : List ℕ). x ∷ l) (lane-shadowed 8 i _ _ (column-1 i))
       (ap₂ (λ (x y : ℕ). x ∷ y ∷ []) (lane-shadowed 16 i _ _ (column-2 i)) (lane-shadowed 24 i _ _ (column-3 i))))
 
   -- where shadow is no other pixel than background
-  lane-solid : (k i bit left : ℕ) → ink .cast ≡ ink .back → Column k i bit left → lane k (solid (painting ink) i) ≡ pixel ink bit left
+  lane-solid : (k i bit left : ℕ) → ink .cast ≡ ink .back → Column k i bit left → lane k (solid (painting ink kept) i) ≡ pixel ink bit left
   unfolding solid
   lane-solid k i bit left e c =
       lane-xor k _ _
@@ -333,10 +337,10 @@ module _ (ink : Ink) (hf : ink .fore < 256) (hc : ink .cast < 256) (hb : ink .ba
       ∙ chosen-solid (ink .fore) (ink .cast) (ink .back) hf hc hb bit left (c .one)
       ∙ ap (λ (x : ℕ). cond (eqb bit 1) (ink .fore) (cond (eqb left 1) x (ink .back))) (sym e)
 
-  four-solid : (i : ℕ) → ink .cast ≡ ink .back → fourOf (solid (painting ink) i) ≡ fourColumns ink i
+  four-solid : (i : ℕ) → ink .cast ≡ ink .back → fourOf (solid (painting ink kept) i) ≡ fourColumns ink i
   unfolding fourOf
   four-solid i e =
-      let n = solid (painting ink) i in
+      let n = solid (painting ink kept) i in
       let first : n % 256 ≡ lane 0 n = omega arith in
       ap₂ (λ (x : ℕ) (l : List ℕ). x ∷ l) (first ∙ lane-solid 0 i _ _ e (column-0 i))
       (ap₂ (λ (x : ℕ) (l : List ℕ). x ∷ l) (lane-solid 8 i _ _ e (column-1 i))
@@ -366,22 +370,22 @@ columns-four ink bits h =
     (four-same ink (bits / 16 % 2) (bits / 8 % 2) (bits / 4 % 2) (bits / 2 % 2) (bits / 1 % 2) (bits % 32)
     (omega arith) (omega arith) (omega arith) (omega arith) (omega arith)))
 
-module _ (ink : Ink) (hf : ink .fore < 256) (hc : ink .cast < 256) (hb : ink .back < 256) (bits : ℕ) (h : bits < 4096) where
-  pub twelve-shadowed : twelveOf (shadowed (painting ink)) bits ≡ columns 12 ink bits 0
+module _ (ink : Ink) (kept : ℕ) (hf : ink .fore < 256) (hc : ink .cast < 256) (hb : ink .back < 256) (bits : ℕ) (h : bits < 4096) where
+  pub twelve-shadowed : twelveOf (shadowed (painting ink kept)) bits ≡ columns 12 ink bits 0
   twelve-shadowed =
-      ap₂ (λ (k l : List ℕ). k ++ l) (four-shadowed ink hf hc hb (bits / 256))
-      (ap₂ (λ (k l : List ℕ). k ++ l) (four-shadowed ink hf hc hb (bits / 16 % 32)) (four-shadowed ink hf hc hb (bits % 32)))
+      ap₂ (λ (k l : List ℕ). k ++ l) (four-shadowed ink kept hf hc hb (bits / 256))
+      (ap₂ (λ (k l : List ℕ). k ++ l) (four-shadowed ink kept hf hc hb (bits / 16 % 32)) (four-shadowed ink kept hf hc hb (bits % 32)))
       ∙ sym (columns-four ink bits h)
 
-  pub twelve-solid : ink .cast ≡ ink .back → twelveOf (solid (painting ink)) bits ≡ columns 12 ink bits 0
+  pub twelve-solid : ink .cast ≡ ink .back → twelveOf (solid (painting ink kept)) bits ≡ columns 12 ink bits 0
   twelve-solid e =
-      ap₂ (λ (k l : List ℕ). k ++ l) (four-solid ink hf hc hb (bits / 256) e)
-      (ap₂ (λ (k l : List ℕ). k ++ l) (four-solid ink hf hc hb (bits / 16 % 32) e) (four-solid ink hf hc hb (bits % 32) e))
+      ap₂ (λ (k l : List ℕ). k ++ l) (four-solid ink kept hf hc hb (bits / 256) e)
+      (ap₂ (λ (k l : List ℕ). k ++ l) (four-solid ink kept hf hc hb (bits / 16 % 32) e) (four-solid ink kept hf hc hb (bits % 32) e))
       ∙ sym (columns-four ink bits h)
 
 -- ---- what a code draws with
 
-module _ (plain low : ℕ) where
+module _ (plain : ℕ) (hidden : Bool) (low : ℕ) where
   -- the ink with shadow as its cast pixel, whether or not the code casts one
   shadowInk : Ink
   shadowInk = record { fore = inkOf plain low .fore; cast = 8; back = inkOf plain low .back }
@@ -399,9 +403,9 @@ module _ (plain low : ℕ) where
       by (yes e) = let h : low % 16 < 8 = omega arith in rw (lt-ltb _ _ h, eq-eqb _ _ e) (omega arith)
       by (no e) = let h : 8 ≤ low % 16 = omega arith in rw (le-ltb _ _ h, ne-eqb _ _ e) (either (eqb (low / 2 % 2) 0))
 
-  paint-is : paintOf plain low ≡ painting shadowInk
+  paint-is : paintOf plain hidden low ≡ painting shadowInk (shows hidden (low / 16))
   unfolding paintOf fores inkOf shadowInk
-  paint-is = ap (λ (b : ℕ). record { back = b; fore = bitXor b (ofPixel (8 + low / 16 % 8)); cast = bitXor b (ofPixel 8) }) back-is
+  paint-is = ap (λ (b : ℕ). record { back = b; fore = bitXor b (ofPixel (8 + low / 16 % 8)); cast = bitXor b (ofPixel 8); kept = shows hidden (low / 16) }) back-is
 
   cast-shadow : castsShadow low ≡ true → 8 ≡ inkOf plain low .cast
   unfolding inkOf
@@ -439,21 +443,22 @@ module _ (plain low : ℕ) where
     unfolding inkOf
     back-small = small (eqb (low / 8 % 2) 0) (eqb (low / 2 % 2) 0) plain h
 
-    pub drawn-shadowed : castsShadow low ≡ true → twelveOf (shadowed (paintOf plain low)) bits ≡ columns 12 (inkOf plain low) bits 0
+    pub drawn-shadowed : castsShadow low ≡ true → twelveOf (shadowed (paintOf plain hidden low)) bits ≡ columns 12 (inkOf plain low) bits 0
     unfolding shadowInk
     drawn-shadowed e =
         ap (λ (p : Paint). twelveOf (shadowed p) bits) paint-is
-        ∙ twelve-shadowed shadowInk fore-small (omega arith) back-small bits k
+        ∙ twelve-shadowed shadowInk (shows hidden (low / 16)) fore-small (omega arith) back-small bits k
         ∙ ap (λ (x : ℕ). columns 12 (record { fore = inkOf plain low .fore; cast = x; back = inkOf plain low .back }) bits 0) (cast-shadow e)
 
-    pub drawn-solid : castsShadow low ≡ false → twelveOf (solid (paintOf plain low)) bits ≡ columns 12 (inkOf plain low) bits 0
+    pub drawn-solid : castsShadow low ≡ false → twelveOf (solid (paintOf plain hidden low)) bits ≡ columns 12 (inkOf plain low) bits 0
     unfolding shadowInk solid
     drawn-solid e =
-        ap (λ (p : Paint). twelveOf (solid p) bits) paint-is ∙ twelve-solid (inkOf plain low) fore-small cast-small back-small bits k (cast-back e)
+        ap (λ (p : Paint). twelveOf (solid p) bits) paint-is ∙ twelve-solid (inkOf plain low) (shows hidden (low / 16)) fore-small cast-small back-small bits k (cast-back e)
 
 -- ---- the bits that are shown
 
 module _ (hidden : Bool) (low word : ℕ) (h : low < 256) where
+  -- FL is the low byte's top bit
   flash-is : leb 8 (low / 16) ≡ eqb (low / 128 % 2) 1
   flash-is = by (ℕ-discrete (low / 128 % 2) 1)
     where
@@ -461,9 +466,12 @@ module _ (hidden : Bool) (low word : ℕ) (h : low < 256) where
       by (yes e) = let k : 8 ≤ low / 16 = omega arith in le-leb _ _ k ∙ sym (eq-eqb _ _ e)
       by (no e) = let k : low / 16 < 8 = omega arith in lt-leb _ _ k ∙ sym (ne-eqb _ _ e)
 
-  pub bits-are : bitAnd word (shows hidden (low / 16)) ≡ shownBits hidden low (word % 4096)
-  unfolding shows
-  bits-are = rw flash-is (by (eqb (low / 128 % 2) 1 && hidden))
+  pub bits-are : (plain : ℕ) (p : Paint) → p ≡ paintOf plain hidden low → bitAnd word (p .kept) ≡ shownBits hidden low (word % 4096)
+  unfolding paintOf shows
+  bits-are plain p e =
+      ap (λ (q : Paint). bitAnd word (q .kept)) e
+      ∙ ap (λ (t : Bool). bitAnd word (cond (t && hidden) 0 4095)) flash-is
+      ∙ by (eqb (low / 128 % 2) 1 && hidden)
     where
       by : (t : Bool) → bitAnd word (cond t 0 4095) ≡ cond t 0 (word % 4096)
       by true = and-zero-r word

@@ -1,11 +1,13 @@
 -- The tables that whole characters are drawn from, four columns at a time: a column is a byte of a number, the leftmost the lowest.
 -- Assumes nothing.
 use Prim.Native.Nat.{ℕ, zero, suc, _+_, _-_, _*_, _/_, _%_}
+use mathlib.Core.Path.{_≡_}
 use mathlib.Core.Bool.{Bool, true, false, cond, _&&_}
 use mathlib.Core.List.{List, [], _∷_, _++_}
 use lib.Bits.{bitAnd, bitXor}
 use lib.Dec.{eqb, ltb, leb}
 use Rattle.line.specs.declared.Paint.{Paint}
+use Rattle.line.specs.declared.Pen.{Pen}
 
 -- f of i and of the n − 1 numbers after it
 unfoldable pub tabulate : (ℕ → ℕ) → ℕ → ℕ → List ℕ
@@ -25,33 +27,45 @@ facing i = 255 * inFour (i / 8 % 2) (i / 4 % 2) (i / 2 % 2) (i % 2)
 unfoldable pub casting : ℕ → ℕ
 casting i = 255 * inFour (i / 16 % 2 - i / 8 % 2) (i / 8 % 2 - i / 4 % 2) (i / 4 % 2 - i / 2 % 2) (i / 2 % 2 - i % 2)
 
-unfoldable pub maskTable : List ℕ
-maskTable = tabulate facing 0 32 ++ tabulate casting 0 32
-
 -- four columns of one pixel
 abbrev pub ofPixel : ℕ → ℕ
 ofPixel pixel = pixel * 16843009
 
--- background for each BK, foreground for each FL, RF, GF, BF, and for each of these the bits that are shown
-unfoldable pub backs : ℕ → ℕ → ℕ
-backs plain i = ofPixel (cond (ltb i 8) (8 + i) plain)
-
+-- foreground for each FL, RF, GF, BF
 unfoldable pub fores : ℕ → ℕ
 fores i = ofPixel (8 + i % 8)
 
+unfoldable pub maskTable : List ℕ
+maskTable = tabulate facing 0 32 ++ (tabulate casting 0 32 ++ tabulate fores 0 16)
+
+-- background for each BK
+unfoldable pub backs : ℕ → ℕ → ℕ
+backs plain i = ofPixel (cond (ltb i 8) (8 + i) plain)
+
+unfoldable pub backTable : ℕ → List ℕ
+backTable plain = tabulate (backs plain) 0 16
+
+-- the bits that are shown for each FL, RF, GF, BF
 unfoldable pub shows : Bool → ℕ → ℕ
 shows hidden i = cond (leb 8 i && hidden) 0 4095
 
-unfoldable pub paletteOf : ℕ → Bool → List ℕ
-paletteOf plain hidden = tabulate (backs plain) 0 16 ++ (tabulate fores 0 16 ++ tabulate (shows hidden) 0 16)
+unfoldable pub showTable : Bool → List ℕ
+showTable hidden = tabulate (shows hidden) 0 16
+
+-- what a row makes once
+pub record RowTables (pen : Pen) (masks back show : List ℕ) : Type 0 where
+  pub of-masks : masks ≡ maskTable
+  pub of-backs : back ≡ backTable (pen .plain)
+  pub of-shows : show ≡ showTable (pen .hidden)
 
 -- what a code's low byte draws with
-unfoldable pub paintOf : ℕ → ℕ → Paint
-paintOf plain low =
+unfoldable pub paintOf : ℕ → Bool → ℕ → Paint
+paintOf plain hidden low =
     record {
       back = backs plain (low % 16);
       fore = bitXor (backs plain (low % 16)) (fores (low / 16));
       cast = bitXor (backs plain (low % 16)) (ofPixel 8);
+      kept = shows hidden (low / 16);
     }
 
 -- BK3 and BK1: foreground casts a shadow

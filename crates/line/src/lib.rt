@@ -1,7 +1,7 @@
 // One scan line: what it reads, and its pixels.
 ghost use mathlib.Core.Path.{_≡_};
 ghost use mathlib.Core.Bool.{cond};
-ghost use Prim.Native.Nat.{_+_, _/_, _%_, _≤_, _<_};
+ghost use Prim.Native.Nat.{_+_, _/_, _%_, _≤_, _<_, min};
 ghost use lib.Dec.{eqb};
 ghost use mathlib.Core.List.{_++_};
 ghost use lib.ListN.{length, take, drop, replicate};
@@ -11,7 +11,7 @@ ghost use Rattle.walk.specs.Walk.{OnLine};
 ghost use Rattle.glyph.specs.Glyph.{Lent};
 ghost use Rattle.glyph.specs.Words.{fontSlice};
 ghost use Rattle.line.specs.Line.{inkOf, columns, shownBits};
-ghost use Rattle.line.specs.Tables.{maskTable, ofPixel, paletteOf, paintOf, castsShadow, solid, shadowed, fourOf, twelveOf};
+ghost use Rattle.line.specs.Tables.{RowTables, maskTable, backTable, showTable, ofPixel, paintOf, castsShadow, solid, shadowed, fourOf, twelveOf};
 ghost use Rattle.line.specs.Contracts.{CharacterDrawn, CodeDrawn, RowDrawn, CharactersDrawn, StripDrawn, LineDrawn};
 use glyph::FontSlice;
 use raster::Slice;
@@ -47,7 +47,111 @@ pub struct Paint {
     pub fore: u32,
     // what turns it into shadow
     pub cast: u32,
+    // the bits that are shown
+    pub kept: u32,
 }
+
+// Four pixels of a colour, FBLK 1.
+const BLACK: u32 = 0x08080808;
+
+const BLUE: u32 = 0x09090909;
+
+const GREEN: u32 = 0x0A0A0A0A;
+
+const CYAN: u32 = 0x0B0B0B0B;
+
+const RED: u32 = 0x0C0C0C0C;
+
+const MAGENTA: u32 = 0x0D0D0D0D;
+
+const YELLOW: u32 = 0x0E0E0E0E;
+
+const WHITE: u32 = 0x0F0F0F0F;
+
+// Masks of four columns for an index of five bits (the column to the left, then the four): foreground, then shadow. Behind them,
+// foreground for each FL, RF, GF, BF. A row lends them to its characters: a table used in place would be made again for each.
+const MASKS: [u32; 80] = [
+    0x00000000,
+    0xFF000000,
+    0x00FF0000,
+    0xFFFF0000,
+    0x0000FF00,
+    0xFF00FF00,
+    0x00FFFF00,
+    0xFFFFFF00,
+    0x000000FF,
+    0xFF0000FF,
+    0x00FF00FF,
+    0xFFFF00FF,
+    0x0000FFFF,
+    0xFF00FFFF,
+    0x00FFFFFF,
+    0xFFFFFFFF,
+    0x00000000,
+    0xFF000000,
+    0x00FF0000,
+    0xFFFF0000,
+    0x0000FF00,
+    0xFF00FF00,
+    0x00FFFF00,
+    0xFFFFFF00,
+    0x000000FF,
+    0xFF0000FF,
+    0x00FF00FF,
+    0xFFFF00FF,
+    0x0000FFFF,
+    0xFF00FFFF,
+    0x00FFFFFF,
+    0xFFFFFFFF,
+    0x00000000,
+    0x00000000,
+    0xFF000000,
+    0x00000000,
+    0x00FF0000,
+    0x00FF0000,
+    0xFF000000,
+    0x00000000,
+    0x0000FF00,
+    0x0000FF00,
+    0xFF00FF00,
+    0x0000FF00,
+    0x00FF0000,
+    0x00FF0000,
+    0xFF000000,
+    0x00000000,
+    0x000000FF,
+    0x000000FF,
+    0xFF0000FF,
+    0x000000FF,
+    0x00FF00FF,
+    0x00FF00FF,
+    0xFF0000FF,
+    0x000000FF,
+    0x0000FF00,
+    0x0000FF00,
+    0xFF00FF00,
+    0x0000FF00,
+    0x00FF0000,
+    0x00FF0000,
+    0xFF000000,
+    0x00000000,
+    BLACK,
+    BLUE,
+    GREEN,
+    CYAN,
+    RED,
+    MAGENTA,
+    YELLOW,
+    WHITE,
+    BLACK,
+    BLUE,
+    GREEN,
+    CYAN,
+    RED,
+    MAGENTA,
+    YELLOW,
+    WHITE,
+];
 
 // Whether a code ended the line, and how many cells it read.
 pub struct Coded {
@@ -180,75 +284,34 @@ fn four_of(pixel: u8) -> u32
     pixel as u32 * 0x01010101
 }
 
-// Masks of four columns for an index of five bits, foreground and then shadow. A row makes them once.
-fn mask_table() -> [u32; 64]
+fn mask_table() -> [u32; 80]
     ensures { λ r. ⌜ r ≡ maskTable ⌝ }
 {
+    MASKS
+}
+
+// Background for each BK, four pixels each.
+fn backs_of(plain: u8) -> [u32; 16]
+    ensures { λ r. ⌜ r ≡ backTable plain ⌝ }
+{
+    let p = four_of(plain);
     [
-        0,
-        0xFF000000,
-        0xFF0000,
-        0xFFFF0000,
-        0xFF00,
-        0xFF00FF00,
-        0xFFFF00,
-        0xFFFFFF00,
-        0xFF,
-        0xFF0000FF,
-        0xFF00FF,
-        0xFFFF00FF,
-        0xFFFF,
-        0xFF00FFFF,
-        0xFFFFFF,
-        0xFFFFFFFF,
-        0,
-        0xFF000000,
-        0xFF0000,
-        0xFFFF0000,
-        0xFF00,
-        0xFF00FF00,
-        0xFFFF00,
-        0xFFFFFF00,
-        0xFF,
-        0xFF0000FF,
-        0xFF00FF,
-        0xFFFF00FF,
-        0xFFFF,
-        0xFF00FFFF,
-        0xFFFFFF,
-        0xFFFFFFFF,
-        0,
-        0,
-        0xFF000000,
-        0,
-        0xFF0000,
-        0xFF0000,
-        0xFF000000,
-        0,
-        0xFF00,
-        0xFF00,
-        0xFF00FF00,
-        0xFF00,
-        0xFF0000,
-        0xFF0000,
-        0xFF000000,
-        0,
-        0xFF,
-        0xFF,
-        0xFF0000FF,
-        0xFF,
-        0xFF00FF,
-        0xFF00FF,
-        0xFF0000FF,
-        0xFF,
-        0xFF00,
-        0xFF00,
-        0xFF00FF00,
-        0xFF00,
-        0xFF0000,
-        0xFF0000,
-        0xFF000000,
-        0,
+        BLACK,
+        BLUE,
+        GREEN,
+        CYAN,
+        RED,
+        MAGENTA,
+        YELLOW,
+        WHITE,
+        p,
+        p,
+        p,
+        p,
+        p,
+        p,
+        p,
+        p,
     ]
 }
 
@@ -258,83 +321,28 @@ fn bits_kept(hidden: bool) -> u32
     if hidden { 0 } else { 4095 }
 }
 
-// Backgrounds, foregrounds and the bits shown, for each half of a code's low byte.
-fn palette_of(plain: u8, hidden: bool) -> [u32; 48]
-    ensures { λ r. ⌜ r ≡ paletteOf plain hidden ⌝ }
+// The bits that are shown, for each FL, RF, GF, BF.
+fn shows_of(hidden: bool) -> [u32; 16]
+    ensures { λ r. ⌜ r ≡ showTable hidden ⌝ }
 {
-    let p = four_of(plain);
+    let a = bits_kept(false);
     let h = bits_kept(hidden);
-    [
-        0x08080808,
-        0x09090909,
-        0x0A0A0A0A,
-        0x0B0B0B0B,
-        0x0C0C0C0C,
-        0x0D0D0D0D,
-        0x0E0E0E0E,
-        0x0F0F0F0F,
-        p,
-        p,
-        p,
-        p,
-        p,
-        p,
-        p,
-        p,
-        0x08080808,
-        0x09090909,
-        0x0A0A0A0A,
-        0x0B0B0B0B,
-        0x0C0C0C0C,
-        0x0D0D0D0D,
-        0x0E0E0E0E,
-        0x0F0F0F0F,
-        0x08080808,
-        0x09090909,
-        0x0A0A0A0A,
-        0x0B0B0B0B,
-        0x0C0C0C0C,
-        0x0D0D0D0D,
-        0x0E0E0E0E,
-        0x0F0F0F0F,
-        4095,
-        4095,
-        4095,
-        4095,
-        4095,
-        4095,
-        4095,
-        4095,
-        h,
-        h,
-        h,
-        h,
-        h,
-        h,
-        h,
-        h,
-    ]
+    [a, a, a, a, a, a, a, a, h, h, h, h, h, h, h, h]
 }
 
-fn paint_of(palette: &[u32], low: u8, pen: Pen) -> Paint
-    requires { ⌜ now palette ≡ paletteOf (pen .plain) (pen .hidden) ⌝ }
-    ensures { λ r. ⌜ r ≡ paintOf (pen .plain) low ⌝ }
+// What a code's low byte draws with.
+fn paint_of(masks: &[u32], backs: &[u32], shows: &[u32], low: u8, pen: Pen) -> Paint
+    requires { ⌜ RowTables pen (now masks) (now backs) (now shows) ⌝ }
+    ensures { λ r. ⌜ r ≡ paintOf (pen .plain) (pen .hidden) low ⌝ }
 {
-    let back = palette[(low % 16) as usize];
+    let back = backs[(low % 16) as usize];
+    let high = (low / 16) as usize;
     Paint {
         back: back,
-        fore: back ^ palette[16 + (low / 16) as usize],
-        cast: back ^ 0x08080808,
+        fore: back ^ masks[64 + high],
+        cast: back ^ BLACK,
+        kept: shows[high],
     }
-}
-
-// The bits that a character shows of its word.
-fn word_bits(palette: &[u32], low: u8, pen: Pen, word: u32) -> u32
-    requires { ⌜ now palette ≡ paletteOf (pen .plain) (pen .hidden) ⌝ }
-    ensures shown { λ r. ⌜ r ≡ shownBits (pen .hidden) low (word % 4096) ⌝ }
-    ensures most { λ r. ⌜ r < 4096 ⌝ }
-{
-    word & palette[32 + (low / 16) as usize]
 }
 
 fn four_solid(masks: &[u32], i: usize, paint: Paint) -> u32
@@ -412,12 +420,21 @@ fn casts(low: u8) -> bool
 }
 
 // The twelve columns of a whole character.
-fn draw_twelve(out: &mut [u8], masks: &[u32], palette: &[u32], low: u8, pen: Pen, word: u32)
-    requires { ⌜ (length (now out) ≡ 12) × (now masks ≡ maskTable) × (now palette ≡ paletteOf (pen .plain) (pen .hidden)) ⌝ }
+fn draw_twelve(
+    out: &mut [u8],
+    masks: &[u32],
+    backs: &[u32],
+    shows: &[u32],
+    low: u8,
+    pen: Pen,
+    word: u32,
+)
+    requires { ⌜ length (now out) ≡ 12 ⌝ }
+    requires { ⌜ RowTables pen (now masks) (now backs) (now shows) ⌝ }
     ensures { λ _. ⌜ now (out .exit) ≡ columns 12 (inkOf (pen .plain) low) (shownBits (pen .hidden) low (word % 4096)) 0 ⌝ }
 {
-    let bits = word_bits(palette, low, pen, word);
-    let paint = paint_of(palette, low, pen);
+    let paint = paint_of(masks, backs, shows, low, pen);
+    let bits = word & paint.kept;
     if casts(low) {
         draw_shadowed(out, masks, paint, bits);
         return;
@@ -429,14 +446,16 @@ fn draw_twelve(out: &mut [u8], masks: &[u32], palette: &[u32], low: u8, pen: Pen
 fn draw_whole<'a>(
     out: &mut [u8],
     masks: &[u32],
-    palette: &[u32],
+    backs: &[u32],
+    shows: &[u32],
     ram: &'a [u8],
     font: &'a [u8],
     at: usize,
     pen: Pen,
     found: FontSlice,
 ) -> Coded
-    requires { ⌜ (length (now out) ≡ 12) × (now masks ≡ maskTable) × (now palette ≡ paletteOf (pen .plain) (pen .hidden)) ⌝ }
+    requires { ⌜ length (now out) ≡ 12 ⌝ }
+    requires { ⌜ RowTables pen (now masks) (now backs) (now shows) ⌝ }
     requires { ⌜ Lent (now ram) (now font) ⌝ }
     requires { ⌜ (pen .slice .0 ≤ 18) × (found ≡ fontSlice (pen .slice)) ⌝ }
     requires { ⌜ at + 1 < 1024 ⌝ }
@@ -451,7 +470,7 @@ fn draw_whole<'a>(
             cells: 2,
         };
     }
-    draw_twelve(out, masks, palette, low, pen, word.bits);
+    draw_twelve(out, masks, backs, shows, low, pen, word.bits);
     Coded {
         ended: false,
         cells: 2 + word.cells,
@@ -474,7 +493,8 @@ fn draw_row<'a>(
     ensures { λ r. ⌜ RowDrawn (now (ram .entry)) (now (font .entry)) address pen first w (now (out .entry)) r (now (out .exit)) ⌝ }
 {
     let masks = mask_table();
-    let palette = palette_of(pen.plain, pen.hidden);
+    let backs = backs_of(pen.plain);
+    let shows = shows_of(pen.hidden);
     let slice = pen.slice;
     let found = glyph::font_slice(slice);
     let cut = w - (w - first) % 12;
@@ -483,7 +503,17 @@ fn draw_row<'a>(
     let mut cells: u32 = 0;
     while x < cut {
         let e = x + 12;
-        let code = draw_whole(&mut out[x..e], &masks, &palette, ram, font, a, pen, found);
+        let code = draw_whole(
+            &mut out[x..e],
+            &masks,
+            &backs,
+            &shows,
+            ram,
+            font,
+            a,
+            pen,
+            found,
+        );
         cells += code.cells;
         if code.ended {
             fill(&mut out[x..w], pen.plain);
@@ -580,6 +610,16 @@ fn draw_strip<'a>(
     }
 }
 
+// A count of cells. The test keeps the compiler from counting a row's cells at 16 bits, which is slower.
+fn narrow(cells: u32) -> u16
+    ensures { λ r. ⌜ r ≡ min cells 65535 ⌝ }
+{
+    if cells < 65536 {
+        return cells as u16;
+    }
+    65535
+}
+
 // The frame's next line, of W bytes; later bytes stay.
 pub fn draw<'a>(
     out: &mut [u8],
@@ -600,6 +640,6 @@ pub fn draw<'a>(
     let read = draw_strip(out, ram, font, settings, strip, number);
     Line {
         walk: next,
-        cells: walked.cells + read as u16,
+        cells: walked.cells + narrow(read),
     }
 }

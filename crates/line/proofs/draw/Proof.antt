@@ -1,5 +1,6 @@
 -- `draw`: the walk's next line, then a line of its strip.
 -- Assumes nothing.
+use mathlib.Core.Path.{_≡_}
 use native.Mathlib.Omega.{arith}
 use Rattle.registers.proofs.Laws.{ld-bound, fbk-bound}
 use Rattle.walk.specs.Walk.{walked}
@@ -22,25 +23,26 @@ draw-strip-requires c κs =
     let e = c .before .before .before .settings .ensures in
     (p .0, (rw (c .before .before .next-line .ensures, e) (walked-line _ _ _), (rw e (ld-bound r), rw e (fbk-bound r), rw e (p .1))))
 
-cast-t14 : tie.Need-cast-t14
-cast-t14 c =
-    let d = c .before .before in
-    omega (arith, line-cells _ _ _ _ _ _ _ _ _ _ (d .before .before .before .before .settings .ensures) (d .before .before .before .next-line .ensures) (d .draw-strip .ensures))
+narrow-requires : tie.Need-narrow-requires
+narrow-requires c κs = search needs
 
 add-t15 : tie.Need-add-t15
 add-t15 c =
-    let d = c .before .before .before in
-    omega (arith, line-cells _ _ _ _ _ _ _ _ _ _ (d .before .before .before .before .settings .ensures) (d .before .before .before .next-line .ensures) (d .draw-strip .ensures))
+    let d = c .before .before .before .before in
+    omega (arith, c .before .narrow .ensures, line-cells _ _ _ _ _ _ _ _ _ _ (d .before .before .before .before .settings .ensures) (d .before .before .before .next-line .ensures) (d .draw-strip .ensures))
 
 same-length : tie.Need-same-length
 same-length c = search needs
 
 returns : tie.Need-returns
 returns c =
-    let d = c .before .before .before in
-    line-drawn _ _ _ _ _ _ _ _ _ _ (d .before .before .before .before .settings .ensures) (d .before .before .before .next-line .ensures) (d .draw-strip .ensures)
+    let d = c .before .before .before .before in
+    let e : c .before .narrow .result ≡ d .draw-strip .result =
+    omega (arith, c .before .narrow .ensures, line-cells _ _ _ _ _ _ _ _ _ _ (d .before .before .before .before .settings .ensures) (d .before .before .before .next-line .ensures) (d .draw-strip .ensures))
+    in
+    rw e (line-drawn _ _ _ _ _ _ _ _ _ _ (d .before .before .before .before .settings .ensures) (d .before .before .before .next-line .ensures) (d .draw-strip .ensures))
 
 pub draw-spec : {M : Type 1} → statement M
 draw-spec =
     tie.close
-    (tie.spec settings-requires next-line-requires draw-strip-requires cast-t14 add-t15 same-length returns)
+    (tie.spec settings-requires next-line-requires draw-strip-requires narrow-requires add-t15 same-length returns)

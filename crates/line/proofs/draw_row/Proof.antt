@@ -10,17 +10,20 @@ use Rattle.line.proofs.draw_row.Statement.{statement}
 use Rattle.line.proofs.draw_row.Tie as tie
 
 abbrev Inv-loop : tie.InvT-loop
-Inv-loop out₀ ram font address pen first w masks palette found cut x₀ a₀ cells₀ out x a cells =
+Inv-loop out₀ ram font address pen first w masks backs shows found cut x₀ a₀ cells₀ out x a cells =
     RowInv ram font address pen first w out₀ out x a cells × (x ≤ cut) × ((cut - x) % 12 ≡ 0)
 
 abbrev μ-loop : tie.MeasureT-loop
-μ-loop out₀ ram font address pen first w masks palette found cut x₀ a₀ cells₀ out x a cells = w - x
+μ-loop out₀ ram font address pen first w masks backs shows found cut x₀ a₀ cells₀ out x a cells = w - x
 
 mask-table-requires : tie.Need-mask-table-requires Inv-loop μ-loop
 mask-table-requires c κs = search needs
 
-palette-of-requires : tie.Need-palette-of-requires Inv-loop μ-loop
-palette-of-requires c κs = search needs
+backs-of-requires : tie.Need-backs-of-requires Inv-loop μ-loop
+backs-of-requires c κs = search needs
+
+shows-of-requires : tie.Need-shows-of-requires Inv-loop μ-loop
+shows-of-requires c κs = search needs
 
 font-slice-requires : tie.Need-font-slice-requires Inv-loop μ-loop
 font-slice-requires c κs = search needs
@@ -39,7 +42,7 @@ cast-a c = search needs
 
 loop-holds : tie.Need-loop-holds Inv-loop μ-loop
 loop-holds c =
-    let s = c .before .before .before .before .before .before .before .before in
+    let s = c .before .before .before .before .before .before .before .before .before in
     (row-holds _ _ _ _ _ _ _ (c .even-address .result) (s .pre .0 .0) (c .even-address .ensures), omega (arith, s .pre .0 .0), omega (arith, s .pre .0 .0))
 
 add-e : tie.Need-add-e Inv-loop μ-loop
@@ -60,18 +63,24 @@ slice-aggregate-draw-whole c = search needs
 slice-aggregate-draw-whole-2 : tie.Need-slice-aggregate-draw-whole-2 Inv-loop μ-loop
 slice-aggregate-draw-whole-2 c = search needs
 
+slice-aggregate-draw-whole-3 : tie.Need-slice-aggregate-draw-whole-3 Inv-loop μ-loop
+slice-aggregate-draw-whole-3 c = search needs
+
 draw-whole-requires : tie.Need-draw-whole-requires Inv-loop μ-loop
 draw-whole-requires c κs =
-    let l = c .before .before .before .before .loop in
-    let p = c .before .before .before .before .before .before .before .before .before .before .before .before .before .pre in (
-      (part-twelve (l .out) (l .x) _ (c .before .before .before .loop-test .taken) (l .inv .2) (omega (arith, l .inv .0 .long, p .0 .1)), c .before .before .before .before .before .before .before .before .before .mask-table .ensures, c .before .before .before .before .before .before .before .before .palette-of .ensures),
-      (p .1 .0, ((p .1 .1, c .before .before .before .before .before .before .font-slice .ensures), omega (arith, l .inv .0 .paired))),
+    let l = c .before .before .before .before .before .loop in
+    let p = c .before .before .before .before .before .before .before .before .before .before .before .before .before .before .before .pre in (
+      part-twelve (l .out) (l .x) _ (c .before .before .before .before .loop-test .taken) (l .inv .2) (omega (arith, l .inv .0 .long, p .0 .1)),
+      (
+        record { of-masks = c .before .before .before .before .before .before .before .before .before .before .before .mask-table .ensures; of-backs = c .before .before .before .before .before .before .before .before .before .before .backs-of .ensures; of-shows = c .before .before .before .before .before .before .before .before .before .shows-of .ensures },
+        (p .1 .0, ((p .1 .1, c .before .before .before .before .before .before .before .font-slice .ensures), omega (arith, l .inv .0 .paired))),
+      ),
     )
 
 add-cells : tie.Need-add-cells Inv-loop μ-loop
 add-cells c =
-    let l = c .before .before .before .before .before .before .before .before .loop in
-    let p = c .before .before .before .before .before .before .before .before .before .before .before .before .before .before .before .before .before .pre in
+    let l = c .before .before .before .before .before .before .before .before .before .loop in
+    let p = c .before .before .before .before .before .before .before .before .before .before .before .before .before .before .before .before .before .before .before .pre in
     omega (arith, row-bound _ _ _ _ _ _ _ (l .out) (l .x) (l .a) (l .cells) (p .0 .2) (l .inv .0), code-few _ _ _ _ _ _ _ (c .before .before .before .draw-whole .ensures))
 
 sub-fill : tie.Need-sub-fill Inv-loop μ-loop
@@ -92,9 +101,9 @@ same-length c = search needs
 returns : tie.Need-returns Inv-loop μ-loop
 returns c =
     let d = c .before .before .before .before .before .before .before .before in
-    let l = d .before .before .before .before .before .loop in
-    let p = c .before .before .before .before .before .before .before .before .before .before .before .before .before .before .before .before .before .before .before .before .before .before .pre in
-    row-ended _ _ _ _ _ _ _ (l .out) (l .x) (l .a) (l .cells) (l .inv .0) (omega (arith, d .before .before .before .before .loop-test .taken)) (p .0 .1) _ _ _ (d .draw-whole .ensures)
+    let l = d .before .before .before .before .before .before .loop in
+    let p = c .before .before .before .before .before .before .before .before .before .before .before .before .before .before .before .before .before .before .before .before .before .before .before .before .pre in
+    row-ended _ _ _ _ _ _ _ (l .out) (l .x) (l .a) (l .cells) (l .inv .0) (omega (arith, d .before .before .before .before .before .loop-test .taken)) (p .0 .1) _ _ _ (d .draw-whole .ensures)
     (c .before .before .before .before .if1 .taken) _ (c .before .before .fill .ensures)
 
 add-a : tie.Need-add-a Inv-loop μ-loop
@@ -109,8 +118,9 @@ loop-less c = search needs
 loop-again : tie.Need-loop-again Inv-loop μ-loop
 loop-again c =
     let d = c .before .before .before .before in
-    let l = d .before .before .before .before .before .loop in
-    let p = c .before .before .before .before .before .before .before .before .before .before .before .before .before .before .before .before .before .before .pre in (
+    let l = d .before .before .before .before .before .before .loop in
+    let p = c .before .before .before .before .before .before .before .before .before .before .before .before .before .before .before .before .before .before .before .before .pre in
+    let t = d .before .before .before .before .before .loop-test .taken in (
       row-drawn _ _ _ _ _ _ _ (l .out) (l .x) (l .a) (l .cells) (l .inv .0) (omega arith) (p .0 .1) _ (omega arith) _ _ (d .draw-whole .ensures)
           (c .if1 .left),
       omega (arith, l .inv .1, l .inv .2),
@@ -129,13 +139,13 @@ part-draw-code-end c = search needs
 draw-code-requires : tie.Need-draw-code-requires Inv-loop μ-loop
 draw-code-requires c κs =
     let l = c .before .before .before .loop in
-    let p = c .before .before .before .before .before .before .before .before .before .before .before .before .pre in
+    let p = c .before .before .before .before .before .before .before .before .before .before .before .before .before .pre in
     (simp (length-take, length-drop) (omega (arith, l .inv .1)), (p .1 .0, (p .1 .1, omega (arith, l .inv .0 .paired))))
 
 add-cells-2 : tie.Need-add-cells-2 Inv-loop μ-loop
 add-cells-2 c =
     let l = c .before .before .before .before .before .before .before .loop in
-    let p = c .before .before .before .before .before .before .before .before .before .before .before .before .before .before .before .before .pre in
+    let p = c .before .before .before .before .before .before .before .before .before .before .before .before .before .before .before .before .before .pre in
     omega (arith, row-bound _ _ _ _ _ _ _ (l .out) (l .x) (l .a) (l .cells) (p .0 .2) (l .inv .0), code-few _ _ _ _ _ _ _ (c .before .before .before .draw-code .ensures))
 
 sub-fill-2 : tie.Need-sub-fill-2 Inv-loop μ-loop
@@ -157,7 +167,7 @@ returns-2 : tie.Need-returns-2 Inv-loop μ-loop
 returns-2 c =
     let d = c .before .before .before .before .before .before .before .before in
     let l = d .before .before .before .before .loop in
-    let p = c .before .before .before .before .before .before .before .before .before .before .before .before .before .before .before .before .before .before .before .before .before .pre in
+    let p = c .before .before .before .before .before .before .before .before .before .before .before .before .before .before .before .before .before .before .before .before .before .before .pre in
     row-ended _ _ _ _ _ _ _ (l .out) (l .x) (l .a) (l .cells) (l .inv .0) (d .before .before .if2 .taken) (p .0 .1) _ _ _ (d .draw-code .ensures)
     (c .before .before .before .before .if3 .taken) _ (c .before .before .fill2 .ensures)
 
@@ -168,7 +178,7 @@ returns-3 : tie.Need-returns-3 Inv-loop μ-loop
 returns-3 c =
     let d = c .before .before .before .before in
     let l = d .before .before .before .before .loop in
-    let p = c .before .before .before .before .before .before .before .before .before .before .before .before .before .before .before .before .before .pre in
+    let p = c .before .before .before .before .before .before .before .before .before .before .before .before .before .before .before .before .before .before .pre in
     row-full _ _ _ _ _ _ _ _ _ _ _
     (row-drawn _ _ _ _ _ _ _ (l .out) (l .x) (l .a) (l .cells) (l .inv .0) (d .before .before .if2 .taken) (p .0 .1) _ (omega arith) _ _
     (d .draw-code .ensures) (c .if3 .left))
@@ -189,7 +199,8 @@ draw-row-spec =
     Inv-loop
     μ-loop
     mask-table-requires
-    palette-of-requires
+    backs-of-requires
+    shows-of-requires
     font-slice-requires
     sub-cut
     sub-cut-2
@@ -202,6 +213,7 @@ draw-row-spec =
     part-draw-whole-end
     slice-aggregate-draw-whole
     slice-aggregate-draw-whole-2
+    slice-aggregate-draw-whole-3
     draw-whole-requires
     add-cells
     sub-fill

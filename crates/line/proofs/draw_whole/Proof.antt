@@ -21,14 +21,14 @@ word-shown-requires c κs = search needs
 returns : tie.Need-returns
 returns c =
     let w = c .before .word-shown in
-    let a = c .before .before .before .before .before .before .before .before .before .before .args in
+    let a = c .before .before .before .before .before .before .before .before .before .before .before .args in
     whole-ended (now (a .ram)) (now (a .font)) (a .at) (a .pen) (now (a .out)) (w .result) (w .ensures) (c .if1 .taken)
 
 draw-twelve-requires : tie.Need-draw-twelve-requires
 draw-twelve-requires c κs = search needs
 
-add-t20 : tie.Need-add-t20
-add-t20 c =
+add-t21 : tie.Need-add-t21
+add-t21 c =
     let w = c .before .before .before .before .before .before .word-shown in
     word-fits _ _ _ _ (w .result) (w .ensures)
 
@@ -38,9 +38,9 @@ same-length c = search needs
 returns-2 : tie.Need-returns-2
 returns-2 c =
     let w = c .before .before .before .before .before .before .word-shown in
-    let s = c .before .before .before .before .before .before .before .before .before .before .before .before .before .before .before in
+    let s = c .before .before .before .before .before .before .before .before .before .before .before .before .before .before .before .before in
     let a = s .args in
-    whole-drawn (now (a .ram)) (now (a .font)) (a .at) (a .pen) (now (a .out)) (w .result) (w .ensures) (c .before .before .before .before .before .if1 .left) _ (s .pre .0 .0)
+    whole-drawn (now (a .ram)) (now (a .font)) (a .at) (a .pen) (now (a .out)) (w .result) (w .ensures) (c .before .before .before .before .before .if1 .left) _ (s .pre .0)
     (c .before .before .before .draw-twelve .ensures)
 
 pub draw-whole-spec : {M : Type 1} → statement M
@@ -53,6 +53,6 @@ draw-whole-spec =
     word-shown-requires
     returns
     draw-twelve-requires
-    add-t20
+    add-t21
     same-length
     returns-2)

@@ -1,12 +1,12 @@
 -- `mask_table` is its definition, computed.
 -- Assumes nothing.
 use mathlib.Core.Path.{refl}
-use Rattle.line.specs.Tables.{tabulate, facing, casting, maskTable}
+use Rattle.line.specs.Tables.{tabulate, facing, casting, fores, maskTable}
 use Rattle.line.proofs.mask_table.Statement.{statement}
 use Rattle.line.proofs.mask_table.Tie as tie
 
 returns : tie.Need-returns
-unfolding tabulate facing casting maskTable
+unfolding tabulate facing casting fores maskTable
 returns c = refl
 
 pub mask-table-spec : {M : Type 1} → statement M

@@ -1,4 +1,4 @@
--- `paint_of`: the palette at the two halves of the low byte.
+-- `paint_of`: the background at BK, the changes from it, and the bits that are shown.
 -- Assumes nothing.
 use Prim.Native.Nat.{ℕ, _+_, _/_, _%_}
 use mathlib.Core.Path.{_≡_, ap, ap₂, _∙_}
@@ -6,8 +6,9 @@ use mathlib.Core.List.{List}
 use native.Mathlib.Omega.{arith}
 use lib.Bits.{bitXor}
 use lib.ListN.{length, getD}
+use Rattle.line.specs.declared.Paint.{Paint}
 use Rattle.line.specs.Tables.{paintOf}
-use Rattle.line.proofs.Spread.{back-at, fore-at, palette-length}
+use Rattle.line.proofs.Spread.{fore-at, masks-length, back-at, backs-length, show-at, shows-length}
 use borrow.Author.Needs.{needs}
 use Rattle.line.proofs.paint_of.Statement.{statement}
 use Rattle.line.proofs.paint_of.Tie as tie
@@ -20,31 +21,40 @@ mul-back c = search needs
 
 shared-slice-read-back : tie.Need-shared-slice-read-back
 shared-slice-read-back c =
-    let p = c .before .args .pen in
-    omega (arith, ap length (c .before .pre), palette-length (p .plain) (p .hidden))
+    let s = c .before in
+    omega (arith, ap length (s .pre .of-backs), backs-length (s .args .pen .plain))
 
-cast-t6 : tie.Need-cast-t6
-cast-t6 c = search needs
+cast-high : tie.Need-cast-high
+cast-high c = search needs
 
-add-t7 : tie.Need-add-t7
-add-t7 c = search needs
+add-t9 : tie.Need-add-t9
+add-t9 c = search needs
 
 mul-t10 : tie.Need-mul-t10
 mul-t10 c = search needs
 
-shared-slice-read-t9 : tie.Need-shared-slice-read-t9
-shared-slice-read-t9 c =
-    let p = c .before .before .args .pen in
-    omega (arith, ap length (c .before .before .pre), palette-length (p .plain) (p .hidden))
+shared-slice-read-t12 : tie.Need-shared-slice-read-t12
+shared-slice-read-t12 c =
+    let s = c .before .before in
+    omega (arith, ap length (s .pre .of-masks), masks-length)
+
+mul-t16 : tie.Need-mul-t16
+mul-t16 c = search needs
+
+shared-slice-read-t18 : tie.Need-shared-slice-read-t18
+shared-slice-read-t18 c =
+    let s = c .before .before .before in
+    omega (arith, ap length (s .pre .of-shows), shows-length (s .args .pen .hidden))
 
 returns : tie.Need-returns
 unfolding paintOf
 returns c =
-    let a = c .before .before .args in
-    let e = c .before .before .pre in
-    ap₂ (λ (b f : ℕ). record { back = b; fore = bitXor b f; cast = bitXor b 134744072 })
-    (ap (λ (l : List ℕ). getD l (a .low % 16) 0) e ∙ back-at (a .pen .plain) (a .pen .hidden) (a .low % 16) (omega arith))
-    (ap (λ (l : List ℕ). getD l (16 + a .low / 16) 0) e ∙ fore-at (a .pen .plain) (a .pen .hidden) (a .low / 16) (omega arith))
+    let s = c .before .before .before in
+    let i = s .args .low / 16 in
+    let back = ap (λ (l : List ℕ). getD l (s .args .low % 16) 0) (s .pre .of-backs) ∙ back-at (s .args .pen .plain) (s .args .low % 16) (omega arith) in
+    let fore = ap (λ (l : List ℕ). getD l (64 + i) 0) (s .pre .of-masks) ∙ fore-at i (omega arith) in
+    let kept = ap (λ (l : List ℕ). getD l i 0) (s .pre .of-shows) ∙ show-at (s .args .pen .hidden) i (omega arith) in
+    rw (back, fore, kept)
 
 pub paint-of-spec : {M : Type 1} → statement M
 paint-of-spec =
@@ -53,8 +63,10 @@ paint-of-spec =
     cast-back
     mul-back
     shared-slice-read-back
-    cast-t6
-    add-t7
+    cast-high
+    add-t9
     mul-t10
-    shared-slice-read-t9
+    shared-slice-read-t12
+    mul-t16
+    shared-slice-read-t18
     returns)
