@@ -7,7 +7,7 @@ use mathlib.Core.List.{List, [], _∷_, _++_}
 use native.Mathlib.Nat.{div-div-eq-div-mul, add-zero, add-suc, suc-add, not-suc-le-zero, le-of-suc-le-suc}
 use native.Mathlib.Omega.{arith}
 use lib.Arith.{bin-ind}
-use lib.Bits.{differ, bitAnd, bitXor, xor-step, xor-zero-l, xor-zero-r, xor-self, xor-lt, and-zero-l, and-zero-r, and-comm, and-mask, and-mod, xor-mod, and-shr, xor-shr}
+use lib.Bits.{differ, bitAnd, bitXor, xor-step, xor-zero-l, xor-zero-r, xor-lt, and-zero-l, and-zero-r, and-comm, and-mask, and-mod, xor-mod, and-shr, xor-shr}
 use native.Mathlib.Decide.{ℕ-discrete}
 use borrow.Author.Tests.{eq-eqb, ne-eqb, lt-ltb, le-ltb, le-leb, lt-leb}
 use borrow.Rule.Slice.PartMut.{putMid}

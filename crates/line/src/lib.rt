@@ -284,6 +284,7 @@ fn four_of(pixel: u8) -> u32
     pixel as u32 * 0x01010101
 }
 
+// A row's own copy of the masks, to lend.
 fn mask_table() -> [u32; 80]
     ensures { λ r. ⌜ r ≡ maskTable ⌝ }
 {
@@ -345,6 +346,7 @@ fn paint_of(masks: &[u32], backs: &[u32], shows: &[u32], low: u8, pen: Pen) -> P
     }
 }
 
+// Four columns of an index, with no shadow.
 fn four_solid(masks: &[u32], i: usize, paint: Paint) -> u32
     requires { ⌜ (now masks ≡ maskTable) × (i < 32) ⌝ }
     ensures { λ r. ⌜ r ≡ solid paint i ⌝ }
@@ -352,6 +354,7 @@ fn four_solid(masks: &[u32], i: usize, paint: Paint) -> u32
     paint.back ^ (masks[i] & paint.fore)
 }
 
+// Four columns of an index, with their shadow.
 fn four_shadowed(masks: &[u32], i: usize, paint: Paint) -> u32
     requires { ⌜ (now masks ≡ maskTable) × (i < 32) ⌝ }
     ensures { λ r. ⌜ r ≡ shadowed paint i ⌝ }
@@ -370,6 +373,7 @@ fn put_four(out: &mut [u8], pixels: u32)
     out[3] = (pixels / 16777216 % 256) as u8;
 }
 
+// Twelve columns, four at a time; an index overlaps the one before by a bit.
 fn draw_solid(out: &mut [u8], masks: &[u32], paint: Paint, bits: u32)
     requires { ⌜ (length (now out) ≡ 12) × (now masks ≡ maskTable) × (bits < 4096) ⌝ }
     ensures { λ _. ⌜ now (out .exit) ≡ twelveOf (solid paint) bits ⌝ }
@@ -388,6 +392,7 @@ fn draw_solid(out: &mut [u8], masks: &[u32], paint: Paint, bits: u32)
     );
 }
 
+// The same with their shadow.
 fn draw_shadowed(out: &mut [u8], masks: &[u32], paint: Paint, bits: u32)
     requires { ⌜ (length (now out) ≡ 12) × (now masks ≡ maskTable) × (bits < 4096) ⌝ }
     ensures { λ _. ⌜ now (out .exit) ≡ twelveOf (shadowed paint) bits ⌝ }
@@ -497,6 +502,7 @@ fn draw_row<'a>(
     let shows = shows_of(pen.hidden);
     let slice = pen.slice;
     let found = glyph::font_slice(slice);
+    // characters that start before here are whole; at most one, here, is cut
     let cut = w - (w - first) % 12;
     let mut x = first;
     let mut a = walk::even_address(address) as usize;
