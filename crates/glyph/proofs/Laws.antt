@@ -15,8 +15,6 @@ use Rattle.cells.specs.Reading.{Reading, done, read, value, cells}
 use Rattle.cells.proofs.Bounds.{Within, AtMost, within-cond, atMost-cond}
 use Rattle.raster.specs.declared.Slice.{Slice}
 use Rattle.glyph.specs.declared.Shown.{Shown}
-use Rattle.glyph.specs.declared.FontSlice.{FontSlice}
-use Rattle.glyph.specs.Words.{fontSlice}
 use Rattle.glyph.specs.Glyph.{Glyph, user, blank, userCell, fontByte, inRam, glyphOf, twelve, bitsOf, slicePart, Lent, Sliced, shownIn}
 
 pub inRam-within : (number s : ℕ) → s ≤ 18 → Within 1024 (inRam number s)
@@ -88,54 +86,7 @@ module _ (ram f : List ℕ) (high : ℕ) (s : Slice) where
 
 -- ---- what a word shows, case by case
 
--- the low twelve bits of two bytes
-word-twelve : (first second : ℕ) → first < 256 → (second * 256 + first) % 4096 ≡ twelve first second
-word-twelve first second h = omega arith
-
-kept-twelve : (first second : ℕ) → first < 256 → bitAnd (second * 256 + first) 4095 % 4096 ≡ twelve first second
-kept-twelve first second h =
-    ap (λ (n : ℕ). n % 4096) (and-mask (second * 256 + first) 12) ∙ omega (arith, word-twelve first second h)
-
--- the row's font slice starts within a character
-pub font-at : (g : FontSlice) (s : Slice) → g ≡ fontSlice s → g .at ≡ 2 * (s .0 - 1)
-unfolding fontSlice
-font-at g s e = ap (λ (x : FontSlice). x .at) e
-
-font-kept : (g : FontSlice) (s : Slice) → g ≡ fontSlice s → g .kept ≡ cond (eqb (s .0) 0) 0 4095
-unfolding fontSlice
-font-kept g s e = ap (λ (x : FontSlice). x .kept) e
-
-module _ (ram f : List ℕ) (high : ℕ) (s : Slice) where
-  -- a font character
-  pub word-font : (g : FontSlice) (w : ℕ) → g ≡ fontSlice s → high < 128
-      → getD f (36 * high + g .at) 0 < 256 → w ≡ getD f (36 * high + g .at + 1) 0 * 256 + getD f (36 * high + g .at) 0
-      → record { bits = bitAnd w (g .kept) % 4096; cells = 0 } ≡ shownIn ram f high s
-  unfolding shownIn glyphOf value cells bitsOf
-  word-font g w e h b q = by (ℕ-discrete (s .0) 0)
-    where
-      set : high / 128 % 2 ≡ 0
-      set = omega arith
-
-      place : 36 * high + g .at ≡ fontByte (high % 128) (s .0)
-      place = omega (arith, font-at g s e)
-
-      by : Dec (s .0 ≡ 0) → record { bits = bitAnd w (g .kept) % 4096; cells = 0 } ≡ shownIn ram f high s
-      by (yes z) = rw (eq-eqb _ _ set, font-kept g s e, eq-eqb _ _ z, and-zero-r)
-      by (no z) =
-          rw (eq-eqb _ _ set, font-kept g s e, ne-eqb _ _ z, q, kept-twelve _ _ b, place)
-
-  -- a user character
-  pub word-user : (w : ℕ) → 128 ≤ high → high < 154
-      → getD ram (38 * (high - 128) + 2 * s .0) 0 < 256
-      → w ≡ getD ram (38 * (high - 128) + 2 * s .0 + 1) 0 * 256 + getD ram (38 * (high - 128) + 2 * s .0) 0
-      → record { bits = w % 4096; cells = 2 } ≡ shownIn ram f high s
-  unfolding shownIn glyphOf inRam value cells bitsOf
-  word-user w l h b q =
-      let set : high / 128 % 2 ≡ 0 → ⊥ = λ e. omega arith in
-      let number : high - 128 ≡ high % 128 = omega arith in
-      let few : high % 128 < 26 = omega arith in
-      rw (ne-eqb _ _ set, lt-ltb _ _ few, q, word-twelve _ _ b, number)
-
-  -- all background, or the end of line
-  pub word-blank : 154 ≤ high → high < 256 → record { bits = 0; cells = 0 } ≡ shownIn ram f high s
-  word-blank l h = shown-blank ram f high s (λ e. omega arith) (omega arith)
+-- the low twelve bits of a part's two bytes
+pub word-part : (part : List ℕ) (w : ℕ) → getD part 0 0 < 256 → w ≡ getD part 1 0 * 256 + getD part 0 0 → w % 4096 ≡ bitsIn part
+unfolding bitsIn
+word-part part w h e = omega arith

@@ -3,7 +3,7 @@ ghost use mathlib.Core.Path.{_≡_};
 ghost use Prim.Native.Nat.{_+_, _*_, _≤_, _<_};
 ghost use lib.ListN.{length};
 ghost use Rattle.glyph.specs.Glyph.{twelve, slicePart, Lent, Sliced, shownIn};
-ghost use Rattle.glyph.specs.Words.{fontSlice, WordShown};
+ghost use Rattle.glyph.specs.Words.{WordShown};
 use raster::Slice;
 
 // The pixels PX11 to PX0 of a code in a slice, a bit each, and how many cells that read.
@@ -65,30 +65,11 @@ pub fn lookup<'a>(ram: &'a [u8], font: &'a [u8], high: u8, slice: Slice) -> Show
     }
 }
 
-// A slice of the font's characters: where that of character 0 lies, and the bits that it shows, none of slice 0.
-pub struct FontSlice {
-    pub at: usize,
-    pub kept: u32,
-}
-
 // A code's slice as it lies there, two bytes with PX11 to PX0 in the low bits; how many cells that read; is it the end of line?
 pub struct Word {
     pub bits: u32,
     pub cells: u32,
     pub ends: bool,
-}
-
-pub fn font_slice(slice: Slice) -> FontSlice
-    requires { ⌜ slice .0 ≤ 18 ⌝ }
-    ensures { λ r. ⌜ r ≡ fontSlice slice ⌝ }
-{
-    if slice.0 == 0 {
-        return FontSlice { at: 0, kept: 0 };
-    }
-    FontSlice {
-        at: 2 * (slice.0 as usize - 1),
-        kept: 4095,
-    }
 }
 
 fn two_bytes(first: u8, second: u8) -> u32
@@ -97,30 +78,31 @@ fn two_bytes(first: u8, second: u8) -> u32
     second as u32 * 256 + first as u32
 }
 
-// What lookup tells of a code, and whether it ends the line, for a row: its font slice is found once, and font codes are tested first.
-pub fn word_shown<'a>(
-    ram: &'a [u8],
-    font: &'a [u8],
-    high: u8,
-    slice: Slice,
-    found: FontSlice,
-) -> Word
+// What lookup tells of a code, and whether it ends the line, for a row: font codes come most often and are tested first.
+pub fn word_shown<'a>(ram: &'a [u8], font: &'a [u8], high: u8, slice: Slice) -> Word
     requires { ⌜ Lent (now ram) (now font) ⌝ }
-    requires { ⌜ (slice .0 ≤ 18) × (found ≡ fontSlice slice) ⌝ }
+    requires { ⌜ slice .0 ≤ 18 ⌝ }
     ensures { λ r. ⌜ WordShown (now (ram .entry)) (now (font .entry)) high slice r ⌝ }
 {
     if high < 128 {
-        let a = 36 * high as usize + found.at;
+        if slice.0 == 0 {
+            return Word {
+                bits: 0,
+                cells: 0,
+                ends: false,
+            };
+        }
+        let part = slice_bytes(ram, font, high, slice);
         return Word {
-            bits: two_bytes(font[a], font[a + 1]) & found.kept,
+            bits: two_bytes(part[0], part[1]),
             cells: 0,
             ends: false,
         };
     }
     if high < 154 {
-        let a = 38 * (high as usize - 128) + 2 * slice.0 as usize;
+        let part = slice_bytes(ram, font, high, slice);
         return Word {
-            bits: two_bytes(ram[a], ram[a + 1]),
+            bits: two_bytes(part[0], part[1]),
             cells: 2,
             ends: false,
         };

@@ -9,11 +9,9 @@ ghost use Rattle.registers.specs.Registers.{settingsOf};
 ghost use Rattle.raster.specs.Raster.{widthOf};
 ghost use Rattle.walk.specs.Walk.{OnLine};
 ghost use Rattle.glyph.specs.Glyph.{Lent};
-ghost use Rattle.glyph.specs.Words.{fontSlice};
 ghost use Rattle.line.specs.Line.{inkOf, columns, shownBits};
 ghost use Rattle.line.specs.Tables.{RowTables, maskTable, backTable, showTable, ofPixel, paintOf, castsShadow, solid, shadowed, fourOf, twelveOf};
 ghost use Rattle.line.specs.Contracts.{CharacterDrawn, CodeDrawn, RowDrawn, CharactersDrawn, StripDrawn, LineDrawn};
-use glyph::FontSlice;
 use raster::Slice;
 use registers::Registers;
 use registers::Settings;
@@ -457,18 +455,17 @@ fn draw_whole<'a>(
     font: &'a [u8],
     at: usize,
     pen: Pen,
-    found: FontSlice,
 ) -> Coded
     requires { ⌜ length (now out) ≡ 12 ⌝ }
     requires { ⌜ RowTables pen (now masks) (now backs) (now shows) ⌝ }
     requires { ⌜ Lent (now ram) (now font) ⌝ }
-    requires { ⌜ (pen .slice .0 ≤ 18) × (found ≡ fontSlice (pen .slice)) ⌝ }
+    requires { ⌜ pen .slice .0 ≤ 18 ⌝ }
     requires { ⌜ at + 1 < 1024 ⌝ }
     ensures { λ r. ⌜ CodeDrawn (now (ram .entry)) (now (font .entry)) at pen (now (out .entry)) r (now (out .exit)) ⌝ }
 {
     let low = ram[at];
     let slice = pen.slice;
-    let word = glyph::word_shown(ram, font, ram[at + 1], slice, found);
+    let word = glyph::word_shown(ram, font, ram[at + 1], slice);
     if word.ends {
         return Coded {
             ended: true,
@@ -500,8 +497,6 @@ fn draw_row<'a>(
     let masks = mask_table();
     let backs = backs_of(pen.plain);
     let shows = shows_of(pen.hidden);
-    let slice = pen.slice;
-    let found = glyph::font_slice(slice);
     // characters that start before here are whole; at most one, here, is cut
     let cut = w - (w - first) % 12;
     let mut x = first;
@@ -509,17 +504,7 @@ fn draw_row<'a>(
     let mut cells: u32 = 0;
     while x < cut {
         let e = x + 12;
-        let code = draw_whole(
-            &mut out[x..e],
-            &masks,
-            &backs,
-            &shows,
-            ram,
-            font,
-            a,
-            pen,
-            found,
-        );
+        let code = draw_whole(&mut out[x..e], &masks, &backs, &shows, ram, font, a, pen);
         cells += code.cells;
         if code.ended {
             fill(&mut out[x..w], pen.plain);

@@ -10,11 +10,11 @@ use Rattle.line.proofs.draw_row.Statement.{statement}
 use Rattle.line.proofs.draw_row.Tie as tie
 
 abbrev Inv-loop : tie.InvT-loop
-Inv-loop out₀ ram font address pen first w masks backs shows found cut x₀ a₀ cells₀ out x a cells =
+Inv-loop out₀ ram font address pen first w masks backs shows cut x₀ a₀ cells₀ out x a cells =
     RowInv ram font address pen first w out₀ out x a cells × (x ≤ cut) × ((cut - x) % 12 ≡ 0)
 
 abbrev μ-loop : tie.MeasureT-loop
-μ-loop out₀ ram font address pen first w masks backs shows found cut x₀ a₀ cells₀ out x a cells = w - x
+μ-loop out₀ ram font address pen first w masks backs shows cut x₀ a₀ cells₀ out x a cells = w - x
 
 mask-table-requires : tie.Need-mask-table-requires Inv-loop μ-loop
 mask-table-requires c κs = search needs
@@ -24,9 +24,6 @@ backs-of-requires c κs = search needs
 
 shows-of-requires : tie.Need-shows-of-requires Inv-loop μ-loop
 shows-of-requires c κs = search needs
-
-font-slice-requires : tie.Need-font-slice-requires Inv-loop μ-loop
-font-slice-requires c κs = search needs
 
 sub-cut : tie.Need-sub-cut Inv-loop μ-loop
 sub-cut c = search needs
@@ -42,7 +39,7 @@ cast-a c = search needs
 
 loop-holds : tie.Need-loop-holds Inv-loop μ-loop
 loop-holds c =
-    let s = c .before .before .before .before .before .before .before .before .before in
+    let s = c .before .before .before .before .before .before .before in
     (row-holds _ _ _ _ _ _ _ (c .even-address .result) (s .pre .0 .0) (c .even-address .ensures), omega (arith, s .pre .0 .0), omega (arith, s .pre .0 .0))
 
 add-e : tie.Need-add-e Inv-loop μ-loop
@@ -69,18 +66,18 @@ slice-aggregate-draw-whole-3 c = search needs
 draw-whole-requires : tie.Need-draw-whole-requires Inv-loop μ-loop
 draw-whole-requires c κs =
     let l = c .before .before .before .before .before .loop in
-    let p = c .before .before .before .before .before .before .before .before .before .before .before .before .before .before .before .pre in (
+    let p = c .before .before .before .before .before .before .before .before .before .before .before .before .before .pre in (
       part-twelve (l .out) (l .x) _ (c .before .before .before .before .loop-test .taken) (l .inv .2) (omega (arith, l .inv .0 .long, p .0 .1)),
       (
-        record { of-masks = c .before .before .before .before .before .before .before .before .before .before .before .mask-table .ensures; of-backs = c .before .before .before .before .before .before .before .before .before .before .backs-of .ensures; of-shows = c .before .before .before .before .before .before .before .before .before .shows-of .ensures },
-        (p .1 .0, ((p .1 .1, c .before .before .before .before .before .before .before .font-slice .ensures), omega (arith, l .inv .0 .paired))),
+        record { of-masks = c .before .before .before .before .before .before .before .before .before .mask-table .ensures; of-backs = c .before .before .before .before .before .before .before .before .backs-of .ensures; of-shows = c .before .before .before .before .before .before .before .shows-of .ensures },
+        (p .1 .0, (p .1 .1, omega (arith, l .inv .0 .paired))),
       ),
     )
 
 add-cells : tie.Need-add-cells Inv-loop μ-loop
 add-cells c =
     let l = c .before .before .before .before .before .before .before .before .before .loop in
-    let p = c .before .before .before .before .before .before .before .before .before .before .before .before .before .before .before .before .before .before .before .pre in
+    let p = c .before .before .before .before .before .before .before .before .before .before .before .before .before .before .before .before .before .pre in
     omega (arith, row-bound _ _ _ _ _ _ _ (l .out) (l .x) (l .a) (l .cells) (p .0 .2) (l .inv .0), code-few _ _ _ _ _ _ _ (c .before .before .before .draw-whole .ensures))
 
 sub-fill : tie.Need-sub-fill Inv-loop μ-loop
@@ -102,7 +99,7 @@ returns : tie.Need-returns Inv-loop μ-loop
 returns c =
     let d = c .before .before .before .before .before .before .before .before in
     let l = d .before .before .before .before .before .before .loop in
-    let p = c .before .before .before .before .before .before .before .before .before .before .before .before .before .before .before .before .before .before .before .before .before .before .before .before .pre in
+    let p = c .before .before .before .before .before .before .before .before .before .before .before .before .before .before .before .before .before .before .before .before .before .before .pre in
     row-ended _ _ _ _ _ _ _ (l .out) (l .x) (l .a) (l .cells) (l .inv .0) (omega (arith, d .before .before .before .before .before .loop-test .taken)) (p .0 .1) _ _ _ (d .draw-whole .ensures)
     (c .before .before .before .before .if1 .taken) _ (c .before .before .fill .ensures)
 
@@ -119,7 +116,7 @@ loop-again : tie.Need-loop-again Inv-loop μ-loop
 loop-again c =
     let d = c .before .before .before .before in
     let l = d .before .before .before .before .before .before .loop in
-    let p = c .before .before .before .before .before .before .before .before .before .before .before .before .before .before .before .before .before .before .before .before .pre in
+    let p = c .before .before .before .before .before .before .before .before .before .before .before .before .before .before .before .before .before .before .pre in
     let t = d .before .before .before .before .before .loop-test .taken in (
       row-drawn _ _ _ _ _ _ _ (l .out) (l .x) (l .a) (l .cells) (l .inv .0) (omega arith) (p .0 .1) _ (omega arith) _ _ (d .draw-whole .ensures)
           (c .if1 .left),
@@ -139,13 +136,13 @@ part-draw-code-end c = search needs
 draw-code-requires : tie.Need-draw-code-requires Inv-loop μ-loop
 draw-code-requires c κs =
     let l = c .before .before .before .loop in
-    let p = c .before .before .before .before .before .before .before .before .before .before .before .before .before .pre in
+    let p = c .before .before .before .before .before .before .before .before .before .before .before .pre in
     (simp (length-take, length-drop) (omega (arith, l .inv .1)), (p .1 .0, (p .1 .1, omega (arith, l .inv .0 .paired))))
 
 add-cells-2 : tie.Need-add-cells-2 Inv-loop μ-loop
 add-cells-2 c =
     let l = c .before .before .before .before .before .before .before .loop in
-    let p = c .before .before .before .before .before .before .before .before .before .before .before .before .before .before .before .before .before .pre in
+    let p = c .before .before .before .before .before .before .before .before .before .before .before .before .before .before .before .pre in
     omega (arith, row-bound _ _ _ _ _ _ _ (l .out) (l .x) (l .a) (l .cells) (p .0 .2) (l .inv .0), code-few _ _ _ _ _ _ _ (c .before .before .before .draw-code .ensures))
 
 sub-fill-2 : tie.Need-sub-fill-2 Inv-loop μ-loop
@@ -167,7 +164,7 @@ returns-2 : tie.Need-returns-2 Inv-loop μ-loop
 returns-2 c =
     let d = c .before .before .before .before .before .before .before .before in
     let l = d .before .before .before .before .loop in
-    let p = c .before .before .before .before .before .before .before .before .before .before .before .before .before .before .before .before .before .before .before .before .before .before .pre in
+    let p = c .before .before .before .before .before .before .before .before .before .before .before .before .before .before .before .before .before .before .before .before .pre in
     row-ended _ _ _ _ _ _ _ (l .out) (l .x) (l .a) (l .cells) (l .inv .0) (d .before .before .if2 .taken) (p .0 .1) _ _ _ (d .draw-code .ensures)
     (c .before .before .before .before .if3 .taken) _ (c .before .before .fill2 .ensures)
 
@@ -178,7 +175,7 @@ returns-3 : tie.Need-returns-3 Inv-loop μ-loop
 returns-3 c =
     let d = c .before .before .before .before in
     let l = d .before .before .before .before .loop in
-    let p = c .before .before .before .before .before .before .before .before .before .before .before .before .before .before .before .before .before .before .pre in
+    let p = c .before .before .before .before .before .before .before .before .before .before .before .before .before .before .before .before .pre in
     row-full _ _ _ _ _ _ _ _ _ _ _
     (row-drawn _ _ _ _ _ _ _ (l .out) (l .x) (l .a) (l .cells) (l .inv .0) (d .before .before .if2 .taken) (p .0 .1) _ (omega arith) _ _
     (d .draw-code .ensures) (c .if3 .left))
@@ -201,7 +198,6 @@ draw-row-spec =
     mask-table-requires
     backs-of-requires
     shows-of-requires
-    font-slice-requires
     sub-cut
     sub-cut-2
     even-address-requires

@@ -27,8 +27,8 @@ returns c =
 draw-twelve-requires : tie.Need-draw-twelve-requires
 draw-twelve-requires c κs = search needs
 
-add-t21 : tie.Need-add-t21
-add-t21 c =
+add-t20 : tie.Need-add-t20
+add-t20 c =
     let w = c .before .before .before .before .before .before .word-shown in
     word-fits _ _ _ _ (w .result) (w .ensures)
 
@@ -53,6 +53,6 @@ draw-whole-spec =
     word-shown-requires
     returns
     draw-twelve-requires
-    add-t21
+    add-t20
     same-length
     returns-2)
