@@ -148,44 +148,50 @@ fn bus(name: &str, rounds: u32, font: &[u8], reads: bool) {
     row(name, figures);
 }
 
-/// Every cell at the start of a frame: the mean over all, and the cell that takes longest.
+/// Every cell at the start of a frame: the mean over all, and the cell that takes longest. All cells are gone through in each round,
+/// so that a disturbance of the machine does not stay with one of them.
 fn cells(name: &str, rounds: u32, mut pair: Pair) {
     const TIMES: u32 = 32;
     pair.start();
     let Pair { ram, ours, model, .. } = pair;
-    let mut worst = (0f64, 0f64);
-    for cell in 0..RAM as u32 {
-        assert_eq!(linked::cell(&ours, &ram, cell), model_cell(&model, &ram, cell));
-        let (a, b) = race(
-            rounds / 4,
-            TIMES,
-            || {
-                (0..TIMES).for_each(|_| {
-                    black_box(linked::cell(&ours, &ram, black_box(cell)));
-                })
-            },
-            || {
-                (0..TIMES).for_each(|_| {
-                    black_box(model_cell(&model, &ram, black_box(cell)));
-                })
-            },
-        );
-        worst = (worst.0.max(a), worst.1.max(b));
+    let mut best = vec![(f64::MAX, f64::MAX); RAM];
+    for _ in 0..rounds / 4 {
+        for (cell, best) in (0..).zip(&mut best) {
+            let (a, b) = race(
+                1,
+                TIMES,
+                || {
+                    for _ in 0..TIMES {
+                        black_box(linked::cell(&ours, &ram, black_box(cell)));
+                    }
+                },
+                || {
+                    for _ in 0..TIMES {
+                        black_box(model_cell(&model, &ram, black_box(cell)));
+                    }
+                },
+            );
+            *best = (best.0.min(a), best.1.min(b));
+        }
     }
+    let worst = best.iter().fold((0f64, 0f64), |worst, best| (worst.0.max(best.0), worst.1.max(best.1)));
     let mean = race(
         rounds,
         RAM as u32,
         || {
-            (0..RAM as u32).for_each(|cell| {
+            for cell in 0..RAM as u32 {
                 black_box(linked::cell(&ours, &ram, cell));
-            })
+            }
         },
         || {
-            (0..RAM as u32).for_each(|cell| {
+            for cell in 0..RAM as u32 {
                 black_box(model_cell(&model, &ram, cell));
-            })
+            }
         },
     );
+    for cell in 0..RAM as u32 {
+        assert_eq!(linked::cell(&ours, &ram, cell), model_cell(&model, &ram, cell));
+    }
     row(&format!("{name}, worst"), worst);
     row(&format!("{name}, mean"), mean);
 }
