@@ -20,10 +20,10 @@ use Rattle.bus.specs.declared.State.the-variants.{Idle, Deaf, Slave, High, Low,
 use Rattle.bus.specs.declared.Bus.{Bus}
 use Rattle.bus.specs.declared.Step.{Step}
 use Rattle.bus.specs.declared.Event.{Event}
-use Rattle.bus.specs.declared.Event.the-variants.{Byte, Fetch}
+use Rattle.bus.specs.declared.Event.the-variants.{Start, Byte, Fetch, Stop}
 use Rattle.bus.specs.declared.Effect.{Effect}
 use Rattle.bus.specs.declared.Effect.the-variants.{Acknowledge, Ignore, Store, Load}
-use Rattle.bus.specs.Bus.{eventOf, ignores, fetchAt, step, isRegister, registersWith, ramWith, answerTo, taken, busEvent, byteIn}
+use Rattle.bus.specs.Bus.{eventOf, goes, ignores, byteAt, fetchAt, step, isRegister, registersWith, ramWith, answerTo, taken, busEvent, byteIn}
 use Rattle.device.specs.declared.Device.{Device}
 use Rattle.device.specs.declared.StartDone.{StartDone}
 use Rattle.device.specs.declared.DrawDone.{DrawDone}
@@ -32,7 +32,7 @@ use Rattle.device.specs.declared.DrawAnswer.the-variants as draw
 use Rattle.device.specs.Device.{freshDevice, hearEvent, startOutcome, startFrame, drawOutcome, drawLine, askCell}
 use Rattle.layout.specs.Layout.{stateNumber, busBytes, busIn, registersIn, frameBytes, deviceBytes, deviceIn}
 use Rattle.osd.specs.Interface as osd
-use Rattle.osd.specs.Interface.{answerOf, notTaken, freshOn, ignoredOn, heardOn, stepOn, eventOn, touched, busOn, storedOn, startedOn, startOn, drawnOn, drawOn, cellOn}
+use Rattle.osd.specs.Interface.{answerOf, notTaken, InSpace, freshOn, ignoredOn, heardOn, stepOn, eventOn, touched, busOn, storedOn, startedOn, startOn, drawnOn, drawOn, cellOn}
 
 -- a refusal's number is not 0
 not-zero : (r : Refusal) → eqb (numberOf r) 0 ≡ false
@@ -155,6 +155,36 @@ pub fetched-in-place : (xs : List ℕ) (i : ℕ) → i < 16 → getD xs (4 + i) 
 fetched-in-place xs i k = sym (getD-take 16 (drop 4 xs) i 0 k ∙ getD-drop 4 xs i 0)
 
 -- ---- what the bus asks of the cells
+
+slave-in-space : (b : Bus) (p q : Bool) → InSpace (cond p (goes b High Acknowledge) (cond q (goes b Read Acknowledge) (goes b Deaf Ignore)) .effect)
+slave-in-space b true q = tt
+slave-in-space b false true = tt
+slave-in-space b false false = tt
+
+byte-in-space : (s : State) (b : Bus) (x : ℕ) → InSpace (byteAt s b x .effect)
+byte-in-space Idle b x = tt
+byte-in-space Deaf b x = tt
+byte-in-space Slave b x = slave-in-space b (eqb x 0xBA) (eqb x 0xBB)
+byte-in-space High b x = tt
+byte-in-space (Low high) b x = tt
+byte-in-space Write b x = omega arith
+byte-in-space Read b x = tt
+
+fetch-in-space : (s : State) (b : Bus) → InSpace (fetchAt s b .effect)
+fetch-in-space Idle b = tt
+fetch-in-space Deaf b = tt
+fetch-in-space Slave b = tt
+fetch-in-space High b = tt
+fetch-in-space (Low high) b = tt
+fetch-in-space Write b = tt
+fetch-in-space Read b = omega arith
+
+pub step-in-space : (b : Bus) (e : Event) → InSpace (step b e .effect)
+unfolding step
+step-in-space b Start = tt
+step-in-space b (Byte x) = byte-in-space (b .state) b x
+step-in-space b Fetch = fetch-in-space (b .state) b
+step-in-space b Stop = tt
 
 module _ (xs ram ys : List ℕ) (s : Step) (h : length xs ≡ 32) (e : ys ≡ busBytes (s .bus) ++ drop 4 xs) where
   pub applied-acknowledge : s .effect ≡ Acknowledge

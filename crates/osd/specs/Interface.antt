@@ -15,6 +15,8 @@ use Rattle.bus.specs.declared.State.{State}
 use Rattle.bus.specs.declared.State.the-variants.{Slave}
 use Rattle.bus.specs.declared.Event.{Event}
 use Rattle.bus.specs.declared.Step.{Step}
+use Rattle.bus.specs.declared.Effect.{Effect}
+use Rattle.bus.specs.declared.Effect.the-variants.{Acknowledge, Ignore, Store, Load}
 use Rattle.bus.specs.Bus.{eventOf, step, isRegister, BusOutcome, taken}
 use Rattle.device.specs.Device.{freshDevice, EventOutcome, hearEvent, StartOutcome, startFrame, DrawOutcome, drawLine, askCell}
 use Rattle.layout.specs.Layout.{stateNumber, busBytes, busIn, registersIn, frameBytes, deviceBytes, deviceIn}
@@ -67,6 +69,13 @@ heardOn xs o =
       ram = o .ram;
       answer = answerOf (o .reply);
     }
+
+-- an address that a step of the bus asks for is at most 3FFF
+abbrev pub InSpace : Effect → Type 0
+InSpace Acknowledge = Unit
+InSpace Ignore = Unit
+InSpace (Store a x) = a < 0x4000
+InSpace (Load a) = a < 0x4000
 
 -- a step of the bus, and an event to a record and RAM of the right lengths: what the promises of inner functions cite
 abbrev pub stepOn : List ℕ → List ℕ → Step → BusDone

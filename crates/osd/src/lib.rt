@@ -1,13 +1,13 @@
 // The device for firmware to link: include/osd.h has each function as C sees it. The record crosses as 32 lent bytes.
 ghost use mathlib.Core.Path.{_≡_};
-ghost use Prim.Native.Nat.{_+_, _*_};
+ghost use Prim.Native.Nat.{_+_, _*_, _<_};
 ghost use lib.ListN.{length, getD};
 ghost use Rattle.refusals.specs.Refusals.{refused};
 ghost use Rattle.bus.specs.declared.Event.the-variants.{Byte, Fetch};
 ghost use Rattle.bus.specs.declared.Effect.the-variants.{Store};
 ghost use Rattle.bus.specs.Bus.{ramWith, byteIn};
 ghost use Rattle.layout.specs.Layout.{registersIn};
-ghost use Rattle.osd.specs.Interface.{answerOf, freshOn, ignoredOn, stepOn, eventOn, busOn, storedOn, startOn, drawOn, cellOn};
+ghost use Rattle.osd.specs.Interface.{answerOf, freshOn, ignoredOn, InSpace, stepOn, eventOn, busOn, storedOn, startOn, drawOn, cellOn};
 use bus::Bus;
 use bus::Effect;
 use bus::Event;
@@ -78,7 +78,7 @@ pub extern "C" fn osd_reset(device: &mut [u8]) -> u32
 
 // A byte to an address: a RAM cell, a register in its place, or nothing.
 fn store(device: &mut [u8], ram: &mut [u8], address: u16, x: u8)
-    requires { ⌜ (length (now device) ≡ 32) × (length (now ram) ≡ 1024) ⌝ }
+    requires { ⌜ (length (now device) ≡ 32) × (length (now ram) ≡ 1024) × (address < 0x4000) ⌝ }
     ensures registers { λ _. ⌜ now (device .exit) ≡ storedOn address x (now (device .entry)) ⌝ }
     ensures cells { λ _. ⌜ now (ram .exit) ≡ ramWith (Store address x) (now (ram .entry)) ⌝ }
 {
@@ -87,21 +87,21 @@ fn store(device: &mut [u8], ram: &mut [u8], address: u16, x: u8)
         return;
     }
     if address >= 0x3FF0 {
-        let i = (address - 0x3FF0) as usize % 16;
+        let i = (address - 0x3FF0) as usize;
         device[4 + i] = x & Registers::KEPT[i];
     }
 }
 
 // The byte at an address: a RAM cell's, a register's, or 0.
 fn load(device: &[u8], ram: &[u8], address: u16) -> u8
-    requires { ⌜ (length (now device) ≡ 32) × (length (now ram) ≡ 1024) ⌝ }
+    requires { ⌜ (length (now device) ≡ 32) × (length (now ram) ≡ 1024) × (address < 0x4000) ⌝ }
     ensures { λ r. ⌜ r ≡ byteIn address (registersIn (now (device .entry))) (now (ram .entry)) ⌝ }
 {
     if address < 0x400 {
         return ram[address as usize];
     }
     if address >= 0x3FF0 {
-        let i = (address - 0x3FF0) as usize % 16;
+        let i = (address - 0x3FF0) as usize;
         return device[4 + i];
     }
     0
@@ -119,7 +119,7 @@ fn ignore(device: &mut [u8], state: State)
 
 // What the bus asks of the cells, done in place.
 fn apply(device: &mut [u8], ram: &mut [u8], step: Step) -> u32
-    requires { ⌜ (length (now device) ≡ 32) × (length (now ram) ≡ 1024) ⌝ }
+    requires { ⌜ (length (now device) ≡ 32) × (length (now ram) ≡ 1024) × InSpace (step .effect) ⌝ }
     ensures { λ r. ⌜ record { device = now (device .exit); ram = now (ram .exit); answer = r } ≡ stepOn (now (device .entry)) (now (ram .entry)) step ⌝ }
 {
     let next = step.bus;

@@ -1,6 +1,8 @@
 -- `apply`: the cases of the effect.
 -- Assumes nothing.
+use mathlib.Core.Path.{subst}
 use borrow.Author.Needs.{needs}
+use Rattle.osd.specs.Interface.{InSpace}
 use Rattle.osd.proofs.Calls.{applied-acknowledge, applied-ignore, applied-store, applied-load}
 use Rattle.osd.proofs.apply.Statement.{statement}
 use Rattle.osd.proofs.apply.Tie as tie
@@ -27,13 +29,17 @@ write-bus-requires-2 : tie.Need-write-bus-requires-2
 write-bus-requires-2 c κs = search needs
 
 store-requires : tie.Need-store-requires
-store-requires c κs = search needs
+store-requires c κs =
+    let e = c .before .before .before .before .before .before .before in
+    (search needs, search needs, subst InSpace (e .effect .given .1) (e .before .before .before .before .before .pre .2))
 
 enum-known-effect-2 : tie.Need-enum-known-effect-2
 enum-known-effect-2 c = search needs
 
 load-requires : tie.Need-load-requires
-load-requires c κs = search needs
+load-requires c κs =
+    let e = c .before .before .before in
+    (search needs, search needs, subst InSpace (e .effect2 .given .1) (e .before .before .before .before .before .pre .2))
 
 write-bus-requires-3 : tie.Need-write-bus-requires-3
 write-bus-requires-3 c κs = search needs

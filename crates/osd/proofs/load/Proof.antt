@@ -1,6 +1,7 @@
 -- `load`: the tests on the address pick the case of `byteIn`.
 -- Assumes nothing.
 use Prim.Native.Nat.{_-_, _%_}
+use mathlib.Core.Path.{_≡_}
 use native.Mathlib.Omega.{arith}
 use denote.Ref.{now}
 use borrow.Author.Tests.{lt-ltb, le-ltb, le-leb, lt-leb}
@@ -26,7 +27,10 @@ shared-slice-read-result-2 c = search needs
 
 returns-2 : tie.Need-returns-2
 returns-2 c =
-    rw (le-ltb _ _ (c .before .before .if1 .left), le-leb _ _ (c .before .if2 .taken)) (fetched-in-place (now (c .before .before .before .args .device)) ((c .before .before .before .args .address - 0x3FF0) % 16) (omega arith))
+    let a = c .before .before .before in
+    let i = a .args .address - 0x3FF0 in
+    let few : i % 16 ≡ i = omega (arith, a .pre .2) in
+    rw (le-ltb _ _ (c .before .before .if1 .left), le-leb _ _ (c .before .if2 .taken), few) (fetched-in-place (now (a .args .device)) i (omega (arith, a .pre .2)))
 
 returns-3 : tie.Need-returns-3
 returns-3 c = rw (le-ltb _ _ (c .before .if1 .left), lt-leb _ _ (c .if2 .left))

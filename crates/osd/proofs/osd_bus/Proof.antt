@@ -1,11 +1,13 @@
 -- `osd_bus`: refused, or the step of the bus applied.
 -- Assumes nothing.
 use Prim.Native.Nat.{ℕ}
-use mathlib.Core.Path.{sym, ap}
+use mathlib.Core.Path.{subst, sym, ap}
 use borrow.Author.Needs.{needs}
+use Rattle.bus.specs.declared.Step.{Step}
+use Rattle.osd.specs.Interface.{InSpace}
+use Rattle.osd.proofs.Calls.{step-in-space, bus-not-record, bus-not-kind, bus-refused, bus-heard, bus-applied, not-fetched}
 use Rattle.bus.specs.declared.Event.the-variants.{Byte, Fetch}
 use Rattle.bus.specs.Bus.{eventOf}
-use Rattle.osd.proofs.Calls.{bus-not-record, bus-not-kind, bus-refused, bus-heard, bus-applied, not-fetched}
 use Rattle.osd.proofs.osd_bus.Statement.{statement}
 use Rattle.osd.proofs.osd_bus.Tie as tie
 
@@ -81,7 +83,12 @@ take-requires : tie.Need-take-requires
 take-requires c κs = search needs
 
 apply-requires : tie.Need-apply-requires
-apply-requires c κs = search needs
+apply-requires c κs =
+    let b = c .before .before .before .before in (
+      search needs,
+      b .before .before .before .before .before .if3 .left,
+      subst (λ (s : Step). InSpace (s .effect)) (sym (c .take .ensures)) (step-in-space (b .bus-in .result) (c .before .of-kind .result)),
+    )
 
 same-length-5 : tie.Need-same-length-5
 same-length-5 c = search needs

@@ -1,5 +1,7 @@
 -- `store`: the tests on the address pick the case of `storedOn` and `ramWith`.
 -- Assumes nothing.
+use Prim.Native.Nat.{_-_, _%_}
+use mathlib.Core.Path.{_≡_}
 use native.Mathlib.Omega.{arith}
 use borrow.Author.Tests.{lt-ltb, le-ltb, le-leb, lt-leb}
 use borrow.Author.Needs.{needs}
@@ -32,7 +34,10 @@ same-length-2 : tie.Need-same-length-2
 same-length-2 c = search needs
 
 returns-2 : tie.Need-returns-2
-returns-2 c = (rw (le-leb _ _ (c .if2 .taken)), unfold ramWith in rw (le-ltb _ _ (c .before .if1 .left)))
+returns-2 c =
+    let i = c .before .before .args .address - 0x3FF0 in
+    let few : i % 16 ≡ i = omega (arith, c .before .before .pre .2) in
+    (rw (le-leb _ _ (c .if2 .taken), few), unfold ramWith in rw (le-ltb _ _ (c .before .if1 .left)))
 
 returns-3 : tie.Need-returns-3
 returns-3 c = (rw (lt-leb _ _ (c .if2 .left)), unfold ramWith in rw (le-ltb _ _ (c .before .if1 .left)))
