@@ -192,16 +192,16 @@ pub extern "C" fn osd_bus(device: &mut [u8], ram: &mut [u8], kind: u8, byte: u8)
         return refuse(Refusal::RamLength);
     }
     let state = device[0];
-    if kind == 1 {
-        if state == WRITING {
-            return write_next(device, ram, byte);
-        }
-    }
     if kind == 2 {
         if state == READING {
             return read_next(device, ram);
         }
         return refuse(Refusal::NotAcknowledged);
+    }
+    if kind == 1 {
+        if state == WRITING {
+            return write_next(device, ram, byte);
+        }
     }
     let bus = layout::bus_in(device);
     apply(device, ram, bus.take(Event::of_kind(kind, byte)))

@@ -26,8 +26,8 @@ returns-3 c = bus-refused _ _ _ _ (c .before .before .before .if1 .left) (c .bef
 slice-read-state : tie.Need-slice-read-state
 slice-read-state c = search needs
 
-write-next-requires : tie.Need-write-next-requires
-write-next-requires c κs = search needs
+read-next-requires : tie.Need-read-next-requires
+read-next-requires c κs = search needs
 
 same-length : tie.Need-same-length
 same-length c = search needs
@@ -41,11 +41,22 @@ returns-4 c =
     let t = k .before .before .before .before in
     let l = t .before .before in
     let b = (l .before .before .before .before .before .args .byte) in
-    bus-heard _ _ _ b (l .before .before .if1 .left) (l .before .if2 .left) (Byte b) _
-    (l .if3 .left) (ap (λ (n : ℕ). eventOf n b) (sym (t .if4 .taken))) (k .write-next .ensures)
+    bus-heard _ _ _ b (l .before .before .if1 .left) (l .before .if2 .left) Fetch _
+    (l .if3 .left) (ap (λ (n : ℕ). eventOf n b) (sym (t .if4 .taken))) (k .read-next .ensures)
 
-read-next-requires : tie.Need-read-next-requires
-read-next-requires c κs = search needs
+refuse-requires-2 : tie.Need-refuse-requires-2
+refuse-requires-2 c κs = search needs
+
+returns-5 : tie.Need-returns-5
+returns-5 c =
+    let t = c .before .before in
+    let l = t .before .before in
+    let b = (l .before .before .before .before .before .args .byte) in
+    bus-heard _ _ _ b (l .before .before .if1 .left) (l .before .if2 .left) Fetch _
+    (l .if3 .left) (ap (λ (n : ℕ). eventOf n b) (sym (t .if4 .taken))) (not-fetched _ _ _ (c .before .if5 .left) (c .refuse2 .ensures))
+
+write-next-requires : tie.Need-write-next-requires
+write-next-requires c κs = search needs
 
 same-length-3 : tie.Need-same-length-3
 same-length-3 c = search needs
@@ -53,25 +64,14 @@ same-length-3 c = search needs
 same-length-4 : tie.Need-same-length-4
 same-length-4 c = search needs
 
-returns-5 : tie.Need-returns-5
-returns-5 c =
+returns-6 : tie.Need-returns-6
+returns-6 c =
     let k = c .before .before .before .before in
     let t = k .before .before .before .before in
     let l = t .before .before .before in
     let b = (l .before .before .before .before .before .args .byte) in
-    bus-heard _ _ _ b (l .before .before .if1 .left) (l .before .if2 .left) Fetch _
-    (l .if3 .left) (ap (λ (n : ℕ). eventOf n b) (sym (t .if6 .taken))) (k .read-next .ensures)
-
-refuse-requires-2 : tie.Need-refuse-requires-2
-refuse-requires-2 c κs = search needs
-
-returns-6 : tie.Need-returns-6
-returns-6 c =
-    let t = c .before .before in
-    let l = t .before .before .before in
-    let b = (l .before .before .before .before .before .args .byte) in
-    bus-heard _ _ _ b (l .before .before .if1 .left) (l .before .if2 .left) Fetch _
-    (l .if3 .left) (ap (λ (n : ℕ). eventOf n b) (sym (t .if6 .taken))) (not-fetched _ _ _ (c .before .if7 .left) (c .refuse2 .ensures))
+    bus-heard _ _ _ b (l .before .before .if1 .left) (l .before .if2 .left) (Byte b) _
+    (l .if3 .left) (ap (λ (n : ℕ). eventOf n b) (sym (t .if6 .taken))) (k .write-next .ensures)
 
 bus-in-requires : tie.Need-bus-in-requires
 bus-in-requires c κs = search needs
@@ -113,15 +113,15 @@ osd-bus-spec =
     refuse-requires
     returns-3
     slice-read-state
-    write-next-requires
+    read-next-requires
     same-length
     same-length-2
     returns-4
-    read-next-requires
+    refuse-requires-2
+    returns-5
+    write-next-requires
     same-length-3
     same-length-4
-    returns-5
-    refuse-requires-2
     returns-6
     bus-in-requires
     of-kind-requires
