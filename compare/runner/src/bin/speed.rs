@@ -241,7 +241,7 @@ fn all_descriptors() -> Vec<u8> {
 }
 
 fn main() {
-    let rounds = std::env::args().nth(1).map_or(60, |word| word.parse().expect("a number"));
+    let rounds = std::env::args().nth(1).map_or(200, |word| word.parse().expect("a number"));
     let mut random = Random::new(9425);
     let mut font = vec![0; FONT];
     random.fill(&mut font);
