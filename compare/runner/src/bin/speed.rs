@@ -85,10 +85,14 @@ fn row(name: &str, (ours, model): (f64, f64)) {
     println!("| {name} | {ours:.1} | {model:.1} | {:.2} |", ours / model);
 }
 
+/// A line buffer at the start of a cache line, so that neither side is lucky with its place.
+#[repr(align(64))]
+struct Line([u8; 768]);
+
 /// A frame of 2,048 lines.
 fn draw(name: &str, rounds: u32, mut pair: Pair) {
-    let mut line = [0; 768];
-    let mut model_line = [0; 768];
+    let mut line = Line([0; 768]);
+    let mut model_line = Line([0; 768]);
     pair.start();
     let (start, model_start) = (pair.ours, pair.model);
     let Pair { ram, font, .. } = pair;
@@ -98,17 +102,17 @@ fn draw(name: &str, rounds: u32, mut pair: Pair) {
         || {
             let mut device = start;
             for _ in 0..LINES {
-                black_box(linked::draw(&mut device, &ram, &font, &mut line));
+                black_box(linked::draw(&mut device, &ram, &font, &mut line.0));
             }
         },
         || {
             let mut device = model_start;
             for _ in 0..LINES {
-                black_box(model_draw(&mut device, &ram, &font, &mut model_line));
+                black_box(model_draw(&mut device, &ram, &font, &mut model_line.0));
             }
         },
     );
-    assert_eq!(line, model_line);
+    assert_eq!(line.0, model_line.0);
     row(name, figures);
 }
 
