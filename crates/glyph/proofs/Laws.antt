@@ -1,6 +1,6 @@
 -- The laws of codes and glyphs: what a glyph reads lies below 1,024, and is at most two cells.
 -- Assumes nothing.
-use Prim.Native.Nat.{ℕ, _+_, _-_, _*_, _%_, _/_, _≤_, _<_}
+use Prim.Native.Nat.{ℕ, _+_, _*_, _%_, _/_, _≤_, _<_}
 use mathlib.Core.Path.{_≡_, refl, ap, _∙_}
 use mathlib.Core.Bool.{Bool, true, false, cond}
 use native.Mathlib.Omega.{arith}
@@ -9,13 +9,11 @@ use mathlib.Core.List.{List}
 use lib.Dec.{ltb, eqb}
 use native.Mathlib.Decide.{ℕ-discrete}
 use lib.ListN.{length, getD, take, drop, length-take, length-drop}
-use lib.Bits.{bitAnd, and-mask, and-zero-r}
 use lib.Seq.{getD-take, getD-drop}
-use Rattle.cells.specs.Reading.{Reading, done, read, value, cells}
+use Rattle.cells.specs.Reading.{done, read, value, cells}
 use Rattle.cells.proofs.Bounds.{Within, AtMost, within-cond, atMost-cond}
 use Rattle.raster.specs.declared.Slice.{Slice}
-use Rattle.glyph.specs.declared.Shown.{Shown}
-use Rattle.glyph.specs.Glyph.{Glyph, user, blank, userCell, fontByte, inRam, glyphOf, twelve, bitsOf, slicePart, Lent, Sliced, shownIn}
+use Rattle.glyph.specs.Glyph.{user, blank, userCell, fontByte, inRam, glyphOf, twelve, bitsOf, slicePart, Lent, Sliced, shownIn}
 
 pub inRam-within : (number s : ℕ) → s ≤ 18 → Within 1024 (inRam number s)
 unfolding inRam Within

@@ -15,7 +15,6 @@ use Rattle.walk.specs.declared.Strip.{Strip}
 use Rattle.walk.specs.declared.Strip.the-variants.{Spacing, Characters}
 use Rattle.device.specs.declared.Frame.{Frame}
 use Rattle.device.specs.declared.Device.{Device}
-use Rattle.layout.specs.declared.Packed.{Packed}
 use Rattle.layout.specs.Layout.{stateNumber, heldHigh, stateOf, busBytes, busIn, registersIn, packed, stripIn, frameBytes, frameIn, deviceBytes, deviceIn, ReadBack}
 
 -- ---- each part by itself

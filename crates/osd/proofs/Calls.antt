@@ -9,11 +9,10 @@ use borrow.Author.Tests.{eq-eqb, ne-eqb, lt-ltb, le-ltb, eqb-true}
 use lib.Dec.{T, eqb}
 use lib.Bits.{bitAnd}
 use lib.ListN.{length, getD, take, drop, set, take-append-drop, length-take, length-drop}
-use lib.Seq.{set-getD, drop-drop, set-append-left, length-take-le, getD-take, getD-drop}
+use lib.Seq.{set-getD, drop-drop, set-append-left, getD-take, getD-drop}
 use Rattle.refusals.specs.declared.Refusal.{Refusal}
 use Rattle.refusals.specs.declared.Refusal.the-variants.{RamLength, FontLength, LineLength, NoLine, NotAcknowledged, FrameLines, BenchLength, CellRange}
 use Rattle.refusals.specs.Refusals.{numberOf, refused}
-use Rattle.registers.specs.declared.Registers.{Registers}
 use Rattle.registers.specs.Registers.{kept, stored}
 use Rattle.bus.specs.declared.State.{State}
 use Rattle.bus.specs.declared.State.the-variants.{Idle, Deaf, Slave, High, Low, Write, Read}
@@ -21,7 +20,6 @@ use Rattle.bus.specs.declared.Bus.{Bus}
 use Rattle.bus.specs.declared.Step.{Step}
 use Rattle.bus.specs.declared.Event.{Event}
 use Rattle.bus.specs.declared.Event.the-variants.{Start, Byte, Fetch, Stop}
-use Rattle.bus.specs.declared.Effect.{Effect}
 use Rattle.bus.specs.declared.Effect.the-variants.{Acknowledge, Ignore, Store, Load}
 use Rattle.bus.specs.Bus.{eventOf, goes, ignores, byteAt, fetchAt, step, isRegister, registersWith, ramWith, answerTo, taken, busEvent, byteIn}
 use Rattle.device.specs.declared.Device.{Device}
@@ -32,7 +30,7 @@ use Rattle.device.specs.declared.DrawAnswer.the-variants as draw
 use Rattle.device.specs.Device.{freshDevice, hearEvent, startOutcome, startFrame, drawOutcome, drawLine, askCell}
 use Rattle.layout.specs.Layout.{stateNumber, busBytes, busIn, registersIn, frameBytes, deviceBytes, deviceIn}
 use Rattle.osd.specs.Interface as osd
-use Rattle.osd.specs.Interface.{answerOf, notTaken, InSpace, freshOn, ignoredOn, heardOn, stepOn, eventOn, touched, busOn, storedOn, startedOn, startOn, drawnOn, drawOn, cellOn}
+use Rattle.osd.specs.Interface.{answerOf, notTaken, InSpace, freshOn, ignoredOn, heardOn, stepOn, eventOn, busOn, storedOn, startedOn, startOn, drawnOn, drawOn, cellOn}
 
 -- a refusal's number is not 0
 not-zero : (r : Refusal) → eqb (numberOf r) 0 ≡ false

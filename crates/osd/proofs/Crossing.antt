@@ -1,14 +1,14 @@
 -- What the bytes hold after a call is read as the record that the device's function leaves.
 -- Assumes nothing.
-use Prim.Native.Nat.{ℕ, _+_, _-_, _*_, _%_, _≤_, _<_}
+use Prim.Native.Nat.{ℕ, _+_, _-_, _≤_, _<_}
 use mathlib.Core.Path.{_≡_, refl, sym, ap, _∙_}
 use mathlib.Core.Bool.{Bool, true, false, not, cond, _&&_, _||_}
-use mathlib.Core.List.{List, _∷_, _++_}
+use mathlib.Core.List.{List}
 use native.Mathlib.Omega.{arith}
 use borrow.Author.Tests.{eq-eqb, ne-eqb, lt-ltb, le-ltb, eqb-true, not-false}
 use lib.Dec.{T, eqb, ltb}
 use lib.ListN.{length, getD, take, drop, set, length-set, length-take, length-drop}
-use lib.Seq.{set-getD, getD-set-same, getD-set-other, drop-set-lt}
+use lib.Seq.{getD-set-same, getD-set-other, drop-set-lt}
 use Rattle.refusals.specs.Refusals.{accepted, refused}
 use Rattle.refusals.specs.declared.Refusal.the-variants.{RamLength, FontLength, LineLength, NoLine, NotAcknowledged, FrameLines}
 use Rattle.registers.specs.declared.Registers.{Registers}
@@ -24,7 +24,7 @@ use Rattle.bus.specs.declared.Effect.the-variants.{Acknowledge, Ignore, Store, 
 use Rattle.bus.specs.Bus.{eventOf, goes, byteAt, fetchAt, step, isRegister, registersWith, ramWith, answerTo, BusOutcome, taken, busEvent}
 use Rattle.device.specs.declared.Device.{Device}
 use Rattle.device.specs.Device.{freshDevice, EventOutcome, hearEvent, StartOutcome, inFrame, startFrame, DrawOutcome, notDrawn, lineOn, lineWidth, lineDrawn, drawLine, askCell}
-use Rattle.layout.specs.Layout.{stateNumber, stateOf, busBytes, busIn, registersIn, frameBytes, frameIn, deviceBytes, deviceIn}
+use Rattle.layout.specs.Layout.{busIn, registersIn, frameIn, deviceIn}
 use Rattle.layout.proofs.Laws.{frame-alike, read-back, event-back, start-back, draw-back}
 use Rattle.osd.specs.Interface.{answerOf, notTaken, Done, freshOn, BusDone, ignoredOn, heardOn, touched, busOn, startedOn, startOn, DrawDone, drawnOn, drawOn, cellOn, Crossing}
 use Rattle.osd.proofs.Calls.{ignored-same, fresh-not, bus-not-record, start-not, draw-not, cell-not}
@@ -96,19 +96,19 @@ byte-kind kind byte = by (eqb kind 0) (eqb kind 1) (eqb kind 2) refl
 abbrev After : List ℕ → Bus → Registers → Device
 After xs b r = record { bus = b; registers = r; frame = frameIn xs; next = getD xs 20 0 }
 
+sixteen : (xs : List ℕ) → length xs ≡ 32 → length (take 16 (drop 4 xs)) ≡ 16
+sixteen xs h = omega (arith, length-take 16 (drop 4 xs), length-drop 4 xs)
+
 still-sixteen : (xs : List ℕ) (f : Effect) → length xs ≡ 32 → length (registersWith f (registersIn xs) .bytes) ≡ 16
 unfolding registersWith
-still-sixteen xs Acknowledge h = omega (arith, length-take 16 (drop 4 xs), length-drop 4 xs)
-still-sixteen xs Ignore h = omega (arith, length-take 16 (drop 4 xs), length-drop 4 xs)
-still-sixteen xs (Load a) h = omega (arith, length-take 16 (drop 4 xs), length-drop 4 xs)
+still-sixteen xs Acknowledge h = sixteen xs h
+still-sixteen xs Ignore h = sixteen xs h
+still-sixteen xs (Load a) h = sixteen xs h
 still-sixteen xs (Store a x) h = by (isRegister a)
   where
-    sixteen : length (take 16 (drop 4 xs)) ≡ 16
-    sixteen = omega (arith, length-take 16 (drop 4 xs), length-drop 4 xs)
-
     by : (t : Bool) → length (cond t (stored (registersIn xs) (a - 0x3FF0) x) (registersIn xs) .bytes) ≡ 16
-    by true = length-set (take 16 (drop 4 xs)) _ _ ∙ sixteen
-    by false = sixteen
+    by true = length-set (take 16 (drop 4 xs)) _ _ ∙ sixteen xs h
+    by false = sixteen xs h
 
 -- the deaf bus, read back
 deaf-back : (xs : List ℕ) → length xs ≡ 32 → deviceIn (set xs 0 1) ≡ After xs (record { state = Deaf; counter = busIn xs .counter }) (registersIn xs)
@@ -157,23 +157,28 @@ cross-bus xs ram kind byte h k = rw (eq-eqb _ _ h, le-ltb _ _ k) (by (not (eqb (
 
 -- ---- the record after a frame start and a draw
 
-cross-start : (xs : List ℕ) (lines : ℕ) → length xs ≡ 32 → deviceIn (startOn xs lines .device) ≡ startFrame (deviceIn xs) lines .device
-unfolding startOn startedOn startFrame inFrame
-cross-start xs lines h = rw (eq-eqb _ _ h) (by (eqb lines 0 || ltb 2048 lines))
+-- each case of the call: what is read back, and that a refused one writes no byte
+start-cases : (xs : List ℕ) (lines : ℕ) → length xs ≡ 32
+    → let o : StartOutcome = startFrame (deviceIn xs) lines in
+    (deviceIn (startedOn xs o .device) ≡ o .device) × ((o .reply .refusal ≡ 0 → ⊥) → startedOn xs o .device ≡ xs)
+unfolding startedOn startFrame inFrame
+start-cases xs lines h = by (eqb lines 0 || ltb 2048 lines)
   where
     d : Device
     d = deviceIn xs
 
     by : (t : Bool)
         → let o : StartOutcome = cond t (record { device = d; reply = refused FrameLines }) (record { device = inFrame d lines; reply = accepted 0 }) in
-        deviceIn (startedOn xs o .device) ≡ o .device
-    by true = refl
-    by false = start-back xs (inFrame d lines .next) (inFrame d lines .frame) h
+        (deviceIn (startedOn xs o .device) ≡ o .device) × ((o .reply .refusal ≡ 0 → ⊥) → startedOn xs o .device ≡ xs)
+    by true = (refl, λ n. refl)
+    by false = (start-back xs (inFrame d lines .next) (inFrame d lines .frame) h, λ n. absurd (n refl))
 
-cross-draw : (xs ram font line : List ℕ) → length xs ≡ 32 → deviceIn (drawOn xs ram font line .device) ≡ drawLine (deviceIn xs) ram font line .device
-unfolding drawOn drawnOn drawLine lineDrawn lineOn
-cross-draw xs ram font line h =
-    rw (eq-eqb _ _ h) (by (not (eqb (length ram) 1024)) (not (eqb (length font) 4608)) (eqb (deviceIn xs .frame .left) 0) (ltb (length line) (lineWidth (deviceIn xs))))
+draw-cases : (xs ram font line : List ℕ) → length xs ≡ 32
+    → let o : DrawOutcome = drawLine (deviceIn xs) ram font line in
+    (deviceIn (drawnOn xs o .device) ≡ o .device) × ((o .reply .refusal ≡ 0 → ⊥) → drawnOn xs o .device ≡ xs)
+unfolding drawnOn drawLine lineDrawn lineOn
+draw-cases xs ram font line h =
+    by (not (eqb (length ram) 1024)) (not (eqb (length font) 4608)) (eqb (d .frame .left) 0) (ltb (length line) (lineWidth d))
   where
     d : Device
     d = deviceIn xs
@@ -182,12 +187,12 @@ cross-draw xs ram font line h =
         → let o : DrawOutcome =
         cond p (notDrawn d line RamLength)
         (cond q (notDrawn d line FontLength) (cond r (notDrawn d line NoLine) (cond t (notDrawn d line LineLength) (lineDrawn d ram font line)))) in
-        deviceIn (drawnOn xs o .device) ≡ o .device
-    by true q r t = refl
-    by false true r t = refl
-    by false false true t = refl
-    by false false false true = refl
-    by false false false false = draw-back xs (lineOn d ram .frame) h
+        (deviceIn (drawnOn xs o .device) ≡ o .device) × ((o .reply .refusal ≡ 0 → ⊥) → drawnOn xs o .device ≡ xs)
+    by true q r t = (refl, λ n. refl)
+    by false true r t = (refl, λ n. refl)
+    by false false true t = (refl, λ n. refl)
+    by false false false true = (refl, λ n. refl)
+    by false false false false = (draw-back xs (lineOn d ram .frame) h, λ n. absurd (n refl))
 
 -- ---- a refused event
 
@@ -229,38 +234,21 @@ silence xs ram kind byte u = by (eqb (length xs) 32 && not (ltb 3 kind)) (not (e
         (λ t. ignored-silent xs e (s .bus) (λ c d. u (byte-kind kind byte c) d (eqb-true _ _ (not-false _ q))) (how (busIn xs) e t)) n
 
 start-silence : (xs : List ℕ) (lines : ℕ) → (startFrame (deviceIn xs) lines .reply .refusal ≡ 0 → ⊥) → startOn xs lines .device ≡ xs
-unfolding startOn startedOn startFrame
-start-silence xs lines = by (eqb (length xs) 32) (eqb lines 0 || ltb 2048 lines)
+unfolding startOn
+start-silence xs lines n = by (eqb (length xs) 32) refl
   where
-    d : Device
-    d = deviceIn xs
-
-    by : (p t : Bool)
-        → let o : StartOutcome = cond t (record { device = d; reply = refused FrameLines }) (record { device = inFrame d lines; reply = accepted 0 }) in
-        (o .reply .refusal ≡ 0 → ⊥) → cond p (startedOn xs o) (record { device = xs; answer = notTaken }) .device ≡ xs
-    by false t n = refl
-    by true true n = refl
-    by true false n = absurd (n refl)
+    by : (t : Bool) → eqb (length xs) 32 ≡ t → cond t (startedOn xs (startFrame (deviceIn xs) lines)) (record { device = xs; answer = notTaken }) .device ≡ xs
+    by true e = start-cases xs lines (eqb-true _ _ e) .1 n
+    by false e = refl
 
 draw-silence : (xs ram font line : List ℕ) → (drawLine (deviceIn xs) ram font line .reply .refusal ≡ 0 → ⊥) → drawOn xs ram font line .device ≡ xs
-unfolding drawOn drawnOn drawLine lineDrawn
-draw-silence xs ram font line =
-    by (eqb (length xs) 32) (not (eqb (length ram) 1024)) (not (eqb (length font) 4608)) (eqb (d .frame .left) 0) (ltb (length line) (lineWidth d))
+unfolding drawOn
+draw-silence xs ram font line n = by (eqb (length xs) 32) refl
   where
-    d : Device
-    d = deviceIn xs
-
-    by : (a p q r t : Bool)
-        → let o : DrawOutcome =
-        cond p (notDrawn d line RamLength)
-        (cond q (notDrawn d line FontLength) (cond r (notDrawn d line NoLine) (cond t (notDrawn d line LineLength) (lineDrawn d ram font line)))) in
-        (o .reply .refusal ≡ 0 → ⊥) → cond a (drawnOn xs o) (record { device = xs; line = line; answer = notTaken }) .device ≡ xs
-    by false p q r t n = refl
-    by true true q r t n = refl
-    by true false true r t n = refl
-    by true false false true t n = refl
-    by true false false false true n = refl
-    by true false false false false n = absurd (n refl)
+    by : (t : Bool) → eqb (length xs) 32 ≡ t
+        → cond t (drawnOn xs (drawLine (deviceIn xs) ram font line)) (record { device = xs; line = line; answer = notTaken }) .device ≡ xs
+    by true e = draw-cases xs ram font line (eqb-true _ _ e) .1 n
+    by false e = refl
 
 deafness : (xs ram : List ℕ) (byte : ℕ) → length xs ≡ 32 → length ram ≡ 1024 → busIn xs .state ≡ Slave → (byte ≡ 0xBA → ⊥) → (byte ≡ 0xBB → ⊥)
     → busOn xs ram 1 byte ≡ record { device = set xs 0 1; ram = ram; answer = answerOf (refused NotAcknowledged) }
@@ -275,15 +263,17 @@ bus-rest : (xs ram : List ℕ) (kind byte : ℕ) → length xs ≡ 32 → kind �
 unfolding busOn heardOn
 bus-rest xs ram kind byte h k = rw (eq-eqb _ _ h, le-ltb _ _ k) (refl, refl)
 
-start-rest : (xs : List ℕ) (lines : ℕ) → length xs ≡ 32 → startOn xs lines .answer ≡ answerOf (startFrame (deviceIn xs) lines .reply)
+start-whole : (xs : List ℕ) (lines : ℕ) → length xs ≡ 32
+    → let o : StartOutcome = startFrame (deviceIn xs) lines in
+    let r : Done = startOn xs lines in (deviceIn (r .device) ≡ o .device) × (r .answer ≡ answerOf (o .reply))
 unfolding startOn startedOn
-start-rest xs lines h = rw (eq-eqb _ _ h)
+start-whole xs lines h = rw (eq-eqb _ _ h) (start-cases xs lines h .0, refl)
 
-draw-rest : (xs ram font line : List ℕ) → length xs ≡ 32
+draw-whole : (xs ram font line : List ℕ) → length xs ≡ 32
     → let o : DrawOutcome = drawLine (deviceIn xs) ram font line in
-    let r : DrawDone = drawOn xs ram font line in (r .line ≡ o .line) × (r .answer ≡ answerOf (o .reply))
+    let r : DrawDone = drawOn xs ram font line in (deviceIn (r .device) ≡ o .device) × (r .line ≡ o .line) × (r .answer ≡ answerOf (o .reply))
 unfolding drawOn drawnOn
-draw-rest xs ram font line h = rw (eq-eqb _ _ h) (refl, refl)
+draw-whole xs ram font line h = rw (eq-eqb _ _ h) (draw-cases xs ram font line h .0, refl, refl)
 
 cell-rest : (xs ram : List ℕ) (c : ℕ) → length xs ≡ 32 → cellOn xs ram c ≡ answerOf (askCell (deviceIn xs) ram c)
 unfolding cellOn
@@ -309,8 +299,8 @@ crossing =
     record {
       fresh = fresh-read;
       bus = λ xs ram kind byte h k. (cross-bus xs ram kind byte h k, bus-rest xs ram kind byte h k .0, bus-rest xs ram kind byte h k .1);
-      start = λ xs lines h. (cross-start xs lines h, start-rest xs lines h);
-      draw = λ xs ram font line h. (cross-draw xs ram font line h, draw-rest xs ram font line h .0, draw-rest xs ram font line h .1);
+      start = start-whole;
+      draw = draw-whole;
       cell = cell-rest;
       not-taken = λ xs ram font line kind byte lines c h. (
         sym (fresh-not xs h),
