@@ -10,7 +10,7 @@ use native.Mathlib.Omega.{arith}
 use borrow.Author.Tests.{eqb-false, leb-false, eq-eqb, le-leb, lt-leb, ne-eqb, lt-ltb, le-ltb}
 use lib.Dec.{eqb, ltb}
 use lib.ListN.{getD}
-use Rattle.cells.specs.Reading.{Reading, done, read, bind, fmap, value, cells, among}
+use Rattle.cells.specs.Reading.{descriptor, Reading, done, read, bind, fmap, value, cells, among}
 use Rattle.cells.proofs.Laws.{cells-bind}
 use Rattle.registers.specs.declared.Settings.{Settings}
 use Rattle.raster.specs.declared.ScanLine.{ScanLine}
@@ -253,8 +253,8 @@ step-on ch w e = rw e
 -- a strip that is over gives way to the next descriptor's
 step-read : (ch : ℕ) (w : Walk) → over (w .strip) ≡ true
     → nextLine ch w
-    ≡ (read (even (w .descriptor)) λ low.
-    read (even (w .descriptor) + 1) λ high.
+    ≡ (read descriptor (even (w .descriptor)) λ low.
+    read descriptor (even (w .descriptor) + 1) λ high.
     done (record { descriptor = next (even (w .descriptor)); strip = advanced (stripOf ch low high) }))
 unfolding nextLine begun fmap
 step-read ch w e = rw e

@@ -13,25 +13,25 @@ use Rattle.cells.specs.Reading.{Reading, done, read, bind, fmap, value, 
 -- every answer has P
 unfoldable pub Gives : {A : Type 0} → (A → Type 0) → Reading A → Type 0
 Gives P (done a) = P a
-Gives P (read c k) = (x : ℕ) → Gives P (k x)
+Gives P (read r c k) = (x : ℕ) → Gives P (k x)
 
 -- every cell read is below n
 unfoldable pub Within : {A : Type 0} → ℕ → Reading A → Type 0
 Within n (done a) = Unit
-Within n (read c k) = (c < n) × ((x : ℕ) → Within n (k x))
+Within n (read r c k) = (c < n) × ((x : ℕ) → Within n (k x))
 
 -- at most n cells are read
 unfoldable pub AtMost : {A : Type 0} → ℕ → Reading A → Type 0
 AtMost n (done a) = Unit
-AtMost zero (read c k) = ⊥
-AtMost (suc n) (read c k) = (x : ℕ) → AtMost n (k x)
+AtMost zero (read r c k) = ⊥
+AtMost (suc n) (read r c k) = (x : ℕ) → AtMost n (k x)
 
 -- ---- over one RAM
 
 pub gives-value : {A : Type 0} (P : A → Type 0) (ram : List ℕ) (p : Reading A) → Gives P p → P (value ram p)
 unfolding Gives value
 gives-value P ram (done a) g = g
-gives-value P ram (read c k) g = gives-value P ram (k (getD ram c 0)) (g (getD ram c 0))
+gives-value P ram (read r c k) g = gives-value P ram (k (getD ram c 0)) (g (getD ram c 0))
 
 among-first : (n c x : ℕ) (xs : List ℕ) → x < n → (T (among c xs) → c < n) → T (among c (x ∷ xs)) → c < n
 unfolding among
@@ -44,13 +44,13 @@ among-first n c x xs h f t = by (eqb c x) refl t
 pub within-cells : {A : Type 0} (n : ℕ) (ram : List ℕ) (p : Reading A) → Within n p → (c : ℕ) → T (among c (cells ram p)) → c < n
 unfolding Within cells
 within-cells n ram (done a) w c t = absurd (unfold among in t)
-within-cells n ram (read x k) w c t = among-first n c x (cells ram (k (getD ram x 0))) (w .0) (within-cells n ram (k (getD ram x 0)) (w .1 (getD ram x 0)) c) t
+within-cells n ram (read r x k) w c t = among-first n c x (cells ram (k (getD ram x 0))) (w .0) (within-cells n ram (k (getD ram x 0)) (w .1 (getD ram x 0)) c) t
 
 pub atMost-length : {A : Type 0} (n : ℕ) (ram : List ℕ) (p : Reading A) → AtMost n p → length (cells ram p) ≤ n
 unfolding AtMost cells
 atMost-length n ram (done a) m = zero-le
-atMost-length zero ram (read c k) m = absurd m
-atMost-length (suc n) ram (read c k) m = suc-le-suc (atMost-length n ram (k (getD ram c 0)) (m (getD ram c 0)))
+atMost-length zero ram (read r c k) m = absurd m
+atMost-length (suc n) ram (read r c k) m = suc-le-suc (atMost-length n ram (k (getD ram c 0)) (m (getD ram c 0)))
 
 -- ---- a program that reads nothing
 
@@ -68,50 +68,50 @@ pub gives-bind : {A B : Type 0} (P : A → Type 0) (Q : B → Type 0) (p : Readi
     → Gives P p → ((a : A) → P a → Gives Q (f a)) → Gives Q (bind p f)
 unfolding Gives bind
 gives-bind P Q (done a) f g h = h a g
-gives-bind P Q (read c k) f g h = λ x. gives-bind P Q (k x) f (g x) h
+gives-bind P Q (read r c k) f g h = λ x. gives-bind P Q (k x) f (g x) h
 
 pub gives-fmap : {A B : Type 0} (P : A → Type 0) (Q : B → Type 0) (f : A → B) (p : Reading A)
     → Gives P p → ((a : A) → P a → Q (f a)) → Gives Q (fmap f p)
 unfolding Gives fmap
 gives-fmap P Q f (done a) g h = h a g
-gives-fmap P Q f (read c k) g h = λ x. gives-fmap P Q f (k x) (g x) h
+gives-fmap P Q f (read r c k) g h = λ x. gives-fmap P Q f (k x) (g x) h
 
 pub gives-all : {A : Type 0} (P : A → Type 0) → ((a : A) → P a) → (p : Reading A) → Gives P p
 unfolding Gives
 gives-all P h (done a) = h a
-gives-all P h (read c k) = λ x. gives-all P h (k x)
+gives-all P h (read r c k) = λ x. gives-all P h (k x)
 
 pub within-bind : {A B : Type 0} (P : A → Type 0) (n : ℕ) (p : Reading A) (f : A → Reading B)
     → Gives P p → Within n p → ((a : A) → P a → Within n (f a)) → Within n (bind p f)
 unfolding Gives Within bind
 within-bind P n (done a) f g w h = h a g
-within-bind P n (read c k) f g w h = (w .0, λ x. within-bind P n (k x) f (g x) (w .1 x) h)
+within-bind P n (read r c k) f g w h = (w .0, λ x. within-bind P n (k x) f (g x) (w .1 x) h)
 
 pub within-fmap : {A B : Type 0} (n : ℕ) (f : A → B) (p : Reading A) → Within n p → Within n (fmap f p)
 unfolding Within fmap
 within-fmap n f (done a) w = tt
-within-fmap n f (read c k) w = (w .0, λ x. within-fmap n f (k x) (w .1 x))
+within-fmap n f (read r c k) w = (w .0, λ x. within-fmap n f (k x) (w .1 x))
 
 pub atMost-more : {A : Type 0} (n m : ℕ) (p : Reading A) → n ≤ m → AtMost n p → AtMost m p
 unfolding AtMost
 atMost-more n m (done a) h w = tt
-atMost-more zero m (read c k) h w = absurd w
-atMost-more (suc n) zero (read c k) h w = absurd (not-suc-le-zero h)
-atMost-more (suc n) (suc m) (read c k) h w = λ x. atMost-more n m (k x) (le-of-suc-le-suc h) (w x)
+atMost-more zero m (read r c k) h w = absurd w
+atMost-more (suc n) zero (read r c k) h w = absurd (not-suc-le-zero h)
+atMost-more (suc n) (suc m) (read r c k) h w = λ x. atMost-more n m (k x) (le-of-suc-le-suc h) (w x)
 
 pub atMost-bind : {A B : Type 0} (n m : ℕ) (p : Reading A) (f : A → Reading B)
     → AtMost n p → ((a : A) → AtMost m (f a)) → AtMost (n + m) (bind p f)
 unfolding AtMost bind
 atMost-bind n m (done a) f w h = atMost-more m (n + m) (f a) (omega arith) (h a)
-atMost-bind zero m (read c k) f w h = absurd w
-atMost-bind (suc n) m (read c k) f w h =
+atMost-bind zero m (read r c k) f w h = absurd w
+atMost-bind (suc n) m (read r c k) f w h =
     rw (suc-add n m) (λ x. atMost-bind n m (k x) f (w x) h)
 
 pub atMost-fmap : {A B : Type 0} (n : ℕ) (f : A → B) (p : Reading A) → AtMost n p → AtMost n (fmap f p)
 unfolding AtMost fmap
 atMost-fmap n f (done a) w = tt
-atMost-fmap zero f (read c k) w = absurd w
-atMost-fmap (suc n) f (read c k) w = λ x. atMost-fmap n f (k x) (w x)
+atMost-fmap zero f (read r c k) w = absurd w
+atMost-fmap (suc n) f (read r c k) w = λ x. atMost-fmap n f (k x) (w x)
 
 -- ---- one of two programs, by a test
 

@@ -14,23 +14,23 @@ use Rattle.cells.specs.Reading.{Reading, done, read, bind, fmap, value, 
 pub value-bind : {A B : Type 0} (ram : List ℕ) (p : Reading A) (f : A → Reading B) → value ram (bind p f) ≡ value ram (f (value ram p))
 unfolding bind value
 value-bind ram (done a) f = refl
-value-bind ram (read c k) f = value-bind ram (k (getD ram c 0)) f
+value-bind ram (read r c k) f = value-bind ram (k (getD ram c 0)) f
 
 pub cells-bind : {A B : Type 0} (ram : List ℕ) (p : Reading A) (f : A → Reading B)
     → cells ram (bind p f) ≡ cells ram p ++ cells ram (f (value ram p))
 unfolding bind value cells
 cells-bind ram (done a) f = refl
-cells-bind ram (read c k) f = ap (λ (l : List ℕ). c ∷ l) (cells-bind ram (k (getD ram c 0)) f)
+cells-bind ram (read r c k) f = ap (λ (l : List ℕ). c ∷ l) (cells-bind ram (k (getD ram c 0)) f)
 
 pub value-fmap : {A B : Type 0} (ram : List ℕ) (f : A → B) (p : Reading A) → value ram (fmap f p) ≡ f (value ram p)
 unfolding fmap value
 value-fmap ram f (done a) = refl
-value-fmap ram f (read c k) = value-fmap ram f (k (getD ram c 0))
+value-fmap ram f (read r c k) = value-fmap ram f (k (getD ram c 0))
 
 pub cells-fmap : {A B : Type 0} (ram : List ℕ) (f : A → B) (p : Reading A) → cells ram (fmap f p) ≡ cells ram p
 unfolding fmap cells
 cells-fmap ram f (done a) = refl
-cells-fmap ram f (read c k) = ap (λ (l : List ℕ). c ∷ l) (cells-fmap ram f (k (getD ram c 0)))
+cells-fmap ram f (read r c k) = ap (λ (l : List ℕ). c ∷ l) (cells-fmap ram f (k (getD ram c 0)))
 
 -- ---- membership
 
@@ -78,7 +78,7 @@ rest x xs ram ram′ h c t = h c (or-right (eqb c x) (among c xs) t)
 pub value-alike : {A : Type 0} (ram ram′ : List ℕ) (p : Reading A) → Alike (cells ram p) ram ram′ → value ram′ p ≡ value ram p
 unfolding value cells
 value-alike ram ram′ (done a) h = refl
-value-alike ram ram′ (read c k) h =
+value-alike ram ram′ (read r c k) h =
     ap (λ (x : ℕ). value ram′ (k x)) (first c (cells ram (k (getD ram c 0))) ram ram′ h)
     ∙ value-alike ram ram′ (k (getD ram c 0)) (rest c (cells ram (k (getD ram c 0))) ram ram′ h)
 
@@ -86,7 +86,7 @@ value-alike ram ram′ (read c k) h =
 pub cells-alike : {A : Type 0} (ram ram′ : List ℕ) (p : Reading A) → Alike (cells ram p) ram ram′ → cells ram′ p ≡ cells ram p
 unfolding value cells
 cells-alike ram ram′ (done a) h = refl
-cells-alike ram ram′ (read c k) h =
+cells-alike ram ram′ (read r c k) h =
     ap (λ (l : List ℕ). c ∷ l)
     (ap (λ (x : ℕ). cells ram′ (k x)) (first c (cells ram (k (getD ram c 0))) ram ram′ h)
     ∙ cells-alike ram ram′ (k (getD ram c 0)) (rest c (cells ram (k (getD ram c 0))) ram ram′ h))

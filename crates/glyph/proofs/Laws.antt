@@ -10,7 +10,7 @@ use lib.Dec.{ltb, eqb}
 use native.Mathlib.Decide.{ℕ-discrete}
 use lib.ListN.{length, getD, take, drop, length-take, length-drop}
 use lib.Seq.{getD-take, getD-drop}
-use Rattle.cells.specs.Reading.{done, read, value, cells}
+use Rattle.cells.specs.Reading.{slice, done, read, value, cells}
 use Rattle.cells.proofs.Bounds.{Within, AtMost, within-cond, atMost-cond}
 use Rattle.raster.specs.declared.Slice.{Slice}
 use Rattle.glyph.specs.Glyph.{user, blank, userCell, fontByte, inRam, glyphOf, twelve, bitsOf, slicePart, Lent, Sliced, shownIn}
@@ -20,7 +20,7 @@ unfolding inRam Within
 inRam-within number s h = by (ltb number 26) refl
   where
     by : (t : Bool) → ltb number 26 ≡ t
-        → Within 1024 (cond t (read (userCell number s) λ first. read (userCell number s + 1) λ second. done (user first second)) (done blank))
+        → Within 1024 (cond t (read slice (userCell number s) λ first. read slice (userCell number s + 1) λ second. done (user first second)) (done blank))
     by true e = (omega (arith, ltb-true number 26 e), λ first. (omega (arith, ltb-true number 26 e), λ second. tt))
     by false e = tt
 

@@ -6,7 +6,7 @@ use mathlib.Core.Bool.{Bool, true, false, cond}
 use mathlib.Core.List.{List}
 use lib.Dec.{eqb, ltb}
 use lib.ListN.{length, getD, take, drop}
-use Rattle.cells.specs.Reading.{Reading, done, read, value, cells}
+use Rattle.cells.specs.Reading.{slice, Reading, done, read, value, cells}
 use Rattle.raster.specs.declared.Slice.{Slice}
 use Rattle.glyph.specs.declared.Shown.{Shown}
 
@@ -31,7 +31,7 @@ userCell number s = 38 * number + 2 * s
 unfoldable pub inRam : ℕ → ℕ → Reading Glyph
 inRam number s =
     cond (ltb number 26)
-    (read (userCell number s) λ first. read (userCell number s + 1) λ second. done (user first second))
+    (read slice (userCell number s) λ first. read slice (userCell number s + 1) λ second. done (user first second))
     (done blank)
 
 -- SET 0: font character 0 to 127

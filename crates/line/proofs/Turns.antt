@@ -14,7 +14,7 @@ use native.Mathlib.Decide.{decLe}
 use borrow.Rule.Slice.PartMut.{putMid, same-len-mid, take-put, drop-put, put-same, post-is}
 use Rattle.raster.proofs.Laws.{columns-more}
 use lib.Seq.{take-all, take-length, take-at, take-suc-set, drop-length, drop-drop}
-use Rattle.cells.specs.Reading.{Reading, done, read, bind, fmap, value, cells}
+use Rattle.cells.specs.Reading.{code, Reading, done, read, bind, fmap, value, cells}
 use Rattle.cells.proofs.Laws.{value-bind, cells-bind, value-fmap, cells-fmap}
 use Rattle.cells.proofs.Bounds.{atMost-length}
 use Rattle.raster.specs.declared.Slice.{Slice}
@@ -126,8 +126,8 @@ codes-even (suc n) s a =
     let e : even (even a) ≡ even a = omega arith in
     let f : next (even a) ≡ next a = omega arith in
     ap₂ (λ (b c : ℕ).
-    read b λ low.
-    read (b + 1) λ high.
+    read code b λ low.
+    read code (b + 1) λ high.
     cond (endsLine high)
     (done [])
     (bind (glyphOf high s) λ g. fmap (λ places. (record { low = low; glyph = g }) ∷ places) (codes n s c))) e f

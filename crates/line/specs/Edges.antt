@@ -1,16 +1,15 @@
 -- Document 01, "Edges to test": the rows marked P, one table under one claim.
 -- Assumes nothing.
-use Prim.Native.Nat.{ℕ, zero, suc, _+_, _*_, _≤_}
+use Prim.Native.Nat.{ℕ, _+_, _*_, _≤_}
 use mathlib.Core.Path.{_≡_}
 use mathlib.Core.Bool.{true}
 use mathlib.Core.List.{List, [], _∷_, _++_}
 use lib.ListN.{length, take, replicate}
-use Rattle.cells.specs.Reading.{value, cells}
+use Rattle.cells.specs.Reading.{code, cells, cellsAs}
 use Rattle.registers.specs.declared.Settings.{Settings}
 use Rattle.raster.specs.Raster.{sliceNumber, firstPixelOf, hiddenIn}
 use Rattle.walk.specs.declared.Walk.{Walk}
-use Rattle.walk.specs.Walk.{nextLine}
-use Rattle.glyph.specs.Glyph.{Glyph, font, user, blank, glyphOf}
+use Rattle.glyph.specs.Glyph.{glyphOf}
 use Rattle.line.specs.Line.{Place, scan, plainOf, character, paint}
 
 pub data Row : Type 0 where
@@ -25,24 +24,12 @@ pub data Row : Type 0 where
   -- the cells of a user character's slice
   userCells : (number s first second : ℕ) → Row
 
-unfoldable pub isUser : Glyph → ℕ
-isUser (font number s) = 0
-isUser (user first second) = 1
-isUser blank = 0
-
--- how many of the places are user characters: each reads two cells of its slice
-unfoldable pub users : List Place → ℕ
-users [] = 0
-users (p ∷ ps) = isUser (p .glyph) + users ps
-
 -- what a row says, for any RAM, font, walk and other settings
 unfoldable pub Holds : Row → Type 0
 Holds (slice ch n s) = sliceNumber ch n ≡ s
 Holds (start dd x) = firstPixelOf dd ≡ x
--- a line reads the descriptor's cells, two cells for each code and two for each user slice, so this bounds the codes by n
-Holds (mostCodes ld dd n) =
-    (s : Settings) (w : Walk) (ram : List ℕ) → s .ld ≡ ld → s .dd ≡ dd
-    → length (cells ram (scan s w)) ≤ length (cells ram (nextLine (s .ch) w)) + 2 * n + 2 * users (value ram (scan s w) .row)
+-- a code is two cells
+Holds (mostCodes ld dd n) = (s : Settings) (w : Walk) (ram : List ℕ) → s .ld ≡ ld → s .dd ≡ dd → length (cellsAs code ram (scan s w)) ≤ 2 * n
 Holds (secondCut ld dd n) =
     (s : Settings) (fnt : List ℕ) (f : ℕ) (p q : Place) → s .ld ≡ ld → s .dd ≡ dd → s .osd ≡ true
     → paint s fnt f (p ∷ q ∷ [])

@@ -7,7 +7,7 @@ use mathlib.Core.Bool.{Bool, true, false, cond, _&&_}
 use mathlib.Core.List.{List, [], _∷_, _++_}
 use lib.Dec.{eqb}
 use lib.ListN.{take, replicate}
-use Rattle.cells.specs.Reading.{Reading, done, read, bind, fmap}
+use Rattle.cells.specs.Reading.{code, Reading, done, read, bind, fmap}
 use Rattle.registers.specs.declared.Settings.{Settings}
 use Rattle.raster.specs.declared.Slice.{Slice}
 use Rattle.raster.specs.Raster.{interpolated, widthOf, firstPixelOf, columnsOf, hiddenIn}
@@ -30,8 +30,8 @@ pub record Place : Type 0 where
 unfoldable pub codes : ℕ → Slice → ℕ → Reading (List Place)
 codes zero s a = done []
 codes (suc n) s a =
-    read (even a) λ low.
-    read (even a + 1) λ high.
+    read code (even a) λ low.
+    read code (even a + 1) λ high.
     cond (endsLine high)
     (done [])
     (bind (glyphOf high s) λ g. fmap (λ places. (record { low = low; glyph = g }) ∷ places) (codes n s (next a)))

@@ -11,7 +11,7 @@ use mir.Val.{Fits}
 use mathlib.Core.List.{List}
 use lib.Dec.{leb, eqb}
 use lib.ListN.{getD}
-use Rattle.cells.specs.Reading.{Reading, done, read, fmap, value, cells}
+use Rattle.cells.specs.Reading.{descriptor, Reading, done, read, fmap, value, cells}
 use Rattle.cells.proofs.Bounds.{Gives, Within, AtMost, gives-fmap, within-fmap, within-cond, atMost-fmap, atMost-cond}
 use Rattle.raster.specs.declared.ScanLine.{ScanLine}
 use Rattle.raster.specs.Raster.{InStrip, stripLines}
@@ -86,8 +86,8 @@ stripOf-on ch low high =
 begun-on : (ch : ℕ) (w : Walk) (t : Bool) → over (w .strip) ≡ t
     → Gives (λ (v : Walk). OnLine (advanced (v .strip)))
     (cond t
-    (read (even (w .descriptor)) λ low.
-    read (even (w .descriptor) + 1) λ high.
+    (read descriptor (even (w .descriptor)) λ low.
+    read descriptor (even (w .descriptor) + 1) λ high.
     done (record { descriptor = next (even (w .descriptor)); strip = stripOf ch low high }))
     (done w))
 unfolding Gives

@@ -5,7 +5,7 @@ use mathlib.Core.Bool.{Bool, true, false, cond}
 use lib.Dec.{eqb, leb}
 use lib.ListN.{length}
 use mathlib.Core.List.{List}
-use Rattle.cells.specs.Reading.{Reading, done, read, fmap, value, cells}
+use Rattle.cells.specs.Reading.{descriptor, Reading, done, read, fmap, value, cells}
 use Rattle.raster.specs.Raster.{stripLines, InStrip}
 use Rattle.walk.specs.declared.Strip.{Strip}
 use Rattle.walk.specs.declared.Strip.the-variants.{Spacing, Characters}
@@ -50,8 +50,8 @@ linesLeft (Characters address height zoom enabled line) = stripLines height zoom
 unfoldable pub begun : ℕ → Walk → Reading Walk
 begun ch w =
     cond (over (w .strip))
-    (read (even (w .descriptor)) λ low.
-    read (even (w .descriptor) + 1) λ high.
+    (read descriptor (even (w .descriptor)) λ low.
+    read descriptor (even (w .descriptor) + 1) λ high.
     done (record { descriptor = next (even (w .descriptor)); strip = stripOf ch low high }))
     (done w)
 

@@ -1,0 +1,1 @@
+// Laws only: what the kit's library lacks and several crates cite.

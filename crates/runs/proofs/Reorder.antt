@@ -1,0 +1,81 @@
+-- Events that can each be made after any other call can be made after all of them: one is pushed past each later call, one at a time.
+-- Assumes nothing.
+use mathlib.Core.Path.{_≡_, refl, sym, ap, ap₂, _∙_}
+use mathlib.Core.Bool.{Bool, true, false, not, cond}
+use mathlib.Core.List.{List, [], _∷_}
+use Rattle.runs.specs.Runs.{Machine, Entry, log, end, AsMade, select, eventsOf, othersOf, SameRuns}
+
+-- an event of which P holds, and another call: both answer and leave the same in either order, and P still holds after that call
+pub record Apart {S C A : Type 0} (P : S → C → Type 0) (m : Machine S C A) (s : S) (e c : C) : Type 0 where
+  pub other : m .answer (m .after s e) c ≡ m .answer s c
+  pub own : m .answer (m .after s c) e ≡ m .answer s e
+  pub either-way : m .after (m .after s e) c ≡ m .after (m .after s c) e
+  pub still : P (m .after s c) e
+
+module _ {S C A : Type 0} (P : S → C → Type 0) (m : Machine S C A)
+    (apart : (s : S) (e c : C) → m .isEvent e ≡ true → m .isEvent c ≡ false → P s e → Apart P m s e c) where
+  -- a list with no event in it
+  data Others : List C → Type 0 where
+    none : Others []
+    more : {c : C} {os : List C} → m .isEvent c ≡ false → Others os → Others (c ∷ os)
+
+  others-of : (cs : List C) → Others (othersOf m cs)
+  unfolding select
+  others-of [] = none
+  others-of (c ∷ cs) = by (m .isEvent c) refl (others-of cs)
+    where
+      by : (t : Bool) → m .isEvent c ≡ t → Others (othersOf m cs) → Others (cond (not t) (c ∷ othersOf m cs) (othersOf m cs))
+      by true e os = os
+      by false e os = more e os
+
+  -- the event made before them or after them: the same answers, the same end, and the event's own answer
+  record Late (s : S) (e : C) (os : List C) : Type 0 where
+    answers : log m (m .after s e) os ≡ log m s os
+    ends : end m (m .after s e) os ≡ m .after (end m s os) e
+    own : m .answer (end m s os) e ≡ m .answer s e
+
+  made-late : (s : S) (e : C) {os : List C} → Others os → m .isEvent e ≡ true → P s e → Late s e os
+  unfolding log end
+  made-late s e none t p = record { answers = refl; ends = refl; own = refl }
+  made-late s e (more {c = c} {os = os} o rest) t p =
+      let a : Apart P m s e c = apart s e c t o p in
+      let ih : Late (m .after s c) e os = made-late (m .after s c) e rest t (a .still) in
+      record {
+        answers =
+            ap₂ (λ (x : A) (u : S). (record { call = c; answer = x }) ∷ log m u os) (a .other) (a .either-way)
+            ∙ ap (λ (l : List (Entry C A)). (record { call = c; answer = m .answer s c }) ∷ l) (ih .answers);
+        ends = ap (λ (u : S). end m u os) (a .either-way) ∙ ih .ends;
+        own = ih .own ∙ a .own;
+      }
+
+  -- one call more, an event or another
+  event-first : (s : S) (e : C) (cs : List C) → m .isEvent e ≡ true → P s e → SameRuns m (m .after s e) cs → SameRuns m s (e ∷ cs)
+  unfolding log end select
+  event-first s e cs t p ih =
+      let l : Late s e (othersOf m cs) = made-late s e (others-of cs) t p in
+      record {
+        others = rw t (ih .others ∙ l .answers);
+        events =
+            rw t
+            (ap₂ (λ (x : A) (es : List (Entry C A)). (record { call = e; answer = x }) ∷ es)
+            (sym (l .own)) (ih .events ∙ ap (λ (u : S). log m u (eventsOf m cs)) (l .ends)));
+        state = rw t (ih .state ∙ ap (λ (u : S). end m u (eventsOf m cs)) (l .ends));
+      }
+
+  other-first : (s : S) (c : C) (cs : List C) → m .isEvent c ≡ false → SameRuns m (m .after s c) cs → SameRuns m s (c ∷ cs)
+  unfolding log end select
+  other-first s c cs t ih =
+      record {
+        others = rw t (ap (λ (l : List (Entry C A)). (record { call = c; answer = m .answer s c }) ∷ l) (ih .others));
+        events = rw t (ih .events);
+        state = rw t (ih .state);
+      }
+
+  pub reordered : (s : S) (cs : List C) → AsMade P m s cs → SameRuns m s cs
+  unfolding AsMade
+  reordered s [] q = unfold log end select in record { others = refl; events = refl; state = refl }
+  reordered s (c ∷ cs) q = by (m .isEvent c) refl (reordered (m .after s c) cs (q .1))
+    where
+      by : (t : Bool) → m .isEvent c ≡ t → SameRuns m (m .after s c) cs → SameRuns m s (c ∷ cs)
+      by true t ih = event-first s c cs t (q .0) ih
+      by false t ih = other-first s c cs t ih

@@ -1,0 +1,1 @@
+// Runs of lists of calls. This crate has definitions and laws only: see specs/Runs.antt.
