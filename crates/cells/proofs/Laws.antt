@@ -56,6 +56,14 @@ unfolding among
 among-right c [] ys t = t
 among-right c (x ∷ xs) ys t = or-right (eqb c x) (among c (xs ++ ys)) (among-right c xs ys t)
 
+-- a cell that is not among all is not among the last
+pub unread-right : (c : ℕ) (xs ys : List ℕ) → among c (xs ++ ys) ≡ false → among c ys ≡ false
+unread-right c xs ys e = by (among c ys) (λ t. subst T e (among-right c xs ys t))
+  where
+    by : (b : Bool) → (T b → ⊥) → b ≡ false
+    by true n = absurd (n tt)
+    by false n = refl
+
 -- ---- two RAMs that agree
 
 pub alike-left : (xs ys : List ℕ) (ram ram′ : List ℕ) → Alike (xs ++ ys) ram ram′ → Alike xs ram ram′

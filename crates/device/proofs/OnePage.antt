@@ -7,8 +7,9 @@ use mathlib.Core.List.{List, [], _∷_, _++_}
 use native.Mathlib.Numerals.{sub-one}
 use lib.Dec.{T, eqb, leb, ltb}
 use lib.ListN.{length, drop}
+use Rattle.runs.proofs.Laws.{as-made-map, kept-by-each, Apart, reordered}
 use Rattle.cells.specs.Reading.{Reading, done, bind, value, cells, among, Alike}
-use Rattle.cells.proofs.Laws.{cells-bind, value-alike, cells-alike, alike-left, alike-right}
+use Rattle.cells.proofs.Laws.{cells-bind, value-alike, cells-alike, alike-left, alike-right, unread-right}
 use Rattle.refusals.specs.declared.Refusal.{Refusal}
 use Rattle.refusals.specs.declared.Refusal.the-variants.{RamLength, FontLength, LineLength, NoLine, CellRange}
 use Rattle.refusals.specs.Refusals.{accepted, refused}
@@ -23,7 +24,9 @@ use Rattle.ahead.specs.Ahead.{remaining}
 use Rattle.device.specs.declared.Device.{Device}
 use Rattle.device.specs.declared.Frame.{Frame}
 use Rattle.device.specs.Device.{EventOutcome, hearEvent, DrawOutcome, drawLine, nextScan, pixelsOf, lineOn, lineDrawn, lineWidth, notDrawn, cellsLeft, askCell}
-use Rattle.device.specs.OnePage.{Call, draw, ask, event, State, Answer, drawn, asked, heard, answer, after, Entry, log, end, isEvent, select, eventsOf, othersOf, Quiet, QuietCall, QuietRun, SameRuns, OnePage}
+use Rattle.device.specs.OnePage.{Call, draw, ask, event, State, Answer, drawn, asked, heard, answer, after, isEvent, calls, Quiet, QuietCall, OnePage}
+use Rattle.device.specs.Use.{EventQuiet, WritesAlone, NoStays}
+use Rattle.device.proofs.Quiet.{quiet-if-write, says-no}
 
 -- ---- the remaining lines: the next one, then the others
 
@@ -201,66 +204,55 @@ either-way font s e (draw line) o q =
 either-way font s e (ask cell) o q = refl
 either-way font s e (event x) o q = absurd (true≢false o)
 
--- ---- a quiet event and all later draws and questions
-
--- a list with no event in it
-data Others : List Call → Type 0 where
-  none : Others []
-  more : {c : Call} {os : List Call} → isEvent c ≡ false → Others os → Others (c ∷ os)
-
-others-of : (cs : List Call) → Others (othersOf cs)
-unfolding select isEvent
-others-of [] = none
-others-of (draw line ∷ cs) = more refl (others-of cs)
-others-of (ask cell ∷ cs) = more refl (others-of cs)
-others-of (event e ∷ cs) = others-of cs
-
--- the event made before them or after them: the same answers, the same end, and the event's own answer
-record Late (font : List ℕ) (s : State) (e : Event) (os : List Call) : Type 0 where
-  answers : log font (after font s (event e)) os ≡ log font s os
-  ends : end font (after font s (event e)) os ≡ after font (end font s os) (event e)
-  own : answer font (end font s os) (event e) ≡ answer font s (event e)
-
-made-late : (font : List ℕ) (s : State) (e : Event) {os : List Call} → Others os → Quiet s e → Late font s e os
-unfolding log end
-made-late font s e none q = record { answers = refl; ends = refl; own = refl }
-made-late font s e (more {c = c} {os = os} o rest) q =
-    let ih : Late font (after font s c) e os = made-late font (after font s c) e rest (quiet-on font s e c o q) in
-    record {
-      answers =
-          ap₂ (λ (a : Answer) (t : State). (record { call = c; answer = a }) ∷ log font t os)
-          (other-answer font s e c o q) (either-way font s e c o q)
-          ∙ ap (λ (l : List Entry). (record { call = c; answer = answer font s c }) ∷ l) (ih .answers);
-      ends = ap (λ (t : State). end font t os) (either-way font s e c o q) ∙ ih .ends;
-      own = ih .own ∙ event-answer font s e c o;
-    }
-
 -- ---- condition 3
 
+-- every event of the list is quiet, since every write is
+event-quiet : (u : State) (c : Call) → QuietCall u c → EventQuiet u c
+unfolding QuietCall EventQuiet
+event-quiet u (draw line) h = tt
+event-quiet u (ask cell) h = tt
+event-quiet u (event e) h = quiet-if-write u e h
+
+pub writes-alone : WritesAlone
+writes-alone font s cs q = as-made-map QuietCall EventQuiet (calls font) event-quiet s cs q
+
+apart : (font : List ℕ) (u : State) (e c : Call) → isEvent e ≡ true → isEvent c ≡ false → EventQuiet u e → Apart EventQuiet (calls font) u e c
+unfolding EventQuiet isEvent
+apart font u (draw line) c p o h = absurd (true≢false (sym p))
+apart font u (ask cell) c p o h = absurd (true≢false (sym p))
+apart font u (event e) c p o h =
+    record {
+      other = other-answer font u e c o h;
+      own = event-answer font u e c o;
+      either-way = either-way font u e c o h;
+      still = quiet-on font u e c o h;
+    }
+
 pub one-page : OnePage
-unfolding QuietRun QuietCall log end select isEvent
-one-page font s [] q = record { others = refl; events = refl; state = refl }
-one-page font s (draw line ∷ cs) q =
-    let ih : SameRuns font (after font s (draw line)) cs = one-page font (after font s (draw line)) cs (q .1) in
-    record {
-      others = ap (λ (l : List Entry). (record { call = draw line; answer = answer font s (draw line) }) ∷ l) (ih .others);
-      events = ih .events;
-      state = ih .state;
-    }
-one-page font s (ask cell ∷ cs) q =
-    let ih : SameRuns font (after font s (ask cell)) cs = one-page font (after font s (ask cell)) cs (q .1) in
-    record {
-      others = ap (λ (l : List Entry). (record { call = ask cell; answer = answer font s (ask cell) }) ∷ l) (ih .others);
-      events = ih .events;
-      state = ih .state;
-    }
-one-page font s (event e ∷ cs) q =
-    let ih : SameRuns font (after font s (event e)) cs = one-page font (after font s (event e)) cs (q .1) in
-    let l : Late font s e (othersOf cs) = made-late font s e (others-of cs) (q .0) in
-    record {
-      others = ih .others ∙ l .answers;
-      events =
-          ap₂ (λ (a : Answer) (es : List Entry). (record { call = event e; answer = a }) ∷ es)
-          (sym (l .own)) (ih .events ∙ ap (λ (t : State). log font t (eventsOf cs)) (l .ends));
-      state = ih .state ∙ ap (λ (t : State). end font t (eventsOf cs)) (l .ends);
-    }
+one-page font s cs q = reordered EventQuiet (calls font) (apart font) s cs (writes-alone font s cs q)
+
+-- ---- a no of the cell question stays a no
+
+-- the lines after the next one read no cell that the remaining lines do not
+later-unread : (d : Device) (ram : List ℕ) (cell : ℕ) → T (not (eqb (d .frame .left) 0)) → askCell d ram cell ≡ accepted 0
+    → askCell (lineOn d ram) ram cell ≡ accepted 0
+unfolding askCell
+later-unread d ram cell t n =
+    let h = says-no (not (eqb (length ram) 1024)) (leb 1024 cell) (among cell (cellsLeft d ram)) n in
+    let later : among cell (cellsLeft (lineOn d ram) ram) ≡ false =
+    unread-right cell (cells ram (nextScan d)) (cellsLeft (lineOn d ram) ram) (sym (ap (among cell) (cellsLeft-more d ram t)) ∙ h .2) in
+    rw (h .0, h .1, later)
+
+still-unread : (font : List ℕ) (cell : ℕ) (u : State) (c : Call) → EventQuiet u c → askCell (u .device) (u .ram) cell ≡ accepted 0
+    → askCell (after font u c .device) (after font u c .ram) cell ≡ accepted 0
+unfolding after EventQuiet
+still-unread font cell u (draw line) h n =
+    by-draw (u .device) (u .ram) font line (λ (x : DrawOutcome). askCell (x .device) (u .ram) cell ≡ accepted 0)
+    (λ r. n) (unfold lineDrawn in λ t. later-unread (u .device) (u .ram) cell t n)
+still-unread font cell u (ask other) h n = n
+still-unread font cell u (event e) h n = same-ask (u .device) (u .ram) e (h .settings) (h .cells) cell ∙ n
+
+pub no-stays : NoStays
+no-stays font s cs cell q n =
+    kept-by-each EventQuiet (calls font) (λ (u : State). askCell (u .device) (u .ram) cell ≡ accepted 0) (still-unread font cell) s cs
+    (writes-alone font s cs q) n

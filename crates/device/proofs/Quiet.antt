@@ -27,8 +27,8 @@ use Rattle.bus.specs.Bus.{BusOutcome, busEvent, step, byteAt, address, taken, r
 use Rattle.bus.proofs.Laws.{by-event, byte-at}
 use Rattle.device.specs.declared.Device.{Device}
 use Rattle.device.specs.Device.{hearEvent, askCell, cellsLeft}
-use Rattle.device.specs.OnePage.{State, Quiet}
-use Rattle.device.specs.Use.{effectOf, NoStore, QuietEvents}
+use Rattle.device.specs.OnePage.{State, effectOf, Stores, Quiet}
+use Rattle.device.specs.Use.{QuietEvents}
 
 -- ---- an event is quiet if its effect is
 
@@ -59,20 +59,20 @@ quiet-as : (s : State) (e : Event) (f : Effect) → effectOf s e ≡ f
     → Harmless (s .ram) (s .device .registers) (cellsLeft (s .device) (s .ram)) f → Quiet s e
 quiet-as s e f q h = quiet-by s e (subst (Harmless (s .ram) (s .device .registers) (cellsLeft (s .device) (s .ram))) (sym q) h)
 
-nothing-stored : (ram : List ℕ) (r : Registers) (cs : List ℕ) (f : Effect) → NoStore f → Harmless ram r cs f
-unfolding NoStore ramWith registersWith
+nothing-stored : (ram : List ℕ) (r : Registers) (cs : List ℕ) (f : Effect) → (Stores f → ⊥) → Harmless ram r cs f
+unfolding Stores ramWith registersWith
 nothing-stored ram r cs Acknowledge n = record { keeps = same-ram cs ram refl; same = refl }
 nothing-stored ram r cs Ignore n = record { keeps = same-ram cs ram refl; same = refl }
-nothing-stored ram r cs (Store a x) n = absurd n
+nothing-stored ram r cs (Store a x) n = absurd (n tt)
 nothing-stored ram r cs (Load a) n = record { keeps = same-ram cs ram refl; same = refl }
 
 -- a refused event, for whatever reason
-taken-refused : (s : State) (e : Event) (f : Effect) → (busReply (answerTo f (s .device .registers) (s .ram)) .refusal ≡ 0 → ⊥) → NoStore f
-unfolding answerTo NoStore
-taken-refused s e Acknowledge h = tt
-taken-refused s e Ignore h = tt
-taken-refused s e (Store a x) h = absurd (h refl)
-taken-refused s e (Load a) h = tt
+taken-refused : (s : State) (e : Event) (f : Effect) → (busReply (answerTo f (s .device .registers) (s .ram)) .refusal ≡ 0 → ⊥) → Stores f → ⊥
+unfolding answerTo Stores
+taken-refused s e Acknowledge h t = t
+taken-refused s e Ignore h t = t
+taken-refused s e (Store a x) h t = h refl
+taken-refused s e (Load a) h t = t
 
 quiet-refused : (s : State) (e : Event) → (hearEvent (s .device) (s .ram) e .reply .refusal ≡ 0 → ⊥) → Quiet s e
 unfolding Leaves hearEvent taken
@@ -86,6 +86,16 @@ quiet-refused s e =
     (n .keeps, n .same)) h
     in
     record { cells = p .0; settings = p .1 }
+
+-- an event is quiet if it is so wherever it is a write
+pub quiet-if-write : (s : State) (e : Event) → (Stores (effectOf s e) → Quiet s e) → Quiet s e
+quiet-if-write s e w = by (effectOf s e) refl
+  where
+    by : (f : Effect) → effectOf s e ≡ f → Quiet s e
+    by Acknowledge p = quiet-by s e (nothing-stored _ _ _ (effectOf s e) (subst (λ (f : Effect). Stores f → ⊥) (sym p) (unfold Stores in λ t. t)))
+    by Ignore p = quiet-by s e (nothing-stored _ _ _ (effectOf s e) (subst (λ (f : Effect). Stores f → ⊥) (sym p) (unfold Stores in λ t. t)))
+    by (Store a x) p = w (subst Stores (sym p) (unfold Stores in tt))
+    by (Load a) p = quiet-by s e (nothing-stored _ _ _ (effectOf s e) (subst (λ (f : Effect). Stores f → ⊥) (sym p) (unfold Stores in λ t. t)))
 
 -- ---- the kinds of events
 
@@ -208,7 +218,7 @@ page-at (a ∷ b ∷ c ∷ d ∷ l) x e =
 -- ---- the question
 
 -- a reply that is no refusal and no yes
-says-no : (badRam badCell reads : Bool) → cond badRam (refused RamLength) (cond badCell (refused CellRange) (accepted (cond reads 1 0))) ≡ accepted 0
+pub says-no : (badRam badCell reads : Bool) → cond badRam (refused RamLength) (cond badCell (refused CellRange) (accepted (cond reads 1 0))) ≡ accepted 0
     → (badRam ≡ false) × (badCell ≡ false) × (reads ≡ false)
 says-no true badCell reads e = absurd (eqb-false 1 0 refl (ap (λ (r : Reply). r .refusal) e))
 says-no false true reads e = absurd (eqb-false 8 0 refl (ap (λ (r : Reply). r .refusal) e))

@@ -5,12 +5,16 @@
 -- Assumes nothing.
 use Prim.Native.Nat.{ℕ}
 use mathlib.Core.Path.{_≡_}
-use mathlib.Core.Bool.{Bool, true, false, not, cond}
-use mathlib.Core.List.{List, [], _∷_}
+use mathlib.Core.Bool.{Bool, true, false}
+use mathlib.Core.List.{List}
+use Rattle.runs.specs.Runs.{Machine, AsMade, SameRuns}
 use Rattle.cells.specs.Reading.{Alike}
 use Rattle.refusals.specs.Refusals.{Reply}
 use Rattle.registers.specs.Registers.{settingsOf}
 use Rattle.bus.specs.declared.Event.{Event}
+use Rattle.bus.specs.declared.Effect.{Effect}
+use Rattle.bus.specs.declared.Effect.the-variants.{Acknowledge, Ignore, Store, Load}
+use Rattle.bus.specs.Bus.{step}
 use Rattle.device.specs.declared.Device.{Device}
 use Rattle.device.specs.Device.{hearEvent, drawLine, askCell, cellsLeft}
 
@@ -42,68 +46,47 @@ after font s (draw line) = record { device = drawLine (s .device) (s .ram) font 
 after font s (ask cell) = s
 after font s (event e) = record { device = hearEvent (s .device) (s .ram) e .device; ram = hearEvent (s .device) (s .ram) e .ram }
 
--- ---- a run of a list of calls: each call with its answer, and the state after the last
-
-pub record Entry : Type 0 where
-  pub call : Call
-  pub answer : Answer
-
-unfoldable pub log : List ℕ → State → List Call → List Entry
-log font s [] = []
-log font s (c ∷ cs) = (record { call = c; answer = answer font s c }) ∷ log font (after font s c) cs
-
-unfoldable pub end : List ℕ → State → List Call → State
-end font s [] = s
-end font s (c ∷ cs) = end font (after font s c) cs
-
--- ---- the second run: the draws and questions in their order, then the events in theirs
-
 unfoldable pub isEvent : Call → Bool
 isEvent (draw line) = false
 isEvent (ask cell) = false
 isEvent (event e) = true
 
--- those of a list that pass a test, in their order
-unfoldable pub select : {A : Type 0} → (A → Bool) → List A → List A
-select p [] = []
-select p (x ∷ xs) = cond (p x) (x ∷ select p xs) (select p xs)
-
-abbrev pub eventsOf : List Call → List Call
-eventsOf cs = select isEvent cs
-
-abbrev pub othersOf : List Call → List Call
-othersOf cs = select (λ c. not (isEvent c)) cs
+-- the calls with one font lent throughout. A run gives each call the device and the RAM as the call before it returned or left them;
+-- the second run makes the draws and questions in their order, then the events in theirs (crate runs)
+abbrev pub calls : List ℕ → Machine State Call Answer
+calls font = record { answer = answer font; after = after font; isEvent = isEvent }
 
 -- ---- quiet
 
+-- what an event asks of the cells
+abbrev pub effectOf : State → Event → Effect
+effectOf s e = step (s .device .bus) e .effect
+
+-- a bus write: the event stores a byte
+unfoldable pub Stores : Effect → Type 0
+Stores Acknowledge = ⊥
+Stores Ignore = ⊥
+Stores (Store a x) = Unit
+Stores (Load a) = ⊥
+
 -- an event is quiet (the order's term, condition 3) if it changes no cell that the frame's remaining lines read, given RAM and
--- registers as they stand, and none of the settings LD, DD, CH, OSD, FBK and FL. Only a write can change any: of every other event
--- it holds by itself (specs/Use.antt, no-store and refused), so asking it of each event asks it of each bus write
+-- registers as they stand, and none of the settings LD, DD, CH, OSD, FBK and FL
 pub record Quiet (s : State) (e : Event) : Type 0 where
   pub cells : Alike (cellsLeft (s .device) (s .ram)) (s .ram) (hearEvent (s .device) (s .ram) e .ram)
   pub settings : settingsOf (hearEvent (s .device) (s .ram) e .device .registers) ≡ settingsOf (s .device .registers)
 
--- is this call, if it is an event, quiet as it is made?
+-- a bus write among the calls is quiet. Nothing is asked of any other call: only a write can change a cell or a setting (specs/Use.antt)
 unfoldable pub QuietCall : State → Call → Type 0
 QuietCall s (draw line) = Unit
 QuietCall s (ask cell) = Unit
-QuietCall s (event e) = Quiet s e
+QuietCall s (event e) = Stores (effectOf s e) → Quiet s e
 
--- every event of the list is quiet as it is made, in the list's own run
-unfoldable pub QuietRun : List ℕ → State → List Call → Type 0
-QuietRun font s [] = Unit
-QuietRun font s (c ∷ cs) = QuietCall s c × QuietRun font (after font s c) cs
+-- every bus write of the list is quiet as it is made, in the list's own run
+abbrev pub QuietRun : List ℕ → State → List Call → Type 0
+QuietRun font s cs = AsMade QuietCall (calls font) s cs
 
 -- ---- the claim
 
--- the list's own run and the second run agree
-pub record SameRuns (font : List ℕ) (s : State) (cs : List Call) : Type 0 where
-  -- the answer of each draw with its line, and of each cell question
-  pub others : select (λ x. not (isEvent (x .call))) (log font s cs) ≡ log font s (othersOf cs)
-  -- the answer of each event
-  pub events : select (λ x. isEvent (x .call)) (log font s cs) ≡ log font (end font s (othersOf cs)) (eventsOf cs)
-  -- the device and every byte of the RAM after the last call
-  pub state : end font s cs ≡ end font (end font s (othersOf cs)) (eventsOf cs)
-
+-- every answer, every line and the end state are the same in both runs
 abbrev pub OnePage : Type 0
-OnePage = (font : List ℕ) (s : State) (cs : List Call) → QuietRun font s cs → SameRuns font s cs
+OnePage = (font : List ℕ) (s : State) (cs : List Call) → QuietRun font s cs → SameRuns (calls font) s cs

@@ -1,28 +1,18 @@
--- What a host can act on: events that are quiet (specs/OnePage.antt), stated for every device record and RAM.
+-- What a host can act on: events that are quiet, and answers that stay true (specs/OnePage.antt), stated for every device record and RAM.
 -- Assumes nothing.
 use Prim.Native.Nat.{ℕ, _/_, _%_, _≤_, _<_}
 use mathlib.Core.Path.{_≡_}
+use mathlib.Core.List.{List}
 use lib.ListN.{getD}
+use Rattle.runs.specs.Runs.{end, AsMade}
 use Rattle.refusals.specs.Refusals.{accepted}
 use Rattle.bus.specs.declared.Event.{Event}
 use Rattle.bus.specs.declared.Event.the-variants.{Byte}
-use Rattle.bus.specs.declared.Effect.{Effect}
-use Rattle.bus.specs.declared.Effect.the-variants.{Acknowledge, Ignore, Store, Load}
+use Rattle.bus.specs.declared.Effect.the-variants.{Store}
 use Rattle.bus.specs.declared.State.the-variants.{Write}
-use Rattle.bus.specs.Bus.{address, step}
+use Rattle.bus.specs.Bus.{address}
 use Rattle.device.specs.Device.{hearEvent, askCell}
-use Rattle.device.specs.OnePage.{State, Quiet}
-
--- what an event asks of the cells
-abbrev pub effectOf : State → Event → Effect
-effectOf s e = step (s .device .bus) e .effect
-
--- the event stores nothing
-unfoldable pub NoStore : Effect → Type 0
-NoStore Acknowledge = Unit
-NoStore Ignore = Unit
-NoStore (Store a x) = ⊥
-NoStore (Load a) = Unit
+use Rattle.device.specs.OnePage.{Call, draw, ask, event, State, calls, effectOf, Stores, Quiet, QuietRun}
 
 pub record QuietEvents : Type 0 where
   -- a data byte to a cell of which the question says no
@@ -31,7 +21,7 @@ pub record QuietEvents : Type 0 where
   -- every refused event: not acknowledged, or RAM of another length
   pub refused : (s : State) (e : Event) → (hearEvent (s .device) (s .ram) e .reply .refusal ≡ 0 → ⊥) → Quiet s e
   -- a start, a stop, a fetch, a slave or internal address byte
-  pub no-store : (s : State) (e : Event) → NoStore (effectOf s e) → Quiet s e
+  pub no-store : (s : State) (e : Event) → (Stores (effectOf s e) → ⊥) → Quiet s e
   -- the byte that is already there: in RAM, in DD and in CH (for the other registers see below)
   pub same-byte : (s : State) (e : Event) (a x : ℕ) → effectOf s e ≡ Store a x → a < 0x400 → getD (s .ram) a 0 ≡ x → Quiet s e
   pub same-delay : (s : State) (e : Event) (x : ℕ) → effectOf s e ≡ Store 0x3FF1 x → x % 256 ≡ getD (s .device .registers .bytes) 1 0 → Quiet s e
@@ -44,3 +34,21 @@ pub record QuietEvents : Type 0 where
   pub sync-edges : (s : State) (e : Event) (x : ℕ) → effectOf s e ≡ Store 0x3FF0 x → x % 64 ≡ getD (s .device .registers .bytes) 0 0 % 64 → Quiet s e
   -- P, with OSD, FBK and FL as they are
   pub page : (s : State) (e : Event) (x : ℕ) → effectOf s e ≡ Store 0x3FF3 x → x / 16 % 16 ≡ getD (s .device .registers .bytes) 3 0 / 16 % 16 → Quiet s e
+
+-- ---- lists
+
+-- this call, if it is an event, is quiet, write or not
+unfoldable pub EventQuiet : State → Call → Type 0
+EventQuiet s (draw line) = Unit
+EventQuiet s (ask cell) = Unit
+EventQuiet s (event e) = Quiet s e
+
+-- the claim of condition 3 asks of the bus writes alone that they be quiet: then all events of the list are
+abbrev pub WritesAlone : Type 0
+WritesAlone = (font : List ℕ) (s : State) (cs : List Call) → QuietRun font s cs → AsMade EventQuiet (calls font) s cs
+
+-- a no of the cell question stays a no over later draws, questions and quiet events
+abbrev pub NoStays : Type 0
+NoStays =
+    (font : List ℕ) (s : State) (cs : List Call) (cell : ℕ) → QuietRun font s cs → askCell (s .device) (s .ram) cell ≡ accepted 0
+    → askCell (end (calls font) s cs .device) (end (calls font) s cs .ram) cell ≡ accepted 0

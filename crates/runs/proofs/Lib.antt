@@ -1,1 +1,1 @@
-pub mod Reorder
+pub mod Laws

@@ -1,9 +1,27 @@
--- Events that can each be made after any other call can be made after all of them: one is pushed past each later call, one at a time.
+-- The laws of runs: what every call keeps holds at the end; and events that can each be made after any other call can be made after all
+-- of them, since one is pushed past each later call, one at a time.
 -- Assumes nothing.
 use mathlib.Core.Path.{_≡_, refl, sym, ap, ap₂, _∙_}
 use mathlib.Core.Bool.{Bool, true, false, not, cond}
 use mathlib.Core.List.{List, [], _∷_}
 use Rattle.runs.specs.Runs.{Machine, Entry, log, end, AsMade, select, eventsOf, othersOf, SameRuns}
+
+-- ---- what holds of each call as it is made
+
+pub as-made-map : {S C A : Type 0} (P Q : S → C → Type 0) (m : Machine S C A) → ((s : S) (c : C) → P s c → Q s c)
+    → (s : S) (cs : List C) → AsMade P m s cs → AsMade Q m s cs
+unfolding AsMade
+as-made-map P Q m f s [] h = tt
+as-made-map P Q m f s (c ∷ cs) h = (f s c (h .0), as-made-map P Q m f (m .after s c) cs (h .1))
+
+-- what every call keeps holds at the end
+pub kept-by-each : {S C A : Type 0} (P : S → C → Type 0) (m : Machine S C A) (I : S → Type 0) → ((s : S) (c : C) → P s c → I s → I (m .after s c))
+    → (s : S) (cs : List C) → AsMade P m s cs → I s → I (end m s cs)
+unfolding AsMade end
+kept-by-each P m I f s [] h i = i
+kept-by-each P m I f s (c ∷ cs) h i = kept-by-each P m I f (m .after s c) cs (h .1) (f s c (h .0) i)
+
+-- ---- events made last
 
 -- an event of which P holds, and another call: both answer and leave the same in either order, and P still holds after that call
 pub record Apart {S C A : Type 0} (P : S → C → Type 0) (m : Machine S C A) (s : S) (e c : C) : Type 0 where
