@@ -7,6 +7,7 @@ use mathlib.Core.List.{List}
 use lib.Dec.{eqb}
 use borrow.Author.Tests.{eq-eqb, ne-eqb}
 use lib.ListN.{length, length-set}
+use Rattle.facts.proofs.Choice.{either}
 use Rattle.refusals.specs.declared.Refusal.the-variants.{RamLength}
 use Rattle.refusals.specs.Refusals.{refused}
 use Rattle.registers.specs.declared.Registers.{Registers}
@@ -17,11 +18,6 @@ use Rattle.bus.specs.declared.Event.{Event}
 use Rattle.bus.specs.declared.Effect.{Effect}
 use Rattle.bus.specs.declared.Effect.the-variants.{Acknowledge, Ignore, Store, Load}
 use Rattle.bus.specs.Bus.{BusOutcome, busEvent, step, byteAt, fetchAt, ramWith, taken, isRam}
-
--- what holds of both holds of the one that a test picks
-either : {A : Type 0} (P : A → Type 0) (t : Bool) (x y : A) → P x → P y → P (cond t x y)
-either P true x y h k = h
-either P false x y h k = k
 
 with-length : (f : Effect) (ram : List ℕ) → length (ramWith f ram) ≡ length ram
 unfolding ramWith

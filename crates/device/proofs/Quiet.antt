@@ -9,13 +9,12 @@ use borrow.Author.Tests.{lt-ltb, le-ltb, le-leb, lt-leb, eqb-false, leb-false}
 use lib.Dec.{T, eqb, leb}
 use lib.ListN.{length, getD, set}
 use lib.Seq.{getD-set-other, set-getD}
-use lib.Bits.{bitAnd, and-mask, and-shr}
 use Rattle.cells.specs.Reading.{among, Alike}
 use Rattle.refusals.specs.declared.Refusal.the-variants.{RamLength, CellRange}
 use Rattle.refusals.specs.Refusals.{Reply, accepted, refused}
 use Rattle.registers.specs.declared.Registers.{Registers}
-use Rattle.registers.specs.declared.Settings.{Settings}
-use Rattle.registers.specs.Registers.{kept, stored, settingsOf}
+use Rattle.registers.specs.Registers.{stored, settingsOf}
+use Rattle.registers.proofs.Said.{keeps-ld, keeps-dd, keeps-ch, keeps-control, keeps-others}
 use Rattle.bus.specs.declared.Event.{Event}
 use Rattle.bus.specs.declared.Event.the-variants.{Byte}
 use Rattle.bus.specs.declared.Effect.{Effect}
@@ -141,80 +140,6 @@ module _ (ram : List ℕ) (r : Registers) (cs : List ℕ) (a x : ℕ) where
   register-kept : 0x3FF0 ≤ a → settingsOf (stored r (a - 0x3FF0) x) ≡ settingsOf r → Harmless ram r cs (Store a x)
   register-kept h e = record { keeps = same-ram cs ram (no-cell (omega arith)); same = ap settingsOf (register-set h) ∙ e }
 
--- ---- the registers
-
--- a register from 4 on holds no setting
-later-settings : (r : Registers) (i x : ℕ) → 4 ≤ i % 16 → settingsOf (stored r i x) ≡ settingsOf r
-unfolding settingsOf
-later-settings r i x h =
-    rw (
-      getD-set-other (r .bytes) (i % 16) 0 (bitAnd x (getD kept (i % 16) 0)) 0 (omega arith),
-      getD-set-other (r .bytes) (i % 16) 1 (bitAnd x (getD kept (i % 16) 0)) 0 (omega arith),
-      getD-set-other (r .bytes) (i % 16) 2 (bitAnd x (getD kept (i % 16) 0)) 0 (omega arith),
-      getD-set-other (r .bytes) (i % 16) 3 (bitAnd x (getD kept (i % 16) 0)) 0 (omega arith),
-    )
-
--- VSP and HSP lie above LD
-edges-at : (l : List ℕ) (x : ℕ) → x % 64 ≡ getD l 0 0 % 64 → settingsOf (record { bytes = set l 0 (bitAnd x 0xFF) }) ≡ settingsOf (record { bytes = l })
-unfolding settingsOf
-edges-at [] x e = refl
-edges-at (y ∷ l) x e =
-    let m : bitAnd x 0xFF % 64 ≡ y % 64 = omega (arith, and-mask x 8) in
-    ap (λ (v : ℕ). with-ld v (settingsOf (record { bytes = y ∷ l }))) m
-  where
-    with-ld : ℕ → Settings → Settings
-    with-ld v s = record { ld = v; dd = s .dd; ch = s .ch; osd = s .osd; fbk = s .fbk; fl = s .fl }
-
-upper : (x d : ℕ) → x / 16 % 16 ≡ d / 16 % 16 → bitAnd x 0xF7 / 16 ≡ d / 16 % 16
-upper x d e = and-shr x 0xF7 4 ∙ and-mask (x / 16) 4 ∙ e
-
--- DD and CH as they are
-delay-at : (l : List ℕ) (x : ℕ) → x % 256 ≡ getD l 1 0 → settingsOf (record { bytes = set l 1 (bitAnd x 0xFF) }) ≡ settingsOf (record { bytes = l })
-unfolding settingsOf
-delay-at [] x e = refl
-delay-at (a ∷ []) x e = refl
-delay-at (a ∷ b ∷ l) x e =
-    λ i.
-    record {
-      ld = a % 64;
-      dd = (and-mask x 8 ∙ e) i;
-      ch = getD l 0 0 % 64;
-      osd = eqb (getD l 1 0 / 128 % 2) 1;
-      fbk = getD l 1 0 / 64 % 2;
-      fl = getD l 1 0 / 16 % 4;
-    }
-
-height-at : (l : List ℕ) (x : ℕ) → x % 64 ≡ getD l 2 0 % 64 → settingsOf (record { bytes = set l 2 (bitAnd x 0x3F) }) ≡ settingsOf (record { bytes = l })
-unfolding settingsOf
-height-at [] x e = refl
-height-at (a ∷ []) x e = refl
-height-at (a ∷ b ∷ []) x e = refl
-height-at (a ∷ b ∷ c ∷ l) x e =
-    let m : bitAnd x 0x3F % 64 ≡ c % 64 = omega (arith, and-mask x 6) in
-    λ i.
-    record {
-      ld = a % 64;
-      dd = b;
-      ch = m i;
-      osd = eqb (getD l 0 0 / 128 % 2) 1;
-      fbk = getD l 0 0 / 64 % 2;
-      fl = getD l 0 0 / 16 % 4;
-    }
-
--- P lies below OSD, FBK and FL
-page-at : (l : List ℕ) (x : ℕ) → x / 16 % 16 ≡ getD l 3 0 / 16 % 16 → settingsOf (record { bytes = set l 3 (bitAnd x 0xF7) }) ≡ settingsOf (record { bytes = l })
-unfolding settingsOf
-page-at [] x e = refl
-page-at (a ∷ []) x e = refl
-page-at (a ∷ b ∷ []) x e = refl
-page-at (a ∷ b ∷ c ∷ []) x e = refl
-page-at (a ∷ b ∷ c ∷ d ∷ l) x e =
-    let u : bitAnd x 0xF7 / 16 ≡ d / 16 % 16 = upper x d e in
-    let o : bitAnd x 0xF7 / 128 % 2 ≡ d / 128 % 2 = omega arith in
-    let k : bitAnd x 0xF7 / 64 % 2 ≡ d / 64 % 2 = omega arith in
-    let f : bitAnd x 0xF7 / 16 % 4 ≡ d / 16 % 4 = omega arith in
-    λ i. record { ld = a % 64; dd = b; ch = c % 64; osd = eqb (o i) 1; fbk = k i; fl = f i }
-
 -- ---- the question
 
 -- a reply that is no refusal and no yes
@@ -235,14 +160,14 @@ quiet-events =
     record {
       asked-no = λ s x w q. answered s x w (unfold askCell in says-no _ _ _ q);
       refused = quiet-refused;
-      same-delay = λ s e x q g. quiet-as s e (Store 0x3FF1 x) q (register-kept _ _ _ 0x3FF1 x (omega arith) (delay-at (s .device .registers .bytes) x g));
-      same-height = λ s e x q g. quiet-as s e (Store 0x3FF2 x) q (register-kept _ _ _ 0x3FF2 x (omega arith) (height-at (s .device .registers .bytes) x g));
+      same-delay = λ s e x q g. quiet-as s e (Store 0x3FF1 x) q (register-kept _ _ _ 0x3FF1 x (omega arith) (keeps-dd (s .device .registers) x g));
+      same-height = λ s e x q g. quiet-as s e (Store 0x3FF2 x) q (register-kept _ _ _ 0x3FF2 x (omega arith) (keeps-ch (s .device .registers) x g));
       no-store = λ s e n. quiet-by s e (nothing-stored _ _ _ (effectOf s e) n);
       same-byte = λ s e a x q h g. quiet-as s e (Store a x) q (same-cell _ _ _ a x h g);
       empty = λ s e a x q h l. quiet-as s e (Store a x) q (empty-address _ _ _ a x h l);
-      other-register = λ s e a x q h l. quiet-as s e (Store a x) q (register-kept _ _ _ a x (omega arith) (later-settings _ (a - 0x3FF0) x (omega arith)));
-      sync-edges = λ s e x q g. quiet-as s e (Store 0x3FF0 x) q (register-kept _ _ _ 0x3FF0 x (omega arith) (edges-at (s .device .registers .bytes) x g));
-      page = λ s e x q g. quiet-as s e (Store 0x3FF3 x) q (register-kept _ _ _ 0x3FF3 x (omega arith) (page-at (s .device .registers .bytes) x g));
+      other-register = λ s e a x q h l. quiet-as s e (Store a x) q (register-kept _ _ _ a x (omega arith) (keeps-others _ (a - 0x3FF0) x (omega arith)));
+      sync-edges = λ s e x q g. quiet-as s e (Store 0x3FF0 x) q (register-kept _ _ _ 0x3FF0 x (omega arith) (keeps-ld (s .device .registers) x g));
+      page = λ s e x q g. quiet-as s e (Store 0x3FF3 x) q (register-kept _ _ _ 0x3FF3 x (omega arith) (keeps-control (s .device .registers) x g));
     }
   where
     answered : (s : State) (x : ℕ) → s .device .bus .state ≡ Write

@@ -5,12 +5,11 @@ use mathlib.Core.Path.{_≡_, refl, sym, ap, _∙_, subst}
 use mathlib.Core.Bool.{Bool, true, false, _&&_}
 use mathlib.Core.List.{List, [], _∷_, zipWith}
 use native.Mathlib.Nat.{le-refl, not-suc-le-zero, le-of-suc-le-suc}
-use native.Mathlib.Decide.{decLt, ℕ-discrete}
 use native.Mathlib.Omega.{arith}
 use lib.Dec.{T, eqb, eqb→eq}
-use lib.ListN.{getD, set, length}
-use lib.Seq.{getD-set-same, getD-set-other, set-out}
+use lib.ListN.{getD, length}
 use lib.Bits.{bitAnd, and-step, and-zero-l}
+use Rattle.facts.proofs.Lists.{set-at}
 use Rattle.registers.specs.declared.Registers.{Registers}
 use Rattle.registers.specs.Registers.{kept, freshRegisters, loaded, stored, fetched, settingsOf, pageOf}
 
@@ -58,27 +57,11 @@ and-twice (suc k) a m h =
 unfoldable pub Masked : Registers → Type 0
 Masked r = (i : ℕ) → bitAnd (fetched r i) (getD kept (i % 16) 0) ≡ fetched r i
 
-stored-at : (l : List ℕ) (j b i : ℕ) → bitAnd (getD l i 0) (getD kept i 0) ≡ getD l i 0
-    → bitAnd (getD (set l j (bitAnd b (getD kept j 0))) i 0) (getD kept i 0) ≡ getD (set l j (bitAnd b (getD kept j 0))) i 0
-stored-at l j b i h = by (ℕ-discrete i j) (decLt j (length l))
-  where
-    after : List ℕ
-    after = set l j (bitAnd b (getD kept j 0))
-
-    same : (x y : ℕ) → x ≡ y → bitAnd y (getD kept i 0) ≡ y → bitAnd x (getD kept i 0) ≡ x
-    same x y e q = subst (λ (z : ℕ). bitAnd z (getD kept i 0) ≡ z) (sym e) q
-
-    by : Dec (i ≡ j) → Dec (j < length l) → bitAnd (getD after i 0) (getD kept i 0) ≡ getD after i 0
-    by (no n) d = same (getD after i 0) (getD l i 0) (getD-set-other l j i _ 0 n) h
-    by (yes e) (no n) = same (getD after i 0) (getD l i 0) (ap (λ (x : List ℕ). getD x i 0) (set-out l j _ (omega arith))) h
-    by (yes e) (yes k) =
-        same (getD after i 0) (bitAnd b (getD kept i 0))
-        (subst (λ (n : ℕ). getD after n 0 ≡ bitAnd b (getD kept n 0)) (sym e) (getD-set-same l j (bitAnd b (getD kept j 0)) 0 k))
-        (and-twice b b (getD kept i 0) (le-refl b))
-
 pub stored-masked : (r : Registers) (n b : ℕ) → Masked r → Masked (stored r n b)
 unfolding Masked
-stored-masked r n b h i = stored-at (r .bytes) (n % 16) b (i % 16) (h i)
+stored-masked r n b h i =
+    set-at (λ k v. bitAnd v (getD kept k 0) ≡ v) (r .bytes) (n % 16) (bitAnd b (getD kept (n % 16) 0)) (i % 16)
+    (and-twice b b (getD kept (n % 16) 0) (le-refl b)) (h i)
 
 -- a test over two lists, computed, and what it says at each index
 within : List ℕ → List ℕ → Bool
