@@ -13,8 +13,7 @@
  *     device   OSD_DEVICE_LEN bytes, any alignment: the device's record. Make it with osd_fresh. It may be copied, saved and
  *              restored byte by byte. Bytes that were corrupted are some other device, and cause no fault.
  *     ram      OSD_RAM_LEN bytes; any bytes will do. Changed by osd_bus alone.
- *     font     OSD_FONT_LEN bytes, only read. 128 characters of 18 slices of two bytes: first PX7 to PX0, then PX11 to PX8 in the
- *              low bits; PX11 is the leftmost pixel.
+ *     font     OSD_FONT_LEN bytes, only read: 128 characters of 18 slices of two bytes.
  *     line     at least as many bytes as the line has pixels, 12 * (LD + 1): OSD_LINE_MAX is always enough. One byte a pixel,
  *              OSD_FBLK | OSD_R | OSD_G | OSD_B. Bytes after the line's last pixel stay as they are.
  *
@@ -30,8 +29,10 @@
  * call changes no byte of any buffer, except that a bus event with an unknown slave address leaves the device deaf until the next
  * start or stop. Where several refusals fit, the one that is named first at the function is given.
  *
- * Registers, descriptors and codes are those of the STV9425/26; register 3FF0 holds LD, 3FF1 DD, 3FF2 CH, and 3FF3 OSD (bit 7), FBK
- * (6), FL (5, 4) and P (2 to 0).
+ * Formats. What a host writes over the bus (registers, descriptors, codes, user characters) and the lent font have the formats of
+ * the tables below the refusals. They are close to those of the STV9425/26, but not the same: ZY in a descriptor, the low byte of a
+ * code, the end of line and the slices of a user character lie elsewhere than its data sheet says, so a page that was made from
+ * the data sheet alone is drawn wrongly. docs/DIFFERENCES.md lists every difference.
  *
  * Example: a frame of 288 lines. (examples/door_monitor.c is a whole program.)
  *
@@ -106,6 +107,76 @@ extern "C" {
 #define OSD_BENCH_LENGTH 7     /* the bench program's: no function here gives it */
 #define OSD_CELL_RANGE 8       /* cell is OSD_RAM_LEN or above */
 #define OSD_NOT_TAKEN 255      /* device is not OSD_DEVICE_LEN bytes, or kind is above OSD_STOP */
+
+/*
+ * Formats. Bus addresses, and bytes in the columns kept, reset and high, are hexadecimal; all other numbers are decimal. Bit 7 is the
+ * highest bit of a byte; a - is a bit that is not kept.
+ *
+ * Bus. To write: a start, OSD_SLAVE_WRITE, the high byte of the internal address (its two upper bits do not count), the low byte,
+ * data bytes, a stop. To read: the same up to the low byte, a start, OSD_SLAVE_READ, fetches, a stop. Each data byte and each fetch
+ * moves the address counter up by 1, after 3FFF to 0000. 0000 to 03FF is RAM, 3FF0 to 3FFF are registers; elsewhere a store is
+ * acknowledged and dropped, and a fetch reads 0.
+ *
+ * Registers. Bits that are not kept read 0.
+ *
+ *     address      kept  reset  bits from 7 down              meaning
+ *     3FF0         FF    3F     VSP, HSP, LD[5:0]             a line has W = 12 * (LD + 1) pixels; VSP and HSP are stored only
+ *     3FF1         FF    08     DD[7:0]                       characters start at pixel 3 * (DD + 8); DD below 4 counts as 4
+ *     3FF2         3F    12     -, -, CH[5:0]                 height of a strip of characters; 0 counts as 1
+ *     3FF3         F7    00     OSD, FBK, FL[1:0], -, P[8:6]  display on; FBLK of plain pixels; flashing mode; page
+ *     3FF4         F7    22     FR, AS[2:0], -, BS[2:0]       stored only
+ *     3FF5         77    33     -, AF[2:0], -, BF[2:0]        stored only
+ *     3FF6         FF    28     PP[7:0]                       stored only
+ *     3FF7         0F    0A     -, -, -, -, FM[3:0]           stored only
+ *     3FF8 - 3FFF  FF    00     PWM, eight of them            stored only
+ *
+ * A frame start takes P; a strip of characters takes CH at its first line; all else counts from the next line drawn.
+ *
+ * Descriptors. Two bytes at an even address, low byte first. A frame's first lies at cell 64 * P, each next one 2 cells on, after
+ * cell 1022 at cell 0. One is read at the first line of its strip.
+ *
+ *     spacing      low:   SL, the lines of the strip; 0 counts as 1
+ *                  high:  bit 7 is 0; the others do not count
+ *     characters   low:   bits 7 to 0 of the code address; bit 0 counts as 0
+ *                  high:  bit 7 is 1; bit 6 DE; bit 5 ZY; bits 4 to 2 do not count; bits 1, 0: bits 9, 8 of the code address
+ *
+ * A strip of characters has CH lines, with ZY (zoom) twice as many. With DE 0 its lines are plain, and no code is read. Line j of
+ * the strip, counted from 1, shows slice (36 * n + CH) / (2 * CH), rounded down, where n is j, or with ZY (j + 1) / 2 rounded down.
+ * The slice is 0 to 18; it is 0 only where n is 1 and CH is 37 or more.
+ *
+ * Codes. Two bytes at an even address, low byte first; the next lies 2 cells on, after cell 1022 at cell 0. Every line of a strip
+ * reads codes from the code address on, up to the end of line, while the next character's first pixel is below W. A character has 12
+ * pixels; the last one of a line is cut at W.
+ *
+ *     low:   bit 7 FL, the character flashes; bits 6, 5, 4 RF, GF, BF, its foreground; bits 3 to 0 BK[3:0], its background
+ *     high:  bit 7 SET; bits 6 to 0 the number:
+ *
+ *     SET  number    high     shows
+ *     0    0 - 127   00 - 7F  a character of the font
+ *     1    0 - 25    80 - 99  a user character
+ *     1    26 - 126  9A - FE  all background; no slice is read
+ *     1    127       FF       the end of line: plain from here on, whatever the low byte is
+ *
+ * Slices. Two bytes, a bit for each of twelve pixels, 1 foreground and 0 background: first PX7 to PX0, then PX11 to PX8 in bits 3 to
+ * 0 (the upper four do not count). PX11 is leftmost.
+ *
+ *     user character k, 0 to 25   38 bytes at cell 38 * k, so cells 0 to 987; slice s, 0 to 18, at cell 38 * k + 2 * s
+ *     font character k, 0 to 127  36 bytes at byte 36 * k; slice s, 1 to 18, at byte 36 * k + 2 * (s - 1); slice 0 is background
+ *
+ * Pixels. One byte, 8 * FBLK + 4 * R + 2 * G + B.
+ *
+ *     with OSD 0                             0, on the whole line; descriptors are still read, codes and slices are not
+ *     plain                                  8 * FBK
+ *     foreground                             8 + 4 * RF + 2 * GF + BF
+ *     background, BK3 0                      8 + BK[2:0]: BK2 red, BK1 green, BK0 blue
+ *     background, BK3 1, BK1 0: transparent  plain, so black with FBLK 1 where FBK is 1
+ *     background, BK3 1, BK1 1: shadow       8 where the pixel to its left in the same character is foreground, else plain
+ *
+ * With BK3 1, BK2 and BK0 do not count. Plain are spacing strips, strips with DE 0, the pixels before the first character and those
+ * from the end of line on. In its hidden time a flashing character draws foreground as background and casts no shadow; its slice is
+ * read all the same. By the frame number f, 0 to 63, mode FL of register 3FF3 shows it: 0 always, 1 with f below 32, 2 with f below
+ * 16, 3 with f below 48.
+ */
 
 /*
  * The device's record. Numbers of two bytes have their low byte first.
