@@ -1,2 +1,4 @@
+pub mod Claims
 pub mod OnePage
 pub mod Quiet
+pub mod Reach

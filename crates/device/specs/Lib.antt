@@ -1,3 +1,4 @@
 pub mod Device
 pub mod OnePage
+pub mod Reach
 pub mod Use

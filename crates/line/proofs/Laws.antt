@@ -89,7 +89,7 @@ scan-most s w =
     (atMost-cond (4 * columnsOf (s .ld) (s .dd)) (s .osd) _ _ (rowOf-most (columnsOf (s .ld) (s .dd)) (v .strip)) (atMost-done _ [])))
 
 -- at most 61 characters start on a line
-columns-bound : (ld dd : ℕ) → ld < 64 → columnsOf ld dd ≤ 61
+pub columns-bound : (ld dd : ℕ) → ld < 64 → columnsOf ld dd ≤ 61
 columns-bound ld dd h = omega arith
 
 -- a line reads at most 246 cells: 2 of descriptor, 61 codes, 61 user slices

@@ -1,4 +1,5 @@
 pub mod Contracts
 pub mod Edges
 pub mod Line
+pub mod Rules
 pub mod Tables

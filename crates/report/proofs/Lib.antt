@@ -1,2 +1,4 @@
+pub mod Claims
 pub mod Example
+pub mod Parts
 pub mod Texts

@@ -1,1 +1,3 @@
+pub mod Example
+pub mod Parts
 pub mod Report

@@ -1,0 +1,31 @@
+-- Document 01, "Registers": unused bits read 0, in every device that a fresh device and earlier calls can reach.
+-- Assumes nothing.
+use Prim.Native.Nat.{ℕ, _<_}
+use mathlib.Core.Path.{_≡_}
+use mathlib.Core.List.{List}
+use lib.ListN.{length, getD}
+use lib.Bits.{bitAnd}
+use Rattle.registers.specs.declared.Registers.{Registers}
+use Rattle.registers.specs.Registers.{kept}
+use Rattle.bus.specs.declared.Event.{Event}
+use Rattle.device.specs.declared.Device.{Device}
+use Rattle.device.specs.Device.{freshDevice, hearEvent, startFrame, drawLine}
+
+-- a fresh device, and what each call leaves of a device that was reached, refused calls too: a reset, a bus event, a frame start, a
+-- draw (a cell question leaves the device as it is). At each call RAM, font, line buffer and numbers may be any, of any length
+pub data Reachable : Device → Type 0 where
+  fresh : Reachable freshDevice
+  reset : {d : Device} → Reachable d → Reachable freshDevice
+  event : {d : Device} → Reachable d → (ram : List ℕ) (e : Event) → Reachable (hearEvent d ram e .device)
+  start : {d : Device} → Reachable d → (lines : ℕ) → Reachable (startFrame d lines .device)
+  draw : {d : Device} → Reachable d → (ram font line : List ℕ) → Reachable (drawLine d ram font line .device)
+
+-- sixteen bytes, each with kept bits only: masked by them it stays, so its unused bits are 0
+pub record KeptBits (r : Registers) : Type 0 where
+  pub sixteen : length (r .bytes) ≡ 16
+  pub bytes : (i : ℕ) → getD (r .bytes) i 0 < 256
+  pub unused : (i : ℕ) → bitAnd (getD (r .bytes) i 0) (getD kept i 0) ≡ getD (r .bytes) i 0
+
+-- the claim
+abbrev pub UnusedBits : Type 0
+UnusedBits = (d : Device) → Reachable d → KeptBits (d .registers)

@@ -1,0 +1,15 @@
+-- Each claim of this crate's specs, with its proof.
+-- Assumes nothing.
+use Rattle.line.specs.Edges.{Edges}
+use Rattle.line.specs.Rules.{MostCells, LinePixels}
+use Rattle.line.proofs.Edges as table
+use Rattle.line.proofs.Rules as rules
+
+pub edges : Edges
+edges = table.edges
+
+pub most-cells : MostCells
+most-cells = rules.most-cells
+
+pub line-pixels : LinePixels
+line-pixels = rules.line-pixels
