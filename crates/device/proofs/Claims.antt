@@ -1,7 +1,23 @@
 -- Each claim of this crate's specs, with its proof.
 -- Assumes nothing.
+use Rattle.device.specs.OnePage.{OnePage}
 use Rattle.device.specs.Reach.{UnusedBits}
+use Rattle.device.specs.Use.{QuietEvents, WritesAlone, NoStays}
+use Rattle.device.proofs.OnePage as page
+use Rattle.device.proofs.Quiet as quiet
 use Rattle.device.proofs.Reach as reach
+
+pub one-page : OnePage
+one-page = page.one-page
+
+pub quiet-events : QuietEvents
+quiet-events = quiet.quiet-events
+
+pub writes-alone : WritesAlone
+writes-alone = page.writes-alone
+
+pub no-stays : NoStays
+no-stays = page.no-stays
 
 pub unused-bits : UnusedBits
 unused-bits = reach.unused-bits
