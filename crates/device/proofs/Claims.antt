@@ -3,9 +3,11 @@
 use Rattle.device.specs.OnePage.{OnePage}
 use Rattle.device.specs.Reach.{UnusedBits}
 use Rattle.device.specs.Use.{QuietEvents, WritesAlone, NoStays}
+use Rattle.device.specs.Witnesses.{Witnesses}
 use Rattle.device.proofs.OnePage as page
 use Rattle.device.proofs.Quiet as quiet
 use Rattle.device.proofs.Reach as reach
+use Rattle.device.proofs.Witnesses as witness
 
 pub one-page : OnePage
 one-page = page.one-page
@@ -21,3 +23,6 @@ no-stays = page.no-stays
 
 pub unused-bits : UnusedBits
 unused-bits = reach.unused-bits
+
+pub witnesses : Witnesses
+witnesses = witness.witnesses

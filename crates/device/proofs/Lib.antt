@@ -2,3 +2,4 @@ pub mod Claims
 pub mod OnePage
 pub mod Quiet
 pub mod Reach
+pub mod Witnesses

@@ -2,3 +2,4 @@ pub mod Device
 pub mod OnePage
 pub mod Reach
 pub mod Use
+pub mod Witnesses
