@@ -1,2 +1,4 @@
 pub mod Choice
 pub mod Lists
+pub mod Pairs
+pub mod Tests

@@ -10,12 +10,14 @@ use lib.Dec.{ltb, eqb}
 use native.Mathlib.Decide.{ℕ-discrete}
 use lib.ListN.{length, getD, take, drop, length-take, length-drop}
 use lib.Seq.{getD-take, getD-drop}
-use Rattle.cells.specs.Reading.{slice, done, read, value, cells}
+use Rattle.cells.specs.Reading.{slice, Reading, done, read, value, cells}
 use Rattle.cells.proofs.Bounds.{Within, AtMost, within-cond, atMost-cond}
 use Rattle.raster.specs.declared.Slice.{Slice}
-use Rattle.glyph.specs.Glyph.{user, blank, userCell, fontByte, inRam, glyphOf, twelve, bitsOf, slicePart, Lent, Sliced, shownIn}
+use Rattle.raster.specs.Raster.{InCharacter}
+use Rattle.glyph.specs.Glyph.{Glyph, font, user, blank, userCell, fontByte, inRam, glyphOf, twelve, bitsOf, slicePart, Lent, Sliced, shownIn}
+use Rattle.glyph.specs.Words.{inOrder, wordOf, wordIn}
 
-pub inRam-within : (number s : ℕ) → s ≤ 18 → Within 1024 (inRam number s)
+inRam-within : (number s : ℕ) → s ≤ 18 → Within 1024 (inRam number s)
 unfolding inRam Within
 inRam-within number s h = by (ltb number 26) refl
   where
@@ -24,7 +26,7 @@ inRam-within number s h = by (ltb number 26) refl
     by true e = (omega (arith, ltb-true number 26 e), λ first. (omega (arith, ltb-true number 26 e), λ second. tt))
     by false e = tt
 
-pub glyphOf-within : (high : ℕ) (s : Slice) → s .0 ≤ 18 → Within 1024 (glyphOf high s)
+pub glyphOf-within : (high : ℕ) (s : Slice) → InCharacter s → Within 1024 (glyphOf high s)
 unfolding glyphOf
 glyphOf-within high s h = within-cond 1024 (eqb (high / 128 % 2) 0) _ _ (unfold Within in tt) (inRam-within (high % 128) (s .0) h)
 
@@ -82,9 +84,62 @@ module _ (ram f : List ℕ) (high : ℕ) (s : Slice) where
   unfolding bitsIn slicePart shownIn glyphOf inRam value cells bitsOf
   shown-user e h = rw (ne-eqb _ _ e, lt-ltb _ _ h, part-first, part-second)
 
--- ---- what a word shows, case by case
+-- ---- a code's word, case by case
 
--- the low twelve bits of a part's two bytes
-pub word-part : (part : List ℕ) (w : ℕ) → getD part 0 0 < 256 → w ≡ getD part 1 0 * 256 + getD part 0 0 → w % 4096 ≡ bitsIn part
-unfolding bitsIn
-word-part part w h e = omega arith
+-- a part's two bytes
+unfoldable pub wordAt : List ℕ → ℕ
+wordAt part = inOrder (getD part 0 0) (getD part 1 0)
+
+module _ (ram f : List ℕ) (high : ℕ) (s : Slice) where
+  -- slice 0 of a font character
+  pub word-none : high < 128 → s .0 ≡ 0 → record { bits = 0; cells = 0; ends = false } ≡ wordIn ram f high s
+  unfolding wordIn glyphOf value cells wordOf
+  word-none h z = rw (eq-eqb (high / 128 % 2) 0 (omega arith), eq-eqb _ _ z, ne-eqb high 255 (λ e. omega arith))
+
+  -- a font character
+  pub word-font : high < 128 → (s .0 ≡ 0 → ⊥)
+      → record { bits = wordAt (slicePart ram f high (s .0)); cells = 0; ends = false } ≡ wordIn ram f high s
+  unfolding wordAt slicePart wordIn glyphOf value cells wordOf
+  word-font h z =
+      rw (eq-eqb (high / 128 % 2) 0 (omega arith), ne-eqb _ _ z, part-first, part-second, ne-eqb high 255 (λ e. omega arith))
+
+  -- a user character
+  pub word-user : 128 ≤ high → high < 154
+      → record { bits = wordAt (slicePart ram f high (s .0)); cells = 2; ends = false } ≡ wordIn ram f high s
+  unfolding wordAt slicePart wordIn glyphOf inRam value cells wordOf
+  word-user l h =
+      rw (ne-eqb (high / 128 % 2) 0 (λ e. omega arith), lt-ltb (high % 128) 26 (omega arith), part-first, part-second, ne-eqb high 255 (λ e. omega arith))
+
+  -- all background, or the end of line
+  pub word-blank : 154 ≤ high → high < 256 → record { bits = 0; cells = 0; ends = eqb high 255 } ≡ wordIn ram f high s
+  unfolding wordIn glyphOf inRam value cells wordOf
+  word-blank l h = rw (ne-eqb (high / 128 % 2) 0 (λ e. omega arith), le-ltb (high % 128) 26 (omega arith))
+
+-- ---- what a word shows
+
+-- the low twelve bits of two bytes as they lie
+low-twelve : (first second : ℕ) → first < 256 → inOrder first second % 4096 ≡ twelve first second
+low-twelve first second h = omega arith
+
+either-low : (t : Bool) (m n : ℕ) → m % 4096 ≡ n → cond t 0 m % 4096 ≡ cond t 0 n
+either-low true m n e = refl
+either-low false m n e = e
+
+-- a word's low twelve bits are the glyph's
+pub word-low : (ram f : List ℕ) (high : ℕ) (s : Slice) → ((i : ℕ) → getD ram i 0 < 256) → ((i : ℕ) → getD f i 0 < 256)
+    → wordIn ram f high s .bits % 4096 ≡ shownIn ram f high s .bits
+unfolding wordIn shownIn glyphOf inRam value wordOf bitsOf
+word-low ram f high s b d = by (eqb (high / 128 % 2) 0) (ltb (high % 128) 26)
+  where
+    of-ram : Bool → Reading Glyph
+    of-ram u =
+        cond u
+        (read slice (userCell (high % 128) (s .0)) λ first. read slice (userCell (high % 128) (s .0) + 1) λ second. done (user first second))
+        (done blank)
+
+    by : (t u : Bool)
+        → wordOf f (value ram (cond t (done (font (high % 128) (s .0))) (of-ram u))) % 4096
+        ≡ bitsOf f (value ram (cond t (done (font (high % 128) (s .0))) (of-ram u)))
+    by true u = either-low (eqb (s .0) 0) _ _ (low-twelve _ _ (d (fontByte (high % 128) (s .0))))
+    by false true = low-twelve _ _ (b (userCell (high % 128) (s .0)))
+    by false false = refl

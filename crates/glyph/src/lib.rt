@@ -1,9 +1,11 @@
 // Character codes and glyphs: which two bytes a code shows in a slice.
 ghost use mathlib.Core.Path.{_≡_};
-ghost use Prim.Native.Nat.{_+_, _*_, _≤_, _<_};
+ghost use Prim.Native.Nat.{_<_};
 ghost use lib.ListN.{length};
 ghost use Rattle.glyph.specs.Glyph.{twelve, slicePart, Lent, Sliced, shownIn};
-ghost use Rattle.glyph.specs.Words.{WordShown};
+ghost use Rattle.raster.specs.Raster.{InCharacter};
+ghost use Rattle.glyph.specs.Words.{inOrder, wordIn};
+ghost use Rattle.glyph.specs.Cells.{ofUser, userHigh, userSlice};
 use raster::Slice;
 
 // The pixels PX11 to PX0 of a code in a slice, a bit each, and how many cells that read.
@@ -41,7 +43,7 @@ fn bits_of(first: u8, second: u8) -> u16
 // What a code's high byte shows in a slice. Slice 0 of a font character and characters 26 to 126 are blank.
 pub fn lookup<'a>(ram: &'a [u8], font: &'a [u8], high: u8, slice: Slice) -> Shown
     requires { ⌜ Lent (now ram) (now font) ⌝ }
-    requires { ⌜ slice .0 ≤ 18 ⌝ }
+    requires { ⌜ InCharacter slice ⌝ }
     ensures shown { λ r. ⌜ r ≡ shownIn (now (ram .entry)) (now (font .entry)) high slice ⌝ }
     ensures twelve { λ r. ⌜ r .bits < 4096 ⌝ }
 {
@@ -73,7 +75,7 @@ pub struct Word {
 }
 
 fn two_bytes(first: u8, second: u8) -> u32
-    ensures { λ r. ⌜ r ≡ second * 256 + first ⌝ }
+    ensures { λ r. ⌜ r ≡ inOrder first second ⌝ }
 {
     second as u32 * 256 + first as u32
 }
@@ -81,8 +83,8 @@ fn two_bytes(first: u8, second: u8) -> u32
 // What lookup tells of a code, and whether it ends the line, for a row: font codes come most often and are tested first.
 pub fn word_shown<'a>(ram: &'a [u8], font: &'a [u8], high: u8, slice: Slice) -> Word
     requires { ⌜ Lent (now ram) (now font) ⌝ }
-    requires { ⌜ slice .0 ≤ 18 ⌝ }
-    ensures { λ r. ⌜ WordShown (now (ram .entry)) (now (font .entry)) high slice r ⌝ }
+    requires { ⌜ InCharacter slice ⌝ }
+    ensures { λ r. ⌜ r ≡ wordIn (now (ram .entry)) (now (font .entry)) high slice ⌝ }
 {
     if high < 128 {
         if slice.0 == 0 {
@@ -112,4 +114,30 @@ pub fn word_shown<'a>(ram: &'a [u8], font: &'a [u8], high: u8, slice: Slice) -> 
         cells: 0,
         ends: high == 255,
     }
+}
+
+// The cells of the 26 user characters.
+const USER_CELLS: u16 = 988;
+
+// Is a cell one of theirs?
+pub fn of_user(cell: u16) -> bool
+    ensures { λ r. ⌜ r ≡ ofUser cell ⌝ }
+{
+    cell < USER_CELLS
+}
+
+// The high byte of the code whose user character a cell belongs to.
+pub fn user_high(cell: u16) -> u8
+    requires { ⌜ cell < 1024 ⌝ }
+    ensures { λ r. ⌜ r ≡ userHigh cell ⌝ }
+{
+    (128 + cell / 38) as u8
+}
+
+// The slice of that character that it belongs to.
+pub fn user_slice(cell: u16) -> Slice
+    ensures slice { λ r. ⌜ r ≡ userSlice cell ⌝ }
+    ensures inside { λ r. ⌜ InCharacter r ⌝ }
+{
+    Slice((cell % 38 / 2) as u8)
 }

@@ -8,7 +8,7 @@ use lib.ListN.{length, replicate}
 use Rattle.cells.specs.Reading.{bind, fmap, value, cells}
 use Rattle.registers.specs.declared.Settings.{Settings}
 use Rattle.registers.specs.Registers.{settingsOf}
-use Rattle.raster.specs.Raster.{interpolated, sliceNumber}
+use Rattle.raster.specs.Raster.{beforeFirst, following, isLast, interpolated, sliceNumber}
 use Rattle.walk.specs.Walk.{walkFrom, stripOf, over, begun, advanced, nextLine}
 use Rattle.glyph.specs.Glyph.{glyphOf, inRam, bitsOf}
 use Rattle.line.specs.Line.{codes, rowOf, shownRow, scan, inkOf, columns, character, painted, paint}
@@ -23,10 +23,10 @@ exampleFont : List ℕ
 exampleFont = replicate 2340 0 ++ 0x0F ∷ 0x08 ∷ replicate 2266 0
 
 example-reads : length (cells example (scan exampleSettings (walkFrom 0))) ≡ 6
-unfolding example exampleSettings settingsOf scan nextLine walkFrom over begun advanced stripOf rowOf shownRow codes glyphOf inRam bind fmap cells value interpolated sliceNumber
+unfolding example exampleSettings settingsOf scan nextLine walkFrom over begun advanced stripOf rowOf shownRow codes glyphOf inRam bind fmap cells value beforeFirst following isLast interpolated sliceNumber
 example-reads = refl
 
 example-pixels : paint exampleSettings exampleFont 0 (value example (scan exampleSettings (walkFrom 0)) .row)
     ≡ replicate 36 0 ++ 15 ∷ replicate 7 9 ++ replicate 4 15 ++ replicate 12 0
-unfolding example exampleSettings exampleFont settingsOf scan nextLine walkFrom over begun advanced stripOf rowOf shownRow codes glyphOf inRam bind fmap cells value interpolated sliceNumber paint painted character inkOf columns bitsOf
+unfolding example exampleSettings exampleFont settingsOf scan nextLine walkFrom over begun advanced stripOf rowOf shownRow codes glyphOf inRam bind fmap cells value beforeFirst following isLast interpolated sliceNumber paint painted character inkOf columns bitsOf
 example-pixels = refl

@@ -14,9 +14,8 @@ use Rattle.registers.specs.declared.Registers.{Registers}
 use Rattle.registers.specs.Registers.{settingsOf}
 use Rattle.registers.proofs.Laws.{ld-bound, fbk-bound}
 use Rattle.raster.specs.declared.Slice.{Slice}
-use Rattle.raster.specs.declared.ScanLine.{ScanLine}
-use Rattle.raster.specs.Raster.{InStrip, interpolated, widthOf, firstPixelOf, columnsOf, hiddenIn}
-use Rattle.raster.proofs.Laws.{slice-bound, unzoomed-bound, height-pos}
+use Rattle.raster.specs.Raster.{InCharacter, interpolated, widthOf, firstPixelOf, columnsOf, hiddenIn}
+use Rattle.raster.proofs.Rules.{slice-range}
 use Rattle.walk.specs.declared.Strip.{Strip}
 use Rattle.walk.specs.declared.Strip.the-variants.{Spacing, Characters}
 use Rattle.walk.specs.declared.Walk.{Walk}
@@ -29,7 +28,7 @@ use Rattle.line.specs.Line.{Place, codes, rowOf, shownRow, Scanned, scan
 
 -- ---- the cells that a line reads
 
-codes-within : (n : ℕ) (s : Slice) (a : ℕ) → s .0 ≤ 18 → Within 1024 (codes n s a)
+codes-within : (n : ℕ) (s : Slice) (a : ℕ) → InCharacter s → Within 1024 (codes n s a)
 unfolding codes Within
 codes-within zero s a h = tt
 codes-within (suc n) s a h = (
@@ -43,16 +42,11 @@ codes-within (suc n) s a h = (
   ),
 )
 
--- a slice on a line of a strip lies in 0 to 18
-pub interpolated-bound : (j : ScanLine) (ch : ℕ) (zoom : Bool) → InStrip j ch zoom → interpolated j ch zoom .0 ≤ 18
-unfolding interpolated
-interpolated-bound j ch zoom h = slice-bound ch _ (height-pos j ch zoom h) (unzoomed-bound j ch zoom h)
-
 rowOf-within : (n : ℕ) (s : Strip) → OnLine s → Within 1024 (rowOf n s)
 unfolding rowOf OnLine
 rowOf-within n (Spacing left) h = within-done 1024 []
 rowOf-within n (Characters address height zoom enabled line) h =
-    within-cond 1024 enabled _ _ (codes-within n (interpolated line height zoom) address (interpolated-bound line height zoom h)) (within-done 1024 [])
+    within-cond 1024 enabled _ _ (codes-within n (interpolated line height zoom) address (slice-range line height zoom h)) (within-done 1024 [])
 
 -- every cell that a line reads is below 1,024
 pub scan-within : (s : Settings) (w : Walk) → Within 1024 (scan s w)

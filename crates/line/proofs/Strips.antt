@@ -15,7 +15,8 @@ use Rattle.registers.specs.declared.Settings.{Settings}
 use Rattle.registers.specs.Registers.{settingsOf}
 use Rattle.raster.specs.declared.ScanLine.{ScanLine}
 use Rattle.raster.specs.declared.Slice.{Slice}
-use Rattle.raster.specs.Raster.{InStrip, interpolated, widthOf, firstPixelOf, hiddenIn}
+use Rattle.raster.specs.Raster.{InStrip, InCharacter, interpolated, widthOf, firstPixelOf, hiddenIn}
+use Rattle.raster.proofs.Rules.{slice-range}
 use Rattle.walk.specs.declared.Strip.{Strip}
 use Rattle.walk.specs.declared.Strip.the-variants.{Spacing, Characters}
 use Rattle.walk.specs.declared.Walk.{Walk}
@@ -25,7 +26,7 @@ use Rattle.walk.proofs.Laws.{nextLine-on}
 use Rattle.line.specs.declared.Pen.{Pen}
 use Rattle.line.specs.Line.{Place, codes, rowOf, shownRow, Scanned, scan, plainOf, painted, paint}
 use Rattle.line.specs.Contracts.{RowDrawn, CharactersDrawn, StripDrawn, LineDrawn}
-use Rattle.line.proofs.Laws.{line-most, interpolated-bound}
+use Rattle.line.proofs.Laws.{line-most}
 use Rattle.line.proofs.Turns.{drop-from, no-room, no-reads, painted-none}
 
 -- ---- the margin and the row
@@ -143,8 +144,8 @@ pub on-line : (strip : Strip) {address height : ℕ} {zoom enabled : Bool} {line
 unfolding OnLine
 on-line strip e h = subst OnLine e h
 
-pub slice-most : (r : Slice) (j : ScanLine) (ch : ℕ) (zoom : Bool) → r ≡ interpolated j ch zoom → InStrip j ch zoom → r .0 ≤ 18
-slice-most r j ch zoom e h = subst (λ (t : Slice). t .0 ≤ 18) (sym e) (interpolated-bound j ch zoom h)
+pub slice-most : (r : Slice) (j : ScanLine) (ch : ℕ) (zoom : Bool) → r ≡ interpolated j ch zoom → InStrip j ch zoom → InCharacter r
+slice-most r j ch zoom e h = subst InCharacter (sym e) (slice-range j ch zoom h)
 
 -- ---- the frame's next line
 

@@ -19,11 +19,10 @@ use Rattle.cells.proofs.Laws.{value-bind, cells-bind, value-fmap, cells-fmap}
 use Rattle.cells.proofs.Bounds.{atMost-length}
 use Rattle.raster.specs.declared.Slice.{Slice}
 use Rattle.walk.specs.Walk.{even, next}
-use Rattle.glyph.specs.declared.Shown.{Shown}
 use Rattle.glyph.specs.declared.Word.{Word}
 use Rattle.glyph.specs.Glyph.{Glyph, endsLine, glyphOf, shownIn}
-use Rattle.glyph.specs.Words.{WordShown}
-use Rattle.glyph.proofs.Laws.{glyphOf-most}
+use Rattle.glyph.specs.Words.{wordIn}
+use Rattle.glyph.proofs.Laws.{glyphOf-most, word-low}
 use Rattle.line.specs.declared.Ink.{Ink}
 use Rattle.line.specs.declared.Pen.{Pen}
 use Rattle.line.proofs.Laws.{codes-most, character-length}
@@ -93,29 +92,34 @@ code-few ram font at pen part c part′ d =
 -- ---- a code whose word was looked up
 
 -- the count of its cells fits
-pub word-fits : (ram font : List ℕ) (high : ℕ) (s : Slice) (w : Word) → WordShown ram font high s w → Fits w32 (2 + w .cells)
-unfolding shownIn
-word-fits ram font high s w h = code-fits (w .cells) ram high s (ap (λ (x : Shown). x .cells) (h .shown))
+pub word-fits : (ram font : List ℕ) (high : ℕ) (s : Slice) (w : Word) → w ≡ wordIn ram font high s → Fits w32 (2 + w .cells)
+unfolding wordIn
+word-fits ram font high s w h = code-fits (w .cells) ram high s (ap (λ (x : Word). x .cells) h)
 
-module _ (ram font : List ℕ) (at : ℕ) (pen : Pen) (part : List ℕ) (w : Word) (h : WordShown ram font (getD ram (at + 1) 0) (pen .slice) w) where
+module _ (ram font : List ℕ) (at : ℕ) (pen : Pen) (part : List ℕ) (w : Word) (h : w ≡ wordIn ram font (getD ram (at + 1) 0) (pen .slice)) where
+  ends-line : w .ends ≡ endsLine (getD ram (at + 1) 0)
+  unfolding wordIn
+  ends-line = ap (λ (x : Word). x .ends) h
+
   -- the end of line
   pub whole-ended : w .ends ≡ true → CodeDrawn ram font at pen part (record { ended = true; cells = 2 }) part
-  whole-ended e = record { ends = sym e ∙ h .ends; pixels = refl; reads = refl }
+  whole-ended e = record { ends = sym e ∙ ends-line; pixels = refl; reads = refl }
 
-  -- a whole character
-  pub whole-drawn : w .ends ≡ false → (part′ : List ℕ) → length part ≡ 12
+  -- a whole character, of a word's low twelve bits
+  pub whole-drawn : ((i : ℕ) → getD ram i 0 < 256) → ((i : ℕ) → getD font i 0 < 256) → w .ends ≡ false → (part′ : List ℕ) → length part ≡ 12
       → part′ ≡ columns 12 (inkOf (pen .plain) (getD ram at 0)) (shownBits (pen .hidden) (getD ram at 0) (w .bits % 4096)) 0
       → CodeDrawn ram font at pen part (record { ended = false; cells = 2 + w .cells }) part′
-  unfolding shownIn character
-  whole-drawn e part′ l d =
+  unfolding shownIn wordIn character
+  whole-drawn b f e part′ l d =
       let p : Place = record { low = getD ram at 0; glyph = value ram (glyphOf (getD ram (at + 1) 0) (pen .slice)) } in
       record {
-        ends = sym e ∙ h .ends;
+        ends = sym e ∙ ends-line;
         pixels =
             d
-            ∙ ap (λ (x : Shown). columns 12 (inkOf (pen .plain) (getD ram at 0)) (shownBits (pen .hidden) (getD ram at 0) (x .bits)) 0) (h .shown)
+            ∙ ap (λ (n : ℕ). columns 12 (inkOf (pen .plain) (getD ram at 0)) (shownBits (pen .hidden) (getD ram at 0) n) 0)
+            (ap (λ (x : Word). x .bits % 4096) h ∙ word-low ram font (getD ram (at + 1) 0) (pen .slice) b f)
             ∙ sym (take-all (length part) (character font (pen .plain) (pen .hidden) p) (omega (arith, character-length font (pen .plain) (pen .hidden) p)));
-        reads = ap (λ (x : Shown). 2 + x .cells) (h .shown);
+        reads = ap (λ (x : Word). 2 + x .cells) h;
       }
 
 -- a row from an address is the row from the even address of its two bytes

@@ -6,7 +6,7 @@ ghost use lib.Dec.{eqb};
 ghost use mathlib.Core.List.{_++_};
 ghost use lib.ListN.{length, take, drop, replicate};
 ghost use Rattle.registers.specs.Registers.{settingsOf};
-ghost use Rattle.raster.specs.Raster.{widthOf};
+ghost use Rattle.raster.specs.Raster.{InCharacter, widthOf};
 ghost use Rattle.walk.specs.Walk.{OnLine};
 ghost use Rattle.glyph.specs.Glyph.{Lent};
 ghost use Rattle.line.specs.Line.{inkOf, columns, shownBits};
@@ -240,7 +240,7 @@ fn draw_character<'a>(
 ) -> u32
     requires { ⌜ length (now out) ≤ 12 ⌝ }
     requires { ⌜ Lent (now ram) (now font) ⌝ }
-    requires { ⌜ pen .slice .0 ≤ 18 ⌝ }
+    requires { ⌜ InCharacter (pen .slice) ⌝ }
     ensures { λ r. ⌜ CharacterDrawn (now (ram .entry)) (now (font .entry)) low high pen (now (out .entry)) r (now (out .exit)) ⌝ }
 {
     let slice = pen.slice;
@@ -257,7 +257,7 @@ fn draw_character<'a>(
 fn draw_code<'a>(out: &mut [u8], ram: &'a [u8], font: &'a [u8], at: usize, pen: Pen) -> Coded
     requires { ⌜ length (now out) ≤ 12 ⌝ }
     requires { ⌜ Lent (now ram) (now font) ⌝ }
-    requires { ⌜ pen .slice .0 ≤ 18 ⌝ }
+    requires { ⌜ InCharacter (pen .slice) ⌝ }
     requires { ⌜ at + 1 < 1024 ⌝ }
     ensures { λ r. ⌜ CodeDrawn (now (ram .entry)) (now (font .entry)) at pen (now (out .entry)) r (now (out .exit)) ⌝ }
 {
@@ -459,7 +459,7 @@ fn draw_whole<'a>(
     requires { ⌜ length (now out) ≡ 12 ⌝ }
     requires { ⌜ RowTables pen (now masks) (now backs) (now shows) ⌝ }
     requires { ⌜ Lent (now ram) (now font) ⌝ }
-    requires { ⌜ pen .slice .0 ≤ 18 ⌝ }
+    requires { ⌜ InCharacter (pen .slice) ⌝ }
     requires { ⌜ at + 1 < 1024 ⌝ }
     ensures { λ r. ⌜ CodeDrawn (now (ram .entry)) (now (font .entry)) at pen (now (out .entry)) r (now (out .exit)) ⌝ }
 {
@@ -491,7 +491,7 @@ fn draw_row<'a>(
 ) -> u32
     requires { ⌜ (first ≤ w) × (w ≤ length (now out)) × (w ≤ 768) ⌝ }
     requires { ⌜ Lent (now ram) (now font) ⌝ }
-    requires { ⌜ pen .slice .0 ≤ 18 ⌝ }
+    requires { ⌜ InCharacter (pen .slice) ⌝ }
     ensures { λ r. ⌜ RowDrawn (now (ram .entry)) (now (font .entry)) address pen first w (now (out .entry)) r (now (out .exit)) ⌝ }
 {
     let masks = mask_table();
@@ -543,7 +543,7 @@ fn draw_characters<'a>(
 ) -> u32
     requires { ⌜ (w ≤ length (now out)) × (w ≤ 768) ⌝ }
     requires { ⌜ Lent (now ram) (now font) ⌝ }
-    requires { ⌜ pen .slice .0 ≤ 18 ⌝ }
+    requires { ⌜ InCharacter (pen .slice) ⌝ }
     ensures { λ r. ⌜ CharactersDrawn (now (ram .entry)) (now (font .entry)) address pen first w (now (out .entry)) r (now (out .exit)) ⌝ }
 {
     if first < w {

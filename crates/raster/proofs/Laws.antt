@@ -1,13 +1,59 @@
 -- The laws of a line's geometry.
 -- Assumes nothing.
 use Prim.Native.Nat.{ℕ, zero, suc, _+_, _-_, _*_, _/_, _≤_, _<_}
-use mathlib.Core.Path.{_≡_, refl}
+use mathlib.Core.Path.{_≡_, refl, sym, _∙_}
 use mathlib.Core.Bool.{Bool, true, false}
+use native.Mathlib.Decide.{decLe}
 use native.Mathlib.Nat.{div-lt-iff-lt-mul}
 use native.Mathlib.Omega.{arith}
-use lib.Dec.{leb}
+use borrow.Author.Tests.{leb-false, le-leb, lt-leb, eq-eqb, ne-eqb}
+use lib.Dec.{eqb, leb}
 use Rattle.raster.specs.declared.ScanLine.{ScanLine}
-use Rattle.raster.specs.Raster.{unzoomed, sliceNumber, InStrip, hiddenIn}
+use Rattle.raster.specs.Raster.{stripLines, beforeFirst, following, InStrip, isLast, linesAfter, HasNext, unzoomed, sliceNumber, hiddenIn}
+
+-- ---- the scan lines of a strip
+
+-- before its first line a strip has all its lines left
+pub all-after : (ch : ℕ) (zoom : Bool) → linesAfter beforeFirst ch zoom ≡ stripLines ch zoom
+unfolding linesAfter beforeFirst
+all-after ch zoom = omega arith
+
+-- a strip of some height has a line
+pub some-after : (ch : ℕ) (zoom : Bool) → 1 ≤ ch → 1 ≤ linesAfter beforeFirst ch zoom
+unfolding linesAfter beforeFirst
+some-after ch true h = omega arith
+some-after ch false h = omega arith
+
+module _ (j : ScanLine) (ch : ℕ) (zoom : Bool) where
+  -- each line leaves one less
+  pub one-less : linesAfter (following j) ch zoom ≡ linesAfter j ch zoom - 1
+  unfolding linesAfter following
+  one-less = omega arith
+
+  -- the last line leaves none
+  pub last-none : isLast j ch zoom ≡ eqb (linesAfter j ch zoom) 0
+  unfolding isLast linesAfter
+  last-none = by (decLe (stripLines ch zoom) (j .0))
+    where
+      by : Dec (stripLines ch zoom ≤ j .0) → leb (stripLines ch zoom) (j .0) ≡ eqb (stripLines ch zoom - j .0) 0
+      by (yes h) = le-leb (stripLines ch zoom) (j .0) h ∙ sym (eq-eqb (stripLines ch zoom - j .0) 0 (omega arith))
+      by (no h) = lt-leb (stripLines ch zoom) (j .0) (omega arith) ∙ sym (ne-eqb (stripLines ch zoom - j .0) 0 (λ e. omega arith))
+
+  -- a line that is not the last is followed by one of the strip
+  pub following-in : 1 ≤ linesAfter j ch zoom → InStrip (following j) ch zoom
+  unfolding linesAfter following
+  following-in h = record { from = omega arith; to = omega arith }
+
+  -- and has a number of sixteen bits
+  pub last-next : ch < 256 → isLast j ch zoom ≡ false → HasNext j
+  unfolding isLast
+  last-next h e = by zoom (leb-false (stripLines ch zoom) (j .0) e)
+    where
+      by : (z : Bool) → j .0 < stripLines ch z → j .0 < 65535
+      by true l = omega arith
+      by false l = omega arith
+
+-- ---- slices
 
 -- a slice lies in 0 to 18
 pub slice-bound : (ch n : ℕ) → 0 < ch → n ≤ ch → sliceNumber ch n ≤ 18
@@ -25,9 +71,6 @@ height-pos j ch true h = omega (arith, h .to, h .from)
 height-pos j ch false h = omega (arith, h .to, h .from)
 
 -- another character has room to start exactly while its first pixel is below W
-pub columns-none : (left : ℕ) → left ≡ 0 → (left + 11) / 12 ≡ 0
-columns-none left h = omega arith
-
 pub columns-more : (left : ℕ) → 0 < left → (left + 11) / 12 ≡ suc ((left - 12 + 11) / 12)
 columns-more left h = omega arith
 

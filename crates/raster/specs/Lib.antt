@@ -1,1 +1,2 @@
 pub mod Raster
+pub mod Rules

@@ -1,15 +1,53 @@
 -- Document 01, "From line to slice", with the lines of a character strip of "Walk of a frame", and of "Pixels" the width, the first
 -- pixel and the hidden time.
 -- Assumes nothing.
-use Prim.Native.Nat.{ℕ, zero, suc, _+_, _-_, _*_, _/_, _≤_, max}
-use mathlib.Core.Bool.{Bool, false, cond}
-use lib.Dec.{leb}
+use Prim.Native.Nat.{ℕ, zero, suc, _+_, _-_, _*_, _/_, _≤_, _<_, max}
+use mathlib.Core.Bool.{Bool, false, cond, _||_}
+use lib.Dec.{eqb, leb}
 use Rattle.raster.specs.declared.ScanLine.{ScanLine}
 use Rattle.raster.specs.declared.Slice.{Slice}
 
 -- a character strip has CH lines, or twice that with ZY
 abbrev pub stripLines : ℕ → Bool → ℕ
 stripLines ch zoom = cond zoom (2 * ch) ch
+
+-- ---- the scan lines of a strip
+
+-- before a strip's first line
+unfoldable pub beforeFirst : ScanLine
+beforeFirst = record { 0 = 0 }
+
+-- the line after this one
+unfoldable pub following : ScanLine → ScanLine
+following j = record { 0 = j .0 + 1 }
+
+-- line j of a strip counts from 1 and ends with the strip's last
+pub record InStrip (j : ScanLine) (ch : ℕ) (zoom : Bool) : Type 0 where
+  pub from : 1 ≤ j .0
+  pub to : j .0 ≤ stripLines ch zoom
+
+-- it is the strip's last, or beyond
+unfoldable pub isLast : ScanLine → ℕ → Bool → Bool
+isLast j ch zoom = leb (stripLines ch zoom) (j .0)
+
+-- how many lines of the strip are left after it
+unfoldable pub linesAfter : ScanLine → ℕ → Bool → ℕ
+linesAfter j ch zoom = stripLines ch zoom - j .0
+
+-- its number has sixteen bits, and so has that of the line after it
+abbrev pub HasNext : ScanLine → Type 0
+HasNext j = j .0 < 65535
+
+-- ---- the slices of a character
+
+-- a slice lies in 0 to 18
+abbrev pub InCharacter : Slice → Type 0
+InCharacter s = s .0 ≤ 18
+
+abbrev pub sameSlice : Slice → Slice → Bool
+sameSlice s t = eqb (s .0) (t .0)
+
+-- ---- from line to slice
 
 -- n is j, or with ZY half of j rounded up
 abbrev pub unzoomed : Bool → ℕ → ℕ
@@ -23,10 +61,12 @@ sliceNumber ch n = (36 * n + ch) / (2 * ch)
 unfoldable pub interpolated : ScanLine → ℕ → Bool → Slice
 interpolated j ch zoom = record { 0 = sliceNumber ch (unzoomed zoom (j .0)) }
 
--- line j of a strip counts from 1 and ends with the strip's last
-pub record InStrip (j : ScanLine) (ch : ℕ) (zoom : Bool) : Type 0 where
-  pub from : 1 ≤ j .0
-  pub to : j .0 ≤ stripLines ch zoom
+-- does one of the k lines after line j of a strip show this slice?
+unfoldable pub sliceShown : ScanLine → ℕ → ℕ → Bool → Slice → Bool
+sliceShown j zero ch zoom s = false
+sliceShown j (suc k) ch zoom s = sameSlice (interpolated (following j) ch zoom) s || sliceShown (following j) k ch zoom s
+
+-- ---- the characters of a line
 
 -- W = 12 × (LD + 1)
 abbrev pub widthOf : ℕ → ℕ

@@ -1,6 +1,7 @@
 // The geometry of a line: which slice a scan line shows, how wide a line is, where its characters start, and what flashes.
 ghost use mathlib.Core.Path.{_≡_};
-ghost use Rattle.raster.specs.Raster.{stripLines, InStrip, unzoomed, interpolated, widthOf, firstPixelOf, columnsOf, hiddenIn};
+ghost use Prim.Native.Nat.{_-_, _≤_, max};
+ghost use Rattle.raster.specs.Raster.{stripLines, beforeFirst, following, InStrip, isLast, linesAfter, HasNext, InCharacter, unzoomed, interpolated, sliceShown, widthOf, firstPixelOf, columnsOf, hiddenIn};
 
 // A scan line of a strip, counted from 1; 0 before the first.
 pub struct ScanLine(pub u16);
@@ -8,8 +9,24 @@ pub struct ScanLine(pub u16);
 // A slice of a character, 0 to 18.
 pub struct Slice(pub u8);
 
+// What is left of a number after some, or 0.
+fn rest(all: u16, some: u16) -> u16
+    ensures { λ r. ⌜ r ≡ all - some ⌝ }
+{
+    if all <= some {
+        return 0;
+    }
+    all - some
+}
+
+fn most(a: u16, b: u16) -> u16
+    ensures { λ r. ⌜ r ≡ max a b ⌝ }
+{
+    if a < b { b } else { a }
+}
+
 // The line counted without zoom: half of it, rounded up.
-pub fn unzoom(line: u16, zoom: bool) -> u16
+fn unzoom(line: u16, zoom: bool) -> u16
     ensures { λ r. ⌜ r ≡ unzoomed zoom line ⌝ }
 {
     if zoom {
@@ -18,7 +35,46 @@ pub fn unzoom(line: u16, zoom: bool) -> u16
     line
 }
 
+// How many scan lines a strip of characters has.
+fn strip_lines(height: u8, zoom: bool) -> u16
+    ensures { λ r. ⌜ r ≡ stripLines height zoom ⌝ }
+{
+    if zoom {
+        return 2 * height as u16;
+    }
+    height as u16
+}
+
 impl ScanLine {
+    // Before a strip's first line.
+    pub fn before_first() -> ScanLine
+        ensures { λ r. ⌜ r ≡ beforeFirst ⌝ }
+    {
+        ScanLine(0)
+    }
+
+    // The line after this one.
+    pub fn next(self) -> ScanLine
+        requires { ⌜ HasNext self ⌝ }
+        ensures { λ r. ⌜ r ≡ following self ⌝ }
+    {
+        ScanLine(self.0 + 1)
+    }
+
+    // Is it the last line of a strip of characters, or beyond?
+    pub fn is_last(self, height: u8, zoom: bool) -> bool
+        ensures { λ r. ⌜ r ≡ isLast self height zoom ⌝ }
+    {
+        strip_lines(height, zoom) <= self.0
+    }
+
+    // How many lines of the strip are left after it.
+    pub fn lines_after(self, height: u8, zoom: bool) -> u16
+        ensures { λ r. ⌜ r ≡ linesAfter self height zoom ⌝ }
+    {
+        rest(strip_lines(height, zoom), self.0)
+    }
+
     // The slice that this line of a strip of characters shows.
     pub fn slice(self, height: u8, zoom: bool) -> Slice
         requires { ⌜ InStrip self height zoom ⌝ }
@@ -28,16 +84,23 @@ impl ScanLine {
         let ch = height as u16;
         Slice(((36 * n + ch) / (2 * ch)) as u8)
     }
-}
 
-// How many scan lines a strip of characters has.
-pub fn strip_lines(height: u8, zoom: bool) -> u16
-    ensures { λ r. ⌜ r ≡ stripLines height zoom ⌝ }
-{
-    if zoom {
-        return 2 * height as u16;
+    // Does one of the next lines of the strip, so many, show a slice? The lines that show a slice are neighbours, so the first that
+    // could is looked at.
+    pub fn shows(self, count: u16, height: u8, zoom: bool, slice: Slice) -> bool
+        requires { ⌜ (1 ≤ count) × (count ≤ linesAfter self height zoom) ⌝ }
+        requires { ⌜ InCharacter slice ⌝ }
+        ensures { λ r. ⌜ r ≡ sliceShown self count height zoom slice ⌝ }
+    {
+        let ch = height as u16;
+        let from = slice.0 as u16 * (2 * ch);
+        let first = (rest(from, ch) + 35) / 36;
+        let n = most(unzoom(self.0 + 1, zoom), first);
+        if unzoom(self.0 + count, zoom) < n {
+            return false;
+        }
+        36 * n + ch < from + 2 * ch
     }
-    height as u16
 }
 
 pub fn width(ld: u8) -> u16

@@ -1,25 +1,25 @@
 -- The laws of the walk: addresses are even and below 1,024, a line of the walk reads at most one descriptor, and the strip on
 -- screen is at one of its lines.
 -- Assumes nothing.
-use Prim.Native.Nat.{ℕ, _+_, _*_, _/_, _%_, _≤_, _<_}
-use mathlib.Core.Path.{_≡_, refl}
+use Prim.Native.Nat.{ℕ, _+_, _-_, _*_, _/_, _%_, _≤_, _<_}
+use mathlib.Core.Path.{_≡_, refl, sym, ap, _∙_}
 use mathlib.Core.Bool.{Bool, true, false, cond}
 use native.Mathlib.Omega.{arith}
-use borrow.Author.Tests.{leb-false, eqb-false, lt-leb, ne-eqb}
-use mir.Syntax.{w16}
-use mir.Val.{Fits}
+use borrow.Author.Tests.{eqb-false, eq-eqb, ne-eqb}
 use mathlib.Core.List.{List}
-use lib.Dec.{leb, eqb}
+use lib.Dec.{eqb}
 use lib.ListN.{getD}
+use Rattle.facts.proofs.Choice.{either}
 use Rattle.cells.specs.Reading.{descriptor, Reading, done, read, fmap, value, cells}
 use Rattle.cells.proofs.Bounds.{Gives, Within, AtMost, gives-fmap, within-fmap, within-cond, atMost-fmap, atMost-cond}
 use Rattle.raster.specs.declared.ScanLine.{ScanLine}
-use Rattle.raster.specs.Raster.{InStrip, stripLines}
+use Rattle.raster.specs.Raster.{beforeFirst, following, linesAfter}
+use Rattle.raster.proofs.Laws.{some-after, one-less, last-none, following-in}
 use Rattle.walk.specs.declared.Strip.{Strip}
 use Rattle.walk.specs.declared.Strip.the-variants.{Spacing, Characters}
 use Rattle.walk.specs.declared.Walk.{Walk}
 use Rattle.walk.specs.declared.Walked.{Walked}
-use Rattle.walk.specs.Walk.{even, next, walkFrom, atLeastOne, stripOf, over, begun, advanced, nextLine, OnLine, walked}
+use Rattle.walk.specs.Walk.{even, next, walkFrom, atLeastOne, stripOf, over, linesLeft, begun, advanced, nextLine, OnLine, walked}
 
 -- ---- addresses
 
@@ -57,30 +57,44 @@ pub nextLine-most : (ch : ℕ) (w : Walk) → AtMost 2 (nextLine ch w)
 unfolding nextLine
 nextLine-most ch w = atMost-fmap 2 _ (begun ch w) (begun-most ch w)
 
+-- ---- the lines that a strip has left
+
+-- a strip is over where it has none
+pub over-none : (s : Strip) → over s ≡ eqb (linesLeft s) 0
+unfolding over linesLeft
+over-none (Spacing left) = refl
+over-none (Characters address height zoom enabled line) = last-none line height zoom
+
+pub over-left : (s : Strip) → over s ≡ false → 1 ≤ linesLeft s
+over-left s e = omega (arith, eqb-false (linesLeft s) 0 (sym (over-none s) ∙ e))
+
+pub left-over : (s : Strip) → 1 ≤ linesLeft s → over s ≡ false
+left-over s h = over-none s ∙ ne-eqb (linesLeft s) 0 (omega arith)
+
+pub none-over : (s : Strip) → linesLeft s ≡ 0 → over s ≡ true
+none-over s e = over-none s ∙ eq-eqb (linesLeft s) 0 e
+
+-- each line leaves one less
+pub left-advanced : (s : Strip) → linesLeft (advanced s) ≡ linesLeft s - 1
+unfolding linesLeft advanced
+left-advanced (Spacing left) = refl
+left-advanced (Characters address height zoom enabled line) = one-less line height zoom
+
+-- a strip that has just begun has a line
+pub stripOf-some : (ch low high : ℕ) → 1 ≤ linesLeft (stripOf ch low high)
+unfolding stripOf linesLeft
+stripOf-some ch low high =
+    either (λ (s : Strip). 1 ≤ linesLeft s) (eqb (high / 128 % 2) 0) _ _
+    (omega arith)
+    (some-after (atLeastOne ch) (eqb (high / 32 % 2) 1) (omega arith))
+
 -- ---- the strip on screen is at one of its lines
 
 -- a strip with a line left, at its next line
-left-on : (s : Strip) → over s ≡ false → OnLine (advanced s)
-unfolding over advanced OnLine
-left-on (Spacing left) e = tt
-left-on (Characters address height zoom enabled line) e =
-    record { from = omega arith; to = omega (arith, leb-false (stripLines height zoom) (line .0) e) }
-
-fresh-on : (zoom : Bool) (ch : ℕ) → 1 ≤ stripLines (atLeastOne ch) zoom
-fresh-on true ch = omega arith
-fresh-on false ch = omega arith
-
--- what holds of both holds of the one that a test picks
-either : {A : Type 0} (P : A → Type 0) (t : Bool) (x y : A) → P x → P y → P (cond t x y)
-either P true x y h k = h
-either P false x y h k = k
-
-stripOf-on : (ch low high : ℕ) → OnLine (advanced (stripOf ch low high))
-unfolding stripOf
-stripOf-on ch low high =
-    either (λ (s : Strip). OnLine (advanced s)) (eqb (high / 128 % 2) 0) _ _
-    (unfold advanced OnLine in tt)
-    (unfold advanced OnLine in record { from = omega arith; to = fresh-on (eqb (high / 32 % 2) 1) ch })
+left-on : (s : Strip) → 1 ≤ linesLeft s → OnLine (advanced s)
+unfolding linesLeft advanced OnLine
+left-on (Spacing left) h = tt
+left-on (Characters address height zoom enabled line) h = following-in line height zoom h
 
 -- a walk whose strip is at a line once it is advanced
 begun-on : (ch : ℕ) (w : Walk) (t : Bool) → over (w .strip) ≡ t
@@ -91,8 +105,8 @@ begun-on : (ch : ℕ) (w : Walk) (t : Bool) → over (w .strip) ≡ t
     done (record { descriptor = next (even (w .descriptor)); strip = stripOf ch low high }))
     (done w))
 unfolding Gives
-begun-on ch w true e = λ low high. stripOf-on ch low high
-begun-on ch w false e = left-on (w .strip) e
+begun-on ch w true e = λ low high. left-on (stripOf ch low high) (stripOf-some ch low high)
+begun-on ch w false e = left-on (w .strip) (over-left (w .strip) e)
 
 pub nextLine-on : (ch : ℕ) (w : Walk) → Gives (λ (v : Walk). OnLine (v .strip)) (nextLine ch w)
 unfolding nextLine begun
@@ -105,20 +119,9 @@ nextLine-on ch w =
 pub left-pos : (left : ℕ) → eqb left 0 ≡ false → 1 ≤ left
 left-pos left e = omega (arith, eqb-false left 0 e)
 
-pub line-fits : (height line : ℕ) (zoom : Bool) → height < 256 → leb (stripLines height zoom) line ≡ false → Fits w16 (line + 1)
-line-fits height line true h e = omega (arith, leb-false (2 * height) line e)
-line-fits height line false h e = omega (arith, leb-false height line e)
-
 -- a strip that has just begun is not over
-fresh-lines : (zoom : Bool) (ch : ℕ) → leb (stripLines (atLeastOne ch) zoom) 0 ≡ false
-fresh-lines zoom ch = lt-leb (stripLines (atLeastOne ch) zoom) 0 (fresh-on zoom ch)
-
 pub stripOf-begun : (ch low high : ℕ) → over (stripOf ch low high) ≡ false
-unfolding stripOf
-stripOf-begun ch low high =
-    either (λ (s : Strip). over s ≡ false) (eqb (high / 128 % 2) 0) _ _
-    (unfold over in ne-eqb (atLeastOne low) 0 (omega arith))
-    (unfold over in fresh-lines (eqb (high / 32 % 2) 1) ch)
+stripOf-begun ch low high = left-over (stripOf ch low high) (stripOf-some ch low high)
 
 -- the walk's next line where the strip is over: a descriptor is read
 pub walked-read : (ram : List ℕ) (ch : ℕ) (w : Walk) → over (w .strip) ≡ true

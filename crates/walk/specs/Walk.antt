@@ -2,11 +2,11 @@
 -- Assumes nothing.
 use Prim.Native.Nat.{ℕ, _+_, _-_, _*_, _/_, _%_, max}
 use mathlib.Core.Bool.{Bool, true, false, cond}
-use lib.Dec.{eqb, leb}
+use lib.Dec.{eqb}
 use lib.ListN.{length}
 use mathlib.Core.List.{List}
 use Rattle.cells.specs.Reading.{descriptor, Reading, done, read, fmap, value, cells}
-use Rattle.raster.specs.Raster.{stripLines, InStrip}
+use Rattle.raster.specs.Raster.{beforeFirst, following, InStrip, isLast, linesAfter}
 use Rattle.walk.specs.declared.Strip.{Strip}
 use Rattle.walk.specs.declared.Strip.the-variants.{Spacing, Characters}
 use Rattle.walk.specs.declared.Walk.{Walk}
@@ -34,17 +34,17 @@ unfoldable pub stripOf : ℕ → ℕ → ℕ → Strip
 stripOf ch low high =
     cond (eqb (high / 128 % 2) 0)
     (Spacing (atLeastOne low))
-    (Characters (even (high % 4 * 256 + low)) (atLeastOne ch) (eqb (high / 32 % 2) 1) (eqb (high / 64 % 2) 1) (record { 0 = 0 }))
+    (Characters (even (high % 4 * 256 + low)) (atLeastOne ch) (eqb (high / 32 % 2) 1) (eqb (high / 64 % 2) 1) beforeFirst)
 
 -- a strip that has no line left
 unfoldable pub over : Strip → Bool
 over (Spacing left) = eqb left 0
-over (Characters address height zoom enabled line) = leb (stripLines height zoom) (line .0)
+over (Characters address height zoom enabled line) = isLast line height zoom
 
 -- how many lines it has left
 unfoldable pub linesLeft : Strip → ℕ
 linesLeft (Spacing left) = left
-linesLeft (Characters address height zoom enabled line) = stripLines height zoom - line .0
+linesLeft (Characters address height zoom enabled line) = linesAfter line height zoom
 
 -- a descriptor is read at the first line of its strip, and CH is taken there
 unfoldable pub begun : ℕ → Walk → Reading Walk
@@ -58,7 +58,7 @@ begun ch w =
 -- the strip at its next line
 unfoldable pub advanced : Strip → Strip
 advanced (Spacing left) = Spacing (left - 1)
-advanced (Characters address height zoom enabled line) = Characters address height zoom enabled (record { 0 = line .0 + 1 })
+advanced (Characters address height zoom enabled line) = Characters address height zoom enabled (following line)
 
 -- the walk at the frame's next line: the strip on screen, and its line
 unfoldable pub nextLine : ℕ → Walk → Reading Walk

@@ -1,7 +1,6 @@
 // The walk of a frame over its descriptors: which strip is on screen, and which of its lines.
 ghost use mathlib.Core.Path.{_≡_};
 ghost use mathlib.Core.Bool.{false};
-ghost use Prim.Native.Nat.{_-_};
 ghost use lib.ListN.{length};
 ghost use Rattle.walk.specs.Walk.{even, walkFrom, atLeastOne, stripOf, over, linesLeft, advanced, walked};
 use raster::ScanLine;
@@ -54,16 +53,6 @@ fn at_least_one(n: u8) -> u8
     n
 }
 
-// What is left of a number after some, or 0.
-pub fn rest(all: u16, some: u16) -> u16
-    ensures { λ r. ⌜ r ≡ all - some ⌝ }
-{
-    if all <= some {
-        return 0;
-    }
-    all - some
-}
-
 impl Strip {
     // The strip of a descriptor, before its first line.
     pub fn of_descriptor(ch: u8, low: u8, high: u8) -> Strip
@@ -79,7 +68,7 @@ impl Strip {
             height: at_least_one(ch),
             zoom: high / 32 % 2 == 1,
             enabled: high / 64 % 2 == 1,
-            line: ScanLine(0),
+            line: ScanLine::before_first(),
         }
     }
 
@@ -94,7 +83,7 @@ impl Strip {
                 zoom,
                 enabled: _,
                 line,
-            } => raster::strip_lines(height, zoom) <= line.0,
+            } => line.is_last(height, zoom),
         }
     }
 
@@ -110,7 +99,7 @@ impl Strip {
                 zoom,
                 enabled: _,
                 line,
-            } => rest(raster::strip_lines(height, zoom), line.0),
+            } => line.lines_after(height, zoom),
         }
     }
 
@@ -131,7 +120,7 @@ impl Strip {
                 height: height,
                 zoom: zoom,
                 enabled: enabled,
-                line: ScanLine(line.0 + 1),
+                line: line.next(),
             },
         }
     }

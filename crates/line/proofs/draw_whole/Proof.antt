@@ -38,9 +38,11 @@ same-length c = search needs
 returns-2 : tie.Need-returns-2
 returns-2 c =
     let w = c .before .before .before .before .before .before .word-shown in
-    let s = c .before .before .before .before .before .before .before .before .before .before .before .before .before .before .before .before in
+    let k = c .before .before .before .before .before .before .before .before .before .before in
+    let s = k .before .before .before .before .before .before in
     let a = s .args in
-    whole-drawn (now (a .ram)) (now (a .font)) (a .at) (a .pen) (now (a .out)) (w .result) (w .ensures) (c .before .before .before .before .before .if1 .left) _ (s .pre .0)
+    whole-drawn (now (a .ram)) (now (a .font)) (a .at) (a .pen) (now (a .out)) (w .result) (w .ensures)
+    (λ i. k .before .shared-slice-known4 .given i .fits) (λ i. k .shared-slice-known5 .given i .fits) (c .before .before .before .before .before .if1 .left) _ (s .pre .0)
     (c .before .before .before .draw-twelve .ensures)
 
 pub draw-whole-spec : {M : Type 1} → statement M

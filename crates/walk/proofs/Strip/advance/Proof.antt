@@ -2,7 +2,8 @@
 -- Assumes nothing.
 use mathlib.Core.Path.{sym, ap, _∙_}
 use Rattle.walk.specs.Walk.{over, advanced}
-use Rattle.walk.proofs.Laws.{left-pos, line-fits}
+use Rattle.raster.proofs.Laws.{last-next}
+use Rattle.walk.proofs.Laws.{left-pos}
 use borrow.Author.Needs.{needs}
 use Rattle.walk.proofs.Strip.advance.Statement.{statement}
 use Rattle.walk.proofs.Strip.advance.Tie as tie
@@ -17,10 +18,10 @@ sub-t9 c = left-pos _ (sym (ap over (c .before .self .given .1)) ∙ c .before .
 enum-known-self-2 : tie.Need-enum-known-self-2
 enum-known-self-2 c = search needs
 
-add-t10 : tie.Need-add-t10
+next-requires : tie.Need-next-requires
 unfolding over
-add-t10 c = let v = c .before .before .self2 .given .0 in
-    line-fits (v .1 .0) (v .1 .1 .1 .1 .0 .0) (v .1 .1 .0) (search needs) (sym (ap over (c .before .before .self2 .given .1)) ∙ c .before .before .before .before .pre)
+next-requires c κs =
+    last-next _ _ _ (search needs) (sym (ap over (c .before .self2 .given .1)) ∙ c .before .before .before .pre)
 
 returns : tie.Need-returns
 unfolding advanced
@@ -28,8 +29,8 @@ returns c = sym (ap advanced (c .before .self .given .1))
 
 returns-2 : tie.Need-returns-2
 unfolding advanced
-returns-2 c = sym (ap advanced (c .before .before .self2 .given .1))
+returns-2 c = rw (c .next .ensures) (sym (ap advanced (c .before .before .self2 .given .1)))
 
 pub advance-spec : {M : Type 1} → statement M
 advance-spec =
-    tie.close (tie.spec enum-known-self sub-t9 enum-known-self-2 add-t10 returns returns-2)
+    tie.close (tie.spec enum-known-self sub-t9 enum-known-self-2 next-requires returns returns-2)

@@ -1,6 +1,6 @@
 -- `Strip::is_over`: each arm is a clause of `over`.
 -- Assumes nothing.
-use mathlib.Core.Path.{sym, ap}
+use mathlib.Core.Path.{sym, ap, _∙_}
 use Rattle.walk.specs.Walk.{over}
 use borrow.Author.Needs.{needs}
 use Rattle.walk.proofs.Strip.is_over.Statement.{statement}
@@ -12,8 +12,8 @@ enum-known-self c = search needs
 enum-known-self-2 : tie.Need-enum-known-self-2
 enum-known-self-2 c = search needs
 
-strip-lines-requires : tie.Need-strip-lines-requires
-strip-lines-requires c κs = search needs
+is-last-requires : tie.Need-is-last-requires
+is-last-requires c κs = search needs
 
 returns : tie.Need-returns
 unfolding over
@@ -21,8 +21,8 @@ returns c = sym (ap over (c .before .self .given .1))
 
 returns-2 : tie.Need-returns-2
 unfolding over
-returns-2 c = rw (c .before .strip-lines .ensures) (sym (ap over (c .before .before .before .self2 .given .1)))
+returns-2 c = c .is-last .ensures ∙ sym (ap over (c .before .before .self2 .given .1))
 
 pub is-over-spec : {M : Type 1} → statement M
 is-over-spec =
-    tie.close (tie.spec enum-known-self enum-known-self-2 strip-lines-requires returns returns-2)
+    tie.close (tie.spec enum-known-self enum-known-self-2 is-last-requires returns returns-2)

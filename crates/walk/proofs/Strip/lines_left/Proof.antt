@@ -1,6 +1,6 @@
 -- `Strip::lines_left`: each arm is a clause of `linesLeft`.
 -- Assumes nothing.
-use mathlib.Core.Path.{sym, ap}
+use mathlib.Core.Path.{sym, ap, _∙_}
 use Rattle.walk.specs.Walk.{linesLeft}
 use borrow.Author.Needs.{needs}
 use Rattle.walk.proofs.Strip.lines_left.Statement.{statement}
@@ -15,11 +15,8 @@ cast-result c = search needs
 enum-known-self-2 : tie.Need-enum-known-self-2
 enum-known-self-2 c = search needs
 
-strip-lines-requires : tie.Need-strip-lines-requires
-strip-lines-requires c κs = search needs
-
-rest-requires : tie.Need-rest-requires
-rest-requires c κs = search needs
+lines-after-requires : tie.Need-lines-after-requires
+lines-after-requires c κs = search needs
 
 returns : tie.Need-returns
 unfolding linesLeft
@@ -27,7 +24,7 @@ returns c = sym (ap linesLeft (c .before .self .given .1))
 
 returns-2 : tie.Need-returns-2
 unfolding linesLeft
-returns-2 c = rw (c .rest .ensures, c .before .strip-lines .ensures) (sym (ap linesLeft (c .before .before .before .self2 .given .1)))
+returns-2 c = c .lines-after .ensures ∙ sym (ap linesLeft (c .before .before .self2 .given .1))
 
 pub lines-left-spec : {M : Type 1} → statement M
 lines-left-spec =
@@ -36,7 +33,6 @@ lines-left-spec =
     enum-known-self
     cast-result
     enum-known-self-2
-    strip-lines-requires
-    rest-requires
+    lines-after-requires
     returns
     returns-2)

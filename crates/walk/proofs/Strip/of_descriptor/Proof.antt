@@ -30,9 +30,13 @@ even-address-requires c κs = search needs
 at-least-one-requires-2 : tie.Need-at-least-one-requires-2
 at-least-one-requires-2 c κs = search needs
 
+before-first-requires : tie.Need-before-first-requires
+before-first-requires c κs = search needs
+
 returns-2 : tie.Need-returns-2
 unfolding stripOf
-returns-2 c = rw (ne-eqb _ _ (c .before .before .if1 .left), c .before .even-address .ensures, c .at-least-one2 .ensures)
+returns-2 c =
+    rw (ne-eqb _ _ (c .before .before .before .if1 .left), c .before .before .even-address .ensures, c .before .at-least-one2 .ensures, c .before-first .ensures)
 
 pub of-descriptor-spec : {M : Type 1} → statement M
 of-descriptor-spec =
@@ -45,4 +49,5 @@ of-descriptor-spec =
     add-even-address
     even-address-requires
     at-least-one-requires-2
+    before-first-requires
     returns-2)

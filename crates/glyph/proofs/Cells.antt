@@ -1,0 +1,64 @@
+-- Which codes read a cell in a slice: those of the user character that it belongs to, in its own slice.
+-- Assumes nothing.
+use Prim.Native.Nat.{ℕ, _+_, _-_, _*_, _/_, _%_, _≤_, _<_}
+use mathlib.Core.Path.{_≡_, ap, _∙_}
+use mathlib.Core.Bool.{Bool, false, _&&_}
+use mathlib.Core.List.{List}
+use native.Mathlib.Decide.{ℕ-discrete, decLt}
+use native.Mathlib.Omega.{arith}
+use borrow.Author.Tests.{eq-eqb, ne-eqb, lt-ltb, le-ltb}
+use lib.Dec.{T, eqb, ltb, eqb→eq, ltb→lt, lt→ltb}
+use Rattle.facts.proofs.Pairs.{pair-is}
+use Rattle.facts.proofs.Tests.{iff, and-left, and-right, and-both, eq-T}
+use Rattle.cells.specs.Reading.{cells, among}
+use Rattle.raster.specs.declared.Slice.{Slice}
+use Rattle.raster.specs.Raster.{InCharacter, sameSlice}
+use Rattle.glyph.specs.Glyph.{userCell, inRam, glyphOf}
+use Rattle.glyph.specs.Cells.{ofUser, userHigh, userSlice}
+
+-- the cell is of a user character's slice s
+abbrev pub ofSlice : ℕ → Slice → Bool
+ofSlice c s = sameSlice s (userSlice c) && ofUser c
+
+module _ (c : ℕ) (s : Slice) where
+  -- what a user character's slice reads
+  user-reads : (number : ℕ) → number < 26 → InCharacter s → eqb (c / 2 * 2) (userCell number (s .0)) ≡ ofSlice c s && eqb (128 + number) (userHigh c)
+  unfolding userSlice
+  user-reads number h k =
+      iff (eqb (c / 2 * 2) (userCell number (s .0))) (ofSlice c s && eqb (128 + number) (userHigh c))
+      (λ t.
+      let e : c / 2 * 2 ≡ userCell number (s .0) = eqb→eq (c / 2 * 2) (userCell number (s .0)) t in
+      let d : c / 38 ≡ number = omega arith in
+      let m : c % 38 ≡ c - 38 * number = omega arith in
+      and-both (ofSlice c s) (eqb (128 + number) (userHigh c))
+      (and-both (sameSlice s (userSlice c)) (ofUser c) (eq-T (s .0) (c % 38 / 2) (omega arith)) (lt→ltb c 988 (omega arith)))
+      (eq-T (128 + number) (userHigh c) (omega arith)))
+      (λ t.
+      let o : T (ofSlice c s) = and-left (ofSlice c s) (eqb (128 + number) (userHigh c)) t in
+      let e : s .0 ≡ c % 38 / 2 = eqb→eq (s .0) (c % 38 / 2) (and-left (sameSlice s (userSlice c)) (ofUser c) o) in
+      let q : 128 + number ≡ userHigh c = eqb→eq (128 + number) (userHigh c) (and-right (ofSlice c s) (eqb (128 + number) (userHigh c)) t) in
+      eq-T (c / 2 * 2) (userCell number (s .0)) (omega arith))
+
+  -- where no cell is read, the cell is of no such character
+  none-reads : (high : ℕ) → (high ≡ userHigh c → c < 988 → ⊥) → false ≡ ofSlice c s && eqb high (userHigh c)
+  none-reads high h =
+      iff false (ofSlice c s && eqb high (userHigh c)) (λ t. absurd t)
+      (λ t.
+      absurd (h (eqb→eq high (userHigh c) (and-right (ofSlice c s) (eqb high (userHigh c)) t))
+      (ltb→lt c 988 (and-right (sameSlice s (userSlice c)) (ofUser c) (and-left (ofSlice c s) (eqb high (userHigh c)) t)))))
+
+  pub glyph-reads : (ram : List ℕ) (high : ℕ) → high < 256 → InCharacter s
+      → among c (cells ram (glyphOf high s)) ≡ ofSlice c s && eqb high (userHigh c)
+  unfolding glyphOf inRam cells among
+  glyph-reads ram high h k = by (ℕ-discrete (high / 128 % 2) 0) (decLt (high % 128) 26)
+    where
+      by : Dec (high / 128 % 2 ≡ 0) → Dec (high % 128 < 26)
+          → among c (cells ram (glyphOf high s)) ≡ ofSlice c s && eqb high (userHigh c)
+      by (yes e) d = rw (eq-eqb _ _ e) (none-reads high (λ q l. omega arith))
+      by (no e) (no l) = rw (ne-eqb _ _ e, le-ltb (high % 128) 26 (omega arith)) (none-reads high (λ q m. omega arith))
+      by (no e) (yes l) =
+          let n : 128 + high % 128 ≡ high = omega arith in
+          rw (ne-eqb _ _ e, lt-ltb (high % 128) 26 l)
+          (pair-is c (userCell (high % 128) (s .0)) (omega arith)
+          ∙ user-reads (high % 128) l k
+          ∙ ap (λ (m : ℕ). ofSlice c s && eqb m (userHigh c)) n)

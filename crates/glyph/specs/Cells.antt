@@ -1,0 +1,19 @@
+-- Whose slice a cell belongs to, the inverse of a user slice's address (`userCell`): what the search for a cell asks.
+-- Assumes nothing.
+use Prim.Native.Nat.{ℕ, _+_, _/_, _%_}
+use mathlib.Core.Bool.{Bool}
+use lib.Dec.{ltb}
+use Rattle.raster.specs.declared.Slice.{Slice}
+use Rattle.glyph.specs.Glyph.{userCell}
+
+-- it is a cell of the user characters 0 to 25
+abbrev pub ofUser : ℕ → Bool
+ofUser c = ltb c (userCell 26 0)
+
+-- the high byte of its character's code
+abbrev pub userHigh : ℕ → ℕ
+userHigh c = 128 + c / 38
+
+-- its slice
+unfoldable pub userSlice : ℕ → Slice
+userSlice c = record { 0 = c % 38 / 2 }

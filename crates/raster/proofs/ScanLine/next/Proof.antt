@@ -1,0 +1,16 @@
+-- `ScanLine::next` is `following` by computation.
+-- Assumes nothing.
+use Rattle.raster.specs.Raster.{following}
+use borrow.Author.Needs.{needs}
+use Rattle.raster.proofs.ScanLine.next.Statement.{statement}
+use Rattle.raster.proofs.ScanLine.next.Tie as tie
+
+add-t2 : tie.Need-add-t2
+add-t2 c = search needs
+
+returns : tie.Need-returns
+unfolding following
+returns c = search needs
+
+pub next-spec : {M : Type 1} → statement M
+next-spec = tie.close (tie.spec add-t2 returns)

@@ -1,0 +1,106 @@
+-- `ScanLine::shows`: the first line that could show the slice decides (`shown-past`, `shown-first`).
+-- Assumes nothing.
+use Prim.Native.Nat.{ℕ, _+_, _*_, _/_, _≤_, _<_, max}
+use mathlib.Core.Path.{_≡_, ap, ap₂, _∙_}
+use native.Mathlib.Omega.{arith}
+use Rattle.raster.specs.Raster.{unzoomed}
+use Rattle.raster.proofs.Slices.{firstOf, shown-past, shown-first, slice-product, lines-bound, last-bound, height-some}
+use borrow.Author.Needs.{needs}
+use Rattle.raster.proofs.ScanLine.shows.Statement.{statement}
+use Rattle.raster.proofs.ScanLine.shows.Tie as tie
+
+-- what holds of the lines and the slice from the start
+product : (c : tie.Start) → c .args .slice .0 * (2 * c .args .height) ≤ 9180
+product c = slice-product (c .args .slice) (c .args .height) (c .pre .1) (search needs)
+
+bound : (c : tie.Start) → c .args .self .0 + c .args .count ≤ 510
+bound c = lines-bound (c .args .self) (c .args .count) (c .args .height) (c .args .zoom) (c .pre .0 .0) (c .pre .0 .1) (search needs)
+
+last : (c : tie.Start) → unzoomed (c .args .zoom) (c .args .self .0 + c .args .count) ≤ c .args .height
+last c = last-bound (c .args .self) (c .args .count) (c .args .height) (c .args .zoom) (c .pre .0 .0) (c .pre .0 .1)
+
+some : (c : tie.Start) → 0 < c .args .height
+some c = height-some (c .args .self) (c .args .count) (c .args .height) (c .args .zoom) (c .pre .0 .0) (c .pre .0 .1)
+
+-- the line that is looked at
+first-is : (c : tie.After-most)
+    → c .most .result
+    ≡ firstOf (c .before .before .before .before .before .args .self) (c .before .before .before .before .before .args .height) (c .before .before .before .before .before .args .zoom) (c .before .before .before .before .before .args .slice)
+first-is c =
+    c .most .ensures ∙ ap₂ max (c .before .unzoom .ensures) (ap (λ (x : ℕ). (x + 35) / 36) (c .before .before .before .rest .ensures))
+
+cast-from : tie.Need-cast-from
+cast-from c = search needs
+
+mul-from : tie.Need-mul-from
+mul-from c = search needs
+
+mul-from-2 : tie.Need-mul-from-2
+mul-from-2 c = omega (arith, product (c .before))
+
+rest-requires : tie.Need-rest-requires
+rest-requires c κs = search needs
+
+add-first : tie.Need-add-first
+add-first c = omega (arith, c .rest .ensures, product (c .before .before))
+
+add-unzoom : tie.Need-add-unzoom
+add-unzoom c = let s = c .before .before .before in omega (arith, s .pre .0 .0, bound s)
+
+unzoom-requires : tie.Need-unzoom-requires
+unzoom-requires c κs = search needs
+
+most-requires : tie.Need-most-requires
+most-requires c κs = search needs
+
+add-unzoom-2 : tie.Need-add-unzoom-2
+add-unzoom-2 c = omega (arith, bound (c .before .before .before .before .before .before))
+
+unzoom-requires-2 : tie.Need-unzoom-requires-2
+unzoom-requires-2 c κs = search needs
+
+returns : tie.Need-returns
+returns c =
+    let s = c .before .before .before .before .before .before .before .before in
+    shown-past (s .args .self) (s .args .count) (s .args .height) (s .args .zoom) (s .args .slice) (some s) (s .pre .0 .0)
+    (rw (c .before .unzoom2 .ensures, first-is (c .before .before .before)) at (c .if1 .taken))
+
+mul-result : tie.Need-mul-result
+mul-result c = omega (arith, c .before .unzoom2 .ensures, last (c .before .before .before .before .before .before .before .before))
+
+add-result : tie.Need-add-result
+add-result c = omega (arith, c .before .unzoom2 .ensures, last (c .before .before .before .before .before .before .before .before))
+
+mul-result-2 : tie.Need-mul-result-2
+mul-result-2 c = search needs
+
+add-result-2 : tie.Need-add-result-2
+add-result-2 c = omega (arith, product (c .before .before .before .before .before .before .before .before))
+
+returns-2 : tie.Need-returns-2
+returns-2 c =
+    let s = c .before .before .before .before .before .before .before .before in
+    rw (first-is (c .before .before .before))
+    (shown-first (s .args .self) (s .args .count) (s .args .height) (s .args .zoom) (s .args .slice) (some s) (s .pre .0 .0)
+    (rw (c .before .unzoom2 .ensures, first-is (c .before .before .before)) at (c .if1 .left)))
+
+pub shows-spec : {M : Type 1} → statement M
+shows-spec =
+    tie.close
+    (tie.spec
+    cast-from
+    mul-from
+    mul-from-2
+    rest-requires
+    add-first
+    add-unzoom
+    unzoom-requires
+    most-requires
+    add-unzoom-2
+    unzoom-requires-2
+    returns
+    mul-result
+    add-result
+    mul-result-2
+    add-result-2
+    returns-2)
