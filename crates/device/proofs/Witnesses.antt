@@ -22,7 +22,8 @@ use Rattle.ahead.specs.Ahead.{remaining}
 use Rattle.device.specs.Device.{freshDevice, hearEvent, startFrame, inFrame, pixelsOf, lineOn, lineDrawn, drawLine, cellsLeft, askCell}
 use Rattle.device.specs.OnePage.{Call, draw, ask, event, State, Answer, drawn, asked, answer, after, isEvent, calls, effectOf, Stores, QuietCall, QuietRun}
 use Rattle.device.specs.OnePage as one-page
-use Rattle.device.specs.Witnesses.{addressing, write, font, heard, started, traffic, picture, buffer, turning, refusalOf, firstLine, Changes, Setting, LD, DD, CH, OSD, FBK, FL, but, ButSetting, remainingOf, ButCell, ready, Seen, Witnesses}
+use Rattle.device.specs.Witnesses.{addressing, write, font, heard, started, traffic, picture, buffer, turning, refusalOf, firstLine, Changes}
+use Rattle.device.specs.Witnesses.{Setting, LD, DD, CH, OSD, FBK, FL, but, ButSetting, remainingOf, ButCell, ready, Seen, Witnesses}
 
 -- ---- tests that show a list to be quiet
 
@@ -114,7 +115,11 @@ pixelIn i (x ∷ xs) = pixelOf i (x .answer)
 
 -- it is the same in both runs. To open this test opens all that a witness computes
 pixelTest : ℕ → State → List Call → Bool
-unfolding addressing write font heard started traffic picture buffer turning refusalOf firstLine but ready alikeTest sameTest quietTest runTest pixelOf pixelIn answer after isEvent Stores freshDevice hearEvent startFrame inFrame pixelsOf lineOn lineDrawn drawLine cellsLeft askCell log end select step ramWith registersWith answerTo taken busEvent settingsOf remaining scan nextLine walkFrom over begun advanced stripOf rowOf shownRow codes glyphOf inRam bind fmap value cells cellsAs sameRole among interpolated sliceNumber paint painted character inkOf columns bitsOf
+unfolding addressing write font heard started traffic picture buffer turning refusalOf firstLine but ready alikeTest sameTest quietTest
+    runTest pixelOf pixelIn answer after isEvent Stores freshDevice hearEvent startFrame inFrame pixelsOf lineOn lineDrawn drawLine
+    cellsLeft askCell log end select step ramWith registersWith answerTo taken busEvent settingsOf remaining scan nextLine walkFrom
+    over begun advanced stripOf rowOf shownRow codes glyphOf inRam bind fmap value cells cellsAs sameRole among interpolated
+    sliceNumber paint painted character inkOf columns bitsOf
 pixelTest i s cs =
     eqb (pixelIn i (select (λ x. not (isEvent (x .call))) (log (calls font) s cs))) (pixelIn i (log (calls font) s (othersOf (calls font) cs)))
 
