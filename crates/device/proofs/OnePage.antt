@@ -1,10 +1,11 @@
 -- The proof of condition 3 (specs/OnePage.antt): a quiet event is pushed past each later draw and question, one at a time.
 -- Assumes nothing.
-use Prim.Native.Nat.{ℕ, zero, suc, _+_, _-_, _<_}
+use Prim.Native.Nat.{ℕ, zero, suc, _-_, _≤_}
 use mathlib.Core.Path.{_≡_, refl, sym, ap, ap₂, _∙_, subst}
 use mathlib.Core.Bool.{Bool, true, false, not, cond, true≢false}
 use mathlib.Core.List.{List, [], _∷_, _++_}
 use native.Mathlib.Numerals.{sub-one}
+use borrow.Author.Tests.{ltb-false}
 use lib.Dec.{T, eqb, leb, ltb}
 use lib.ListN.{length, drop}
 use Rattle.runs.proofs.Laws.{as-made-map, kept-by-each, Apart, reordered}
@@ -12,7 +13,8 @@ use Rattle.cells.specs.Reading.{Reading, done, bind, value, cells, among, Alike
 use Rattle.cells.proofs.Laws.{cells-bind, value-alike, cells-alike, alike-left, alike-right, unread-right}
 use Rattle.refusals.specs.declared.Refusal.{Refusal}
 use Rattle.refusals.specs.declared.Refusal.the-variants.{RamLength, FontLength, LineLength, NoLine, CellRange}
-use Rattle.refusals.specs.Refusals.{accepted, refused}
+use Rattle.refusals.specs.Refusals.{accepted, refused, Verdict, passed, failed, refuseIf}
+use Rattle.refusals.proofs.Laws.{failed-not}
 use Rattle.registers.specs.declared.Settings.{Settings}
 use Rattle.registers.specs.Registers.{settingsOf}
 use Rattle.raster.specs.Raster.{widthOf}
@@ -23,7 +25,7 @@ use Rattle.line.specs.Line.{Scanned, scan, paint}
 use Rattle.ahead.specs.Ahead.{remaining}
 use Rattle.device.specs.declared.Device.{Device}
 use Rattle.device.specs.declared.Frame.{Frame}
-use Rattle.device.specs.Device.{EventOutcome, hearEvent, DrawOutcome, drawLine, nextScan, pixelsOf, lineOn, lineDrawn, lineWidth, notDrawn, cellsLeft, askCell}
+use Rattle.device.specs.Device.{EventOutcome, hearEvent, DrawOutcome, drawVerdict, drawBy, drawLine, nextScan, pixelsOf, lineOn, lineDrawn, lineWidth, notDrawn, cellsLeft, askCell}
 use Rattle.device.specs.OnePage.{Call, draw, ask, event, State, Answer, drawn, asked, heard, answer, after, isEvent, calls, Quiet, QuietCall, OnePage}
 use Rattle.device.specs.Use.{EventQuiet, WritesAlone, NoStays}
 use Rattle.device.proofs.Quiet.{quiet-if-write, says-no}
@@ -47,14 +49,25 @@ cellsLeft-more d ram t =
 
 -- ---- a draw after a quiet event
 
--- the order of a draw's refusals
-order : Bool → Bool → Bool → Bool → Device → List ℕ → DrawOutcome → DrawOutcome
-order badRam badFont noLine short d line ok =
-    cond badRam (notDrawn d line RamLength)
-    (cond badFont (notDrawn d line FontLength) (cond noLine (notDrawn d line NoLine) (cond short (notDrawn d line LineLength) ok)))
+-- a draw that is not refused has a line left and room for it
+pub record Drawable (d : Device) (line : ℕ) : Type 0 where
+  pub left : T (not (eqb (d .frame .left) 0))
+  pub room : lineWidth d ≤ line
+
+pub drawable : (d : Device) (ram font line : ℕ) → drawVerdict d ram font line ≡ passed → Drawable d line
+unfolding drawVerdict
+drawable d ram font line = by (not (eqb ram 1024)) (not (eqb font 4608)) (eqb (d .frame .left) 0) (ltb line (lineWidth d)) refl refl
+  where
+    by : (a b c s : Bool) → eqb (d .frame .left) 0 ≡ c → ltb line (lineWidth d) ≡ s
+        → refuseIf a RamLength (refuseIf b FontLength (refuseIf c NoLine (refuseIf s LineLength passed))) ≡ passed → Drawable d line
+    by true b c s p q e = absurd (failed-not RamLength e)
+    by false true c s p q e = absurd (failed-not FontLength e)
+    by false false true s p q e = absurd (failed-not NoLine e)
+    by false false false true p q e = absurd (failed-not LineLength e)
+    by false false false false p q e = record { left = subst (λ (b : Bool). T (not b)) (sym p) tt; room = ltb-false line (lineWidth d) q }
 
 -- a draw, with the event made after it
-late : List ℕ → Event → DrawOutcome → DrawOutcome
+unfoldable pub late : List ℕ → Event → DrawOutcome → DrawOutcome
 late ram e x = record { device = hearEvent (x .device) ram e .device; line = x .line; reply = x .reply }
 
 module _ (d : Device) (ram : List ℕ) (e : Event)
@@ -101,25 +114,22 @@ module _ (d : Device) (ram : List ℕ) (e : Event)
       }
 
   -- whatever the draw's tests find, the draw after the event is the draw before it, with the event made after
-  same-order : (font line : List ℕ) (badRam badFont noLine short : Bool) → (T (not noLine) → T (not (eqb (d .frame .left) 0)))
-      → order badRam badFont noLine short (hearEvent d ram e .device) line (lineDrawn (hearEvent d ram e .device) (hearEvent d ram e .ram) font line)
-      ≡ late ram e (order badRam badFont noLine short d line (lineDrawn d ram font line))
-  unfolding order late
-  same-order font line true badFont noLine short h = refl
-  same-order font line false true noLine short h = refl
-  same-order font line false false true short h = refl
-  same-order font line false false false true h = refl
-  same-order font line false false false false h = same-drawn font line (h tt)
+  same-verdict : (font line : ℕ) → drawVerdict (hearEvent d ram e .device) (length (hearEvent d ram e .ram)) font line ≡ drawVerdict d (length ram) font line
+  unfolding drawVerdict hearEvent
+  same-verdict font line =
+      rw (busEvent-length (d .bus) (d .registers) ram e, ap (λ (x : Settings). x .ld) same)
 
-  same-draw : (font line : List ℕ) → drawLine (hearEvent d ram e .device) (hearEvent d ram e .ram) font line ≡ late ram e (drawLine d ram font line)
-  unfolding drawLine order hearEvent
+  same-by : (font line : List ℕ) (v : Verdict) → (v ≡ passed → T (not (eqb (d .frame .left) 0)))
+      → drawBy v (hearEvent d ram e .device) (hearEvent d ram e .ram) font line ≡ late ram e (drawBy v d ram font line)
+  unfolding drawBy
+  same-by font line passed h = same-drawn font line (h refl)
+  same-by font line (failed r) h = unfold late in refl
+
+  pub same-draw : (font line : List ℕ) → drawLine (hearEvent d ram e .device) (hearEvent d ram e .ram) font line ≡ late ram e (drawLine d ram font line)
+  unfolding drawLine
   same-draw font line =
-      ap₂ (λ (n w : ℕ).
-      order (not (eqb n 1024)) (not (eqb (length font) 4608)) (eqb (d .frame .left) 0) (ltb (length line) w) (hearEvent d ram e .device) line
-      (lineDrawn (hearEvent d ram e .device) (hearEvent d ram e .ram) font line))
-      (busEvent-length (d .bus) (d .registers) ram e) (ap (λ (x : Settings). widthOf (x .ld)) same)
-      ∙ same-order font line (not (eqb (length ram) 1024)) (not (eqb (length font) 4608)) (eqb (d .frame .left) 0)
-      (ltb (length line) (lineWidth d)) (λ t. t)
+      ap (λ (v : Verdict). drawBy v (hearEvent d ram e .device) (hearEvent d ram e .ram) font line) (same-verdict (length font) (length line))
+      ∙ same-by font line (drawVerdict d (length ram) (length font) (length line)) (λ v. drawable d (length ram) (length font) (length line) v .left)
 
   -- the remaining lines read the same cells, so the cell question is answered alike
   same-left : cellsLeft (hearEvent d ram e .device) (hearEvent d ram e .ram) ≡ cellsLeft d ram
@@ -137,19 +147,16 @@ module _ (d : Device) (ram : List ℕ) (e : Event)
 
 -- what holds of a refused draw and of an accepted one holds of a draw
 module _ (d : Device) (ram font line : List ℕ) (P : DrawOutcome → Type 0) (no-draw : (r : Refusal) → P (notDrawn d line r)) where
-  by-order : (badRam badFont noLine short : Bool) → (T (not noLine) → P (lineDrawn d ram font line))
-      → P (order badRam badFont noLine short d line (lineDrawn d ram font line))
-  unfolding order
-  by-order true badFont noLine short h = no-draw RamLength
-  by-order false true noLine short h = no-draw FontLength
-  by-order false false true short h = no-draw NoLine
-  by-order false false false true h = no-draw LineLength
-  by-order false false false false h = h tt
+  by-verdict : (v : Verdict) → (v ≡ passed → P (lineDrawn d ram font line)) → P (drawBy v d ram font line)
+  unfolding drawBy
+  by-verdict passed h = h refl
+  by-verdict (failed r) h = no-draw r
 
-  by-draw : (T (not (eqb (d .frame .left) 0)) → P (lineDrawn d ram font line)) → P (drawLine d ram font line)
-  unfolding drawLine order
+  pub by-draw : (Drawable d (length line) → P (lineDrawn d ram font line)) → P (drawLine d ram font line)
+  unfolding drawLine
   by-draw h =
-      by-order (not (eqb (length ram) 1024)) (not (eqb (length font) 4608)) (eqb (d .frame .left) 0) (ltb (length line) (lineWidth d)) h
+      by-verdict (drawVerdict d (length ram) (length font) (length line))
+      (λ v. h (drawable d (length ram) (length font) (length line) v))
 
 -- ---- a quiet event and a later draw or question
 
@@ -159,7 +166,7 @@ unfolding after isEvent
 quiet-on font s e (draw line) o q =
     by-draw (s .device) (s .ram) font line (λ (x : DrawOutcome). Quiet (record { device = x .device; ram = s .ram }) e)
     (λ r. q)
-    (unfold lineDrawn hearEvent lineOn in λ t. record { cells = alike-later (s .device) (s .ram) e (q .settings) (q .cells) t; settings = q .settings })
+    (unfold lineDrawn hearEvent lineOn in λ r. record { cells = alike-later (s .device) (s .ram) e (q .settings) (q .cells) (r .left); settings = q .settings })
 quiet-on font s e (ask cell) o q = q
 quiet-on font s e (event x) o q = absurd (true≢false o)
 
@@ -216,7 +223,7 @@ event-quiet u (event e) h = quiet-if-write u e h
 pub writes-alone : WritesAlone
 writes-alone font s cs q = as-made-map QuietCall EventQuiet (calls font) event-quiet s cs q
 
-apart : (font : List ℕ) (u : State) (e c : Call) → isEvent e ≡ true → isEvent c ≡ false → EventQuiet u e → Apart EventQuiet (calls font) u e c
+pub apart : (font : List ℕ) (u : State) (e c : Call) → isEvent e ≡ true → isEvent c ≡ false → EventQuiet u e → Apart EventQuiet (calls font) u e c
 unfolding EventQuiet isEvent
 apart font u (draw line) c p o h = absurd (true≢false (sym p))
 apart font u (ask cell) c p o h = absurd (true≢false (sym p))
@@ -243,12 +250,12 @@ later-unread d ram cell t n =
     unread-right cell (cells ram (nextScan d)) (cellsLeft (lineOn d ram) ram) (sym (ap (among cell) (cellsLeft-more d ram t)) ∙ h .2) in
     rw (h .0, h .1, later)
 
-still-unread : (font : List ℕ) (cell : ℕ) (u : State) (c : Call) → EventQuiet u c → askCell (u .device) (u .ram) cell ≡ accepted 0
+pub still-unread : (font : List ℕ) (cell : ℕ) (u : State) (c : Call) → EventQuiet u c → askCell (u .device) (u .ram) cell ≡ accepted 0
     → askCell (after font u c .device) (after font u c .ram) cell ≡ accepted 0
 unfolding after EventQuiet
 still-unread font cell u (draw line) h n =
     by-draw (u .device) (u .ram) font line (λ (x : DrawOutcome). askCell (x .device) (u .ram) cell ≡ accepted 0)
-    (λ r. n) (unfold lineDrawn in λ t. later-unread (u .device) (u .ram) cell t n)
+    (λ r. n) (unfold lineDrawn in λ r. later-unread (u .device) (u .ram) cell (r .left) n)
 still-unread font cell u (ask other) h n = n
 still-unread font cell u (event e) h n = same-ask (u .device) (u .ram) e (h .settings) (h .cells) cell ∙ n
 

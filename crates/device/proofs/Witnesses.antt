@@ -19,7 +19,7 @@ use Rattle.walk.specs.Walk.{walkFrom, stripOf, over, begun, advanced, nextLine}
 use Rattle.glyph.specs.Glyph.{glyphOf, inRam, bitsOf}
 use Rattle.line.specs.Line.{codes, rowOf, shownRow, scan, inkOf, columns, character, painted, paint}
 use Rattle.ahead.specs.Ahead.{remaining}
-use Rattle.device.specs.Device.{freshDevice, hearEvent, startFrame, inFrame, pixelsOf, lineOn, lineDrawn, drawLine, cellsLeft, askCell}
+use Rattle.device.specs.Device.{freshDevice, hearEvent, startFrame, inFrame, pixelsOf, lineOn, lineDrawn, drawVerdict, drawBy, drawLine, cellsLeft, askCell}
 use Rattle.device.specs.OnePage.{Call, draw, ask, event, State, Answer, drawn, asked, answer, after, isEvent, calls, effectOf, Stores, QuietCall, QuietRun}
 use Rattle.device.specs.OnePage as one-page
 use Rattle.device.specs.Witnesses.{addressing, write, font, heard, started, traffic, picture, buffer, turning, refusalOf, firstLine, Changes}
@@ -116,7 +116,7 @@ pixelIn i (x ∷ xs) = pixelOf i (x .answer)
 -- it is the same in both runs. To open this test opens all that a witness computes
 pixelTest : ℕ → State → List Call → Bool
 unfolding addressing write font heard started traffic picture buffer turning refusalOf firstLine but ready alikeTest sameTest quietTest
-    runTest pixelOf pixelIn answer after isEvent Stores freshDevice hearEvent startFrame inFrame pixelsOf lineOn lineDrawn drawLine
+    runTest pixelOf pixelIn answer after isEvent Stores freshDevice hearEvent startFrame inFrame pixelsOf lineOn lineDrawn drawVerdict drawBy drawLine
     cellsLeft askCell log end select step ramWith registersWith answerTo taken busEvent settingsOf remaining scan nextLine walkFrom
     over begun advanced stripOf rowOf shownRow codes glyphOf inRam bind fmap value cells cellsAs sameRole among interpolated
     sliceNumber paint painted character inkOf columns bitsOf

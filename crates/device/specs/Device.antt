@@ -9,7 +9,7 @@ use lib.ListN.{length, drop}
 use Rattle.cells.specs.Reading.{Reading, value, cells, among}
 use Rattle.refusals.specs.declared.Refusal.{Refusal}
 use Rattle.refusals.specs.declared.Refusal.the-variants.{RamLength, FontLength, LineLength, NoLine, FrameLines, CellRange}
-use Rattle.refusals.specs.Refusals.{Reply, accepted, refused}
+use Rattle.refusals.specs.Refusals.{Reply, accepted, refused, Verdict, passed, failed, refuseIf}
 use Rattle.registers.specs.Registers.{freshRegisters, settingsOf, pageOf}
 use Rattle.raster.specs.Raster.{widthOf}
 use Rattle.bus.specs.declared.Event.{Event}
@@ -149,16 +149,20 @@ lineDrawn d ram font line =
       reply = accepted (length (cells ram (nextScan d)));
     }
 
--- order of refusals: 1, 2, 4, 3
+-- order of refusals: 1, 2, 4, 3, by the lengths that are lent
+unfoldable pub drawVerdict : Device → ℕ → ℕ → ℕ → Verdict
+drawVerdict d ram font line =
+    refuseIf (not (eqb ram 1024)) RamLength
+    (refuseIf (not (eqb font 4608)) FontLength
+    (refuseIf (eqb (d .frame .left) 0) NoLine
+    (refuseIf (ltb line (lineWidth d)) LineLength passed)))
+
+unfoldable pub drawBy : Verdict → Device → List ℕ → List ℕ → List ℕ → DrawOutcome
+drawBy passed d ram font line = lineDrawn d ram font line
+drawBy (failed r) d ram font line = notDrawn d line r
+
 unfoldable pub drawLine : Device → List ℕ → List ℕ → List ℕ → DrawOutcome
-drawLine d ram font line =
-    cond (not (eqb (length ram) 1024))
-    (notDrawn d line RamLength)
-    (cond (not (eqb (length font) 4608))
-    (notDrawn d line FontLength)
-    (cond (eqb (d .frame .left) 0)
-    (notDrawn d line NoLine)
-    (cond (ltb (length line) (lineWidth d)) (notDrawn d line LineLength) (lineDrawn d ram font line))))
+drawLine d ram font line = drawBy (drawVerdict d (length ram) (length font) (length line)) d ram font line
 
 abbrev pub drawOutcome : DrawDone → List ℕ → DrawOutcome
 drawOutcome d line = record { device = d .device; line = line; reply = drawReply (d .answer) }

@@ -6,7 +6,7 @@ use mathlib.Core.Bool.{true, false}
 use mathlib.Core.List.{List, [], _∷_, _++_, append-assoc}
 use native.Mathlib.Omega.{arith}
 use lib.ListN.{length, getD, take, drop, take-append-drop, length-append, length-take, length-drop, List·getD-append}
-use lib.Seq.{length-take-le, take-at, take-append-le, drop-append-le, getD-append-add, getD-take, getD-drop}
+use lib.Seq.{length-take-le, take-at, drop-at, take-add, take-append-le, take-append-add, drop-append-le, getD-append-add, getD-take, getD-drop}
 use Rattle.registers.specs.declared.Registers.{Registers}
 use Rattle.bus.specs.declared.State.{State}
 use Rattle.bus.specs.declared.State.the-variants.{Idle, Deaf, Slave, High, Low, Write, Read}
@@ -140,3 +140,16 @@ draw-back xs f h =
     whole (bus-kept xs (frameBytes f) 21 (omega arith) (omega arith)) (registers-kept xs (frameBytes f) 21 (omega arith) (omega arith))
     (frame-back (take 21 xs) f (length-take-le 21 xs (omega arith)))
     (kept xs (frameBytes f) 21 20 (omega arith) (omega arith))
+
+-- bus and registers (bytes 0 to 19) and the frame (bytes 21 on) written in either order
+pub either-order : (front xs tail : List ℕ) → length front ≡ 20 → 20 ≤ length xs
+    → take 21 (front ++ drop 20 xs) ++ tail ≡ front ++ drop 20 (take 21 xs ++ tail)
+either-order front xs tail f h =
+    let next : List ℕ = take 1 (drop 20 xs) in
+    let before : take 21 (front ++ drop 20 xs) ≡ front ++ next =
+    ap (λ (n : ℕ). take (n + 1) (front ++ drop 20 xs)) (sym f) ∙ take-append-add front (drop 20 xs) 1 in
+    let behind-it : drop 20 (take 21 xs ++ tail) ≡ next ++ tail =
+    ap (λ (l : List ℕ). drop 20 (l ++ tail)) (take-add 20 1 xs)
+    ∙ ap (drop 20) (append-assoc (take 20 xs) next tail)
+    ∙ drop-at (take 20 xs) (next ++ tail) 20 (length-take-le 20 xs h) in
+    rw (before, behind-it) (append-assoc front next tail)

@@ -1,3 +1,3 @@
 pub mod Claims
-pub mod Parts
 pub mod Laws
+pub mod Parts

@@ -2,16 +2,17 @@
 -- Assumes nothing.
 use Prim.Native.Nat.{ℕ, suc, _+_, _-_, _%_, _≤_, _<_}
 use mathlib.Core.Path.{_≡_, refl, sym, ap, ap₂, subst, _∙_}
-use mathlib.Core.Bool.{Bool, true, false, cond}
+use mathlib.Core.Bool.{Bool, true, false, not, cond, _&&_, true≢false}
 use mathlib.Core.List.{List, _∷_, _++_}
 use native.Mathlib.Omega.{arith}
-use borrow.Author.Tests.{eq-eqb, ne-eqb, lt-ltb, le-ltb, eqb-true}
-use lib.Dec.{T, eqb}
+use borrow.Author.Tests.{eq-eqb, ne-eqb, lt-ltb, le-ltb, eqb-true, ltb-false}
+use lib.Dec.{T, eqb, ltb}
 use lib.Bits.{bitAnd}
 use lib.ListN.{length, getD, take, drop, set, take-append-drop, length-take, length-drop}
 use lib.Seq.{set-getD, drop-drop, set-append-left, getD-take, getD-drop}
 use Rattle.refusals.specs.declared.Refusal.{Refusal}
-use Rattle.refusals.specs.declared.Refusal.the-variants.{RamLength, FontLength, LineLength, NoLine, NotAcknowledged, FrameLines, BenchLength, CellRange}
+use Rattle.refusals.specs.declared.Refusal.the-variants.{RamLength, NotAcknowledged}
+use Rattle.refusals.proofs.Laws.{not-zero}
 use Rattle.refusals.specs.Refusals.{numberOf, refused}
 use Rattle.registers.specs.Registers.{kept, stored}
 use Rattle.bus.specs.declared.State.{State}
@@ -32,16 +33,19 @@ use Rattle.layout.specs.Layout.{stateNumber, busBytes, busIn, registersIn, fram
 use Rattle.osd.specs.Interface as osd
 use Rattle.osd.specs.Interface.{answerOf, notTaken, InSpace, freshOn, ignoredOn, heardOn, stepOn, eventOn, busOn, storedOn, startedOn, startOn, drawnOn, drawOn, cellOn}
 
--- a refusal's number is not 0
-not-zero : (r : Refusal) → eqb (numberOf r) 0 ≡ false
-not-zero RamLength = refl
-not-zero FontLength = refl
-not-zero LineLength = refl
-not-zero NoLine = refl
-not-zero NotAcknowledged = refl
-not-zero FrameLines = refl
-not-zero BenchLength = refl
-not-zero CellRange = refl
+-- what holds of a call that the interface's own tests let through, and of one that they do not, holds of the call
+pub if-taken : {A : Type 0} (P : A → Type 0) (t : Bool) (x y : A) → (t ≡ true → P x) → P y → P (cond t x y)
+if-taken P true x y h k = h refl
+if-taken P false x y h k = k
+
+-- those of a bus call: the record's length and the kind
+pub both-tests : (n kind : ℕ) → eqb n 32 && not (ltb 3 kind) ≡ true → (n ≡ 32) × (kind ≤ 3)
+both-tests n kind = by (eqb n 32) (ltb 3 kind) refl refl
+  where
+    by : (p q : Bool) → eqb n 32 ≡ p → ltb 3 kind ≡ q → p && not q ≡ true → (n ≡ 32) × (kind ≤ 3)
+    by true true a b t = absurd (true≢false (sym t))
+    by true false a b t = (eqb-true _ _ a, ltb-false _ _ b)
+    by false q a b t = absurd (true≢false (sym t))
 
 -- ---- fresh, and reset
 
@@ -322,7 +326,7 @@ unfolding busOn
 bus-not-kind xs ram kind byte h k = rw (eq-eqb _ _ h, lt-ltb _ _ k)
 
 module _ (xs ram : List ℕ) (kind byte : ℕ) (h : length xs ≡ 32) (k : kind ≤ 3) where
-  bus-is : heardOn xs (busEvent (busIn xs) (registersIn xs) ram (eventOf kind byte)) ≡ busOn xs ram kind byte
+  pub bus-is : heardOn xs (busEvent (busIn xs) (registersIn xs) ram (eventOf kind byte)) ≡ busOn xs ram kind byte
   unfolding busOn hearEvent
   bus-is = rw (eq-eqb _ _ h, le-ltb _ _ k)
 
@@ -333,7 +337,7 @@ module _ (xs ram : List ℕ) (kind byte : ℕ) (h : length xs ≡ 32) (k : kind 
   bus-refused a r p = by ∙ bus-is
     where
       by : _≡_ {A = osd.BusDone} (record { device = xs; ram = ram; answer = a }) (heardOn xs (busEvent (busIn xs) (registersIn xs) ram (eventOf kind byte)))
-      by = rw (ne-eqb _ _ r) (ap (λ (n : ℕ). record { device = xs; ram = ram; answer = n }) p)
+      by = rw (ne-eqb _ _ r) (λ i. record { device = sym (ignored-same xs) i; ram = ram; answer = p i })
 
   -- heard: the event of that number
   pub bus-heard : (e : Event) (o : osd.BusDone) → length ram ≡ 1024 → e ≡ eventOf kind byte → o ≡ eventOn xs ram e → o ≡ busOn xs ram kind byte

@@ -3,16 +3,20 @@
 use Prim.Native.Nat.{ℕ, _+_, _-_, _≤_, _<_}
 use mathlib.Core.Path.{_≡_, refl, sym, ap, _∙_}
 use mathlib.Core.Bool.{Bool, true, false, not, cond, _&&_, _||_}
-use mathlib.Core.List.{List}
+use mathlib.Core.List.{List, _∷_}
 use native.Mathlib.Omega.{arith}
-use borrow.Author.Tests.{eq-eqb, ne-eqb, lt-ltb, le-ltb, eqb-true, not-false}
+use borrow.Author.Tests.{eq-eqb, ne-eqb, lt-ltb, le-ltb, eqb-true, ltb-false, not-false}
 use lib.Dec.{T, eqb, ltb}
-use lib.ListN.{length, getD, take, drop, set, length-set, length-take, length-drop}
+use lib.ListN.{length, getD, take, drop, set, length-append, length-set, length-take, length-drop}
 use lib.Seq.{getD-set-same, getD-set-other, drop-set-lt}
-use Rattle.refusals.specs.Refusals.{accepted, refused}
-use Rattle.refusals.specs.declared.Refusal.the-variants.{RamLength, FontLength, LineLength, NoLine, NotAcknowledged, FrameLines}
+use Rattle.facts.proofs.Choice.{either}
+use Rattle.cells.specs.Reading.{value}
+use Rattle.refusals.specs.Refusals.{numberOf, accepted, refused}
+use Rattle.refusals.specs.declared.Refusal.{Refusal}
+use Rattle.refusals.specs.declared.Refusal.the-variants.{RamLength, NotAcknowledged, FrameLines}
+use Rattle.refusals.proofs.Laws.{not-zero}
 use Rattle.registers.specs.declared.Registers.{Registers}
-use Rattle.registers.specs.Registers.{stored}
+use Rattle.registers.specs.Registers.{stored, settingsOf}
 use Rattle.bus.specs.declared.State.{State}
 use Rattle.bus.specs.declared.State.the-variants.{Idle, Deaf, Slave, High, Low, Write, Read}
 use Rattle.bus.specs.declared.Bus.{Bus}
@@ -22,12 +26,15 @@ use Rattle.bus.specs.declared.Event.the-variants.{Start, Byte, Fetch, Stop}
 use Rattle.bus.specs.declared.Effect.{Effect}
 use Rattle.bus.specs.declared.Effect.the-variants.{Acknowledge, Ignore, Store, Load}
 use Rattle.bus.specs.Bus.{eventOf, goes, byteAt, fetchAt, step, isRegister, registersWith, ramWith, answerTo, BusOutcome, taken, busEvent}
+use Rattle.bus.proofs.Laws.{by-event, busEvent-length}
+use Rattle.line.proofs.Laws.{paint-length}
 use Rattle.device.specs.declared.Device.{Device}
-use Rattle.device.specs.Device.{freshDevice, EventOutcome, hearEvent, StartOutcome, inFrame, startFrame, DrawOutcome, notDrawn, lineOn, lineWidth, lineDrawn, drawLine, askCell}
-use Rattle.layout.specs.Layout.{busIn, registersIn, frameIn, deviceIn}
+use Rattle.device.specs.Device.{freshDevice, EventOutcome, hearEvent, StartOutcome, inFrame, startFrame, DrawOutcome, notDrawn, nextScan, pixelsOf, lineOn, lineWidth, lineDrawn, drawLine, askCell}
+use Rattle.device.proofs.OnePage.{by-draw}
+use Rattle.layout.specs.Layout.{stateNumber, busIn, registersIn, frameBytes, frameIn, deviceIn}
 use Rattle.layout.proofs.Laws.{frame-alike, read-back, event-back, start-back, draw-back}
-use Rattle.osd.specs.Interface.{answerOf, notTaken, Done, freshOn, BusDone, ignoredOn, heardOn, touched, busOn, startedOn, startOn, DrawDone, drawnOn, drawOn, cellOn, Crossing}
-use Rattle.osd.proofs.Calls.{ignored-same, fresh-not, bus-not-record, start-not, draw-not, cell-not}
+use Rattle.osd.specs.Interface.{answerOf, notTaken, isRecord, Done, freshOn, BusDone, ignoredOn, heardOn, touched, busOn, startedOn, startOn, DrawDone, drawnOn, drawOn, cellOn, Crossing}
+use Rattle.osd.proofs.Calls.{if-taken, both-tests, ignored-same, fresh-not, bus-not-record, start-not, draw-not, cell-not}
 
 -- ---- an event that is not acknowledged
 
@@ -110,6 +117,12 @@ still-sixteen xs (Store a x) h = by (isRegister a)
     by true = length-set (take 16 (drop 4 xs)) _ _ ∙ sixteen xs h
     by false = sixteen xs h
 
+-- the registers after an event are sixteen
+pub heard-sixteen : (xs ram : List ℕ) (e : Event) → length xs ≡ 32 → length (busEvent (busIn xs) (registersIn xs) ram e .registers .bytes) ≡ 16
+heard-sixteen xs ram e h =
+    by-event (λ (o : BusOutcome). length (o .registers .bytes) ≡ 16) (busIn xs) (registersIn xs) ram e (sixteen xs h)
+    (unfold taken in still-sixteen xs (step (busIn xs) e .effect) h)
+
 -- the deaf bus, read back
 deaf-back : (xs : List ℕ) → length xs ≡ 32 → deviceIn (set xs 0 1) ≡ After xs (record { state = Deaf; counter = busIn xs .counter }) (registersIn xs)
 deaf-back xs h = λ i. record { bus = bus i; registers = registers i; frame = frame-alike (set xs 0 1) xs (λ (k : ℕ). other (21 + k) (omega arith)) i; next = other 20 (omega arith) i }
@@ -152,15 +165,17 @@ cross-bus xs ram kind byte h k = rw (eq-eqb _ _ h, le-ltb _ _ k) (by (not (eqb (
     r = record { bus = busIn xs; registers = registersIn xs; ram = ram; reply = refused RamLength }
 
     by : (t : Bool) → let o : BusOutcome = cond t r (taken s (registersIn xs) ram) in deviceIn (heardOn xs o .device) ≡ After xs (o .bus) (o .registers)
-    by true = refl
+    by true = ap deviceIn (ignored-same xs)
     by false = heard-back xs ram (s .bus) (s .effect) h (λ t. ignored-back xs (eventOf kind byte) (s .bus) h (how (busIn xs) (eventOf kind byte) t))
 
 -- ---- the record after a frame start and a draw
 
--- each case of the call: what is read back, and that a refused one writes no byte
+-- each case of the call: what is read back, that a refused one writes no byte, and that the buffers keep their lengths
 start-cases : (xs : List ℕ) (lines : ℕ) → length xs ≡ 32
     → let o : StartOutcome = startFrame (deviceIn xs) lines in
-    (deviceIn (startedOn xs o .device) ≡ o .device) × ((o .reply .refusal ≡ 0 → ⊥) → startedOn xs o .device ≡ xs)
+    (deviceIn (startedOn xs o .device) ≡ o .device)
+    × ((o .reply .refusal ≡ 0 → ⊥) → startedOn xs o .device ≡ xs)
+    × (length (startedOn xs o .device) ≡ length xs)
 unfolding startedOn startFrame inFrame
 start-cases xs lines h = by (eqb lines 0 || ltb 2048 lines)
   where
@@ -169,30 +184,53 @@ start-cases xs lines h = by (eqb lines 0 || ltb 2048 lines)
 
     by : (t : Bool)
         → let o : StartOutcome = cond t (record { device = d; reply = refused FrameLines }) (record { device = inFrame d lines; reply = accepted 0 }) in
-        (deviceIn (startedOn xs o .device) ≡ o .device) × ((o .reply .refusal ≡ 0 → ⊥) → startedOn xs o .device ≡ xs)
-    by true = (refl, λ n. refl)
-    by false = (start-back xs (inFrame d lines .next) (inFrame d lines .frame) h, λ n. absurd (n refl))
+        (deviceIn (startedOn xs o .device) ≡ o .device)
+        × ((o .reply .refusal ≡ 0 → ⊥) → startedOn xs o .device ≡ xs)
+        × (length (startedOn xs o .device) ≡ length xs)
+    by true = (refl, λ n. refl, refl)
+    by false =
+        let n = inFrame d lines .next in
+        let f = inFrame d lines .frame in
+        (start-back xs n f h, λ no. absurd (no refl), omega (arith, length-append (take 20 xs) (n ∷ frameBytes f), length-take 20 xs))
+
+-- W bytes written at the front of a buffer that has them
+line-length : (d : Device) (ram font line : List ℕ) → lineWidth d ≤ length line → length (lineDrawn d ram font line .line) ≡ length line
+unfolding lineDrawn pixelsOf
+line-length d ram font line h =
+    let w = paint-length (settingsOf (d .registers)) font (d .frame .number) (value ram (nextScan d) .row) in
+    simp (length-append, length-drop) (omega (arith, w))
 
 draw-cases : (xs ram font line : List ℕ) → length xs ≡ 32
     → let o : DrawOutcome = drawLine (deviceIn xs) ram font line in
-    (deviceIn (drawnOn xs o .device) ≡ o .device) × ((o .reply .refusal ≡ 0 → ⊥) → drawnOn xs o .device ≡ xs)
-unfolding drawnOn drawLine lineDrawn lineOn
+    (deviceIn (drawnOn xs o .device) ≡ o .device)
+    × ((o .reply .refusal ≡ 0 → ⊥) → drawnOn xs o .device ≡ xs)
+    × (length (drawnOn xs o .device) ≡ length xs)
+    × (length (o .line) ≡ length line)
+unfolding drawnOn
 draw-cases xs ram font line h =
-    by (not (eqb (length ram) 1024)) (not (eqb (length font) 4608)) (eqb (d .frame .left) 0) (ltb (length line) (lineWidth d))
+    by-draw d ram font line
+    (λ (o : DrawOutcome).
+    (deviceIn (drawnOn xs o .device) ≡ o .device)
+    × ((o .reply .refusal ≡ 0 → ⊥) → drawnOn xs o .device ≡ xs)
+    × (length (drawnOn xs o .device) ≡ length xs)
+    × (length (o .line) ≡ length line))
+    (λ r. not-written r)
+    (unfold lineDrawn lineOn in λ ready. (
+      draw-back xs (lineOn d ram .frame) h,
+      λ n. absurd (n refl),
+      omega (arith, length-append (take 21 xs) (frameBytes (lineOn d ram .frame)), length-take 21 xs),
+      line-length d ram font line (ready .room),
+    ))
   where
     d : Device
     d = deviceIn xs
 
-    by : (p q r t : Bool)
-        → let o : DrawOutcome =
-        cond p (notDrawn d line RamLength)
-        (cond q (notDrawn d line FontLength) (cond r (notDrawn d line NoLine) (cond t (notDrawn d line LineLength) (lineDrawn d ram font line)))) in
-        (deviceIn (drawnOn xs o .device) ≡ o .device) × ((o .reply .refusal ≡ 0 → ⊥) → drawnOn xs o .device ≡ xs)
-    by true q r t = (refl, λ n. refl)
-    by false true r t = (refl, λ n. refl)
-    by false false true t = (refl, λ n. refl)
-    by false false false true = (refl, λ n. refl)
-    by false false false false = (draw-back xs (lineOn d ram .frame) h, λ n. absurd (n refl))
+    not-written : (r : Refusal)
+        → (deviceIn (drawnOn xs (notDrawn d line r) .device) ≡ d)
+        × ((numberOf r ≡ 0 → ⊥) → drawnOn xs (notDrawn d line r) .device ≡ xs)
+        × (length (drawnOn xs (notDrawn d line r) .device) ≡ length xs)
+        × (length line ≡ length line)
+    not-written r = rw (not-zero r) (refl, λ n. refl, refl, refl)
 
 -- ---- a refused event
 
@@ -228,32 +266,62 @@ silence xs ram kind byte u = by (eqb (length xs) 32 && not (ltb 3 kind)) (not (e
         → let o : BusOutcome = cond t r (taken s (registersIn xs) ram) in
         (o .reply .refusal ≡ 0 → ⊥) → cond p (heardOn xs o) (record { device = xs; ram = ram; answer = notTaken }) .device ≡ xs
     by false t q n = refl
-    by true true q n = refl
+    by true true q n = ignored-same xs
     by true false q n =
         silent-by xs ram (s .bus) (s .effect)
         (λ t. ignored-silent xs e (s .bus) (λ c d. u (byte-kind kind byte c) d (eqb-true _ _ (not-false _ q))) (how (busIn xs) e t)) n
 
 start-silence : (xs : List ℕ) (lines : ℕ) → (startFrame (deviceIn xs) lines .reply .refusal ≡ 0 → ⊥) → startOn xs lines .device ≡ xs
 unfolding startOn
-start-silence xs lines n = by (eqb (length xs) 32) refl
-  where
-    by : (t : Bool) → eqb (length xs) 32 ≡ t → cond t (startedOn xs (startFrame (deviceIn xs) lines)) (record { device = xs; answer = notTaken }) .device ≡ xs
-    by true e = start-cases xs lines (eqb-true _ _ e) .1 n
-    by false e = refl
+start-silence xs lines n = if-taken (λ (r : Done). r .device ≡ xs) (isRecord xs) _ _ (λ e. start-cases xs lines (eqb-true _ _ e) .1 n) refl
 
 draw-silence : (xs ram font line : List ℕ) → (drawLine (deviceIn xs) ram font line .reply .refusal ≡ 0 → ⊥) → drawOn xs ram font line .device ≡ xs
 unfolding drawOn
-draw-silence xs ram font line n = by (eqb (length xs) 32) refl
-  where
-    by : (t : Bool) → eqb (length xs) 32 ≡ t
-        → cond t (drawnOn xs (drawLine (deviceIn xs) ram font line)) (record { device = xs; line = line; answer = notTaken }) .device ≡ xs
-    by true e = draw-cases xs ram font line (eqb-true _ _ e) .1 n
-    by false e = refl
+draw-silence xs ram font line n =
+    if-taken (λ (r : DrawDone). r .device ≡ xs) (isRecord xs) _ _ (λ e. draw-cases xs ram font line (eqb-true _ _ e) .1 n) refl
 
 deafness : (xs ram : List ℕ) (byte : ℕ) → length xs ≡ 32 → length ram ≡ 1024 → busIn xs .state ≡ Slave → (byte ≡ 0xBA → ⊥) → (byte ≡ 0xBB → ⊥)
     → busOn xs ram 1 byte ≡ record { device = set xs 0 1; ram = ram; answer = answerOf (refused NotAcknowledged) }
 unfolding busOn heardOn hearEvent busEvent taken step ramWith answerTo
 deafness xs ram byte h k s a b = rw (eq-eqb _ _ h, eq-eqb _ _ k, s, ne-eqb _ _ a, ne-eqb _ _ b)
+
+-- ---- lengths
+
+fresh-length : (xs : List ℕ) → length (freshOn xs .device) ≡ length xs
+unfolding freshOn freshDevice
+fresh-length xs = if-taken (λ (r : Done). length (r .device) ≡ length xs) (isRecord xs) _ _ (λ e. sym (eqb-true _ _ e)) refl
+
+heard-length : (xs : List ℕ) (o : BusOutcome) → length xs ≡ 32 → length (o .registers .bytes) ≡ 16 → length (heardOn xs o .device) ≡ length xs
+unfolding heardOn
+heard-length xs o h k =
+    either Long (eqb (o .reply .refusal) 0) _ _ (omega (arith, length-append (o .registers .bytes) (drop 20 xs), length-drop 20 xs))
+    (either Long (eqb (stateNumber (o .bus .state)) 1) _ _ (length-set xs 0 1) refl)
+  where
+    Long : List ℕ → Type 0
+    Long l = length l ≡ length xs
+
+bus-length : (xs ram : List ℕ) (kind byte : ℕ)
+    → (length (busOn xs ram kind byte .device) ≡ length xs) × (length (busOn xs ram kind byte .ram) ≡ length ram)
+unfolding busOn heardOn hearEvent
+bus-length xs ram kind byte =
+    if-taken (λ (r : BusDone). (length (r .device) ≡ length xs) × (length (r .ram) ≡ length ram)) (isRecord xs && not (ltb 3 kind)) _ _
+    (λ e.
+    let h : length xs ≡ 32 = both-tests (length xs) kind e .0 in
+    let o : BusOutcome = busEvent (busIn xs) (registersIn xs) ram (eventOf kind byte) in
+    (heard-length xs o h (heard-sixteen xs ram (eventOf kind byte) h), busEvent-length (busIn xs) (registersIn xs) ram (eventOf kind byte)))
+    (refl, refl)
+
+start-length : (xs : List ℕ) (lines : ℕ) → length (startOn xs lines .device) ≡ length xs
+unfolding startOn
+start-length xs lines =
+    if-taken (λ (r : Done). length (r .device) ≡ length xs) (isRecord xs) _ _ (λ e. start-cases xs lines (eqb-true _ _ e) .2) refl
+
+draw-length : (xs ram font line : List ℕ)
+    → (length (drawOn xs ram font line .device) ≡ length xs) × (length (drawOn xs ram font line .line) ≡ length line)
+unfolding drawOn drawnOn
+draw-length xs ram font line =
+    if-taken (λ (r : DrawDone). (length (r .device) ≡ length xs) × (length (r .line) ≡ length line)) (isRecord xs) _ _
+    (λ e. let c = draw-cases xs ram font line (eqb-true _ _ e) in (c .2, c .3)) (refl, refl)
 
 -- ---- the answers, and the other buffers
 
@@ -310,6 +378,10 @@ crossing =
         sym (cell-not xs ram c h),
       );
       no-kind = no-kind;
+      length-fresh = fresh-length;
+      length-bus = bus-length;
+      length-start = start-length;
+      length-draw = draw-length;
       silent-start = start-silence;
       silent-draw = draw-silence;
       silent-bus = silence;

@@ -54,18 +54,15 @@ pub record BusDone : Type 0 where
   pub ram : List ℕ
   pub answer : ℕ
 
--- not acknowledged: no byte is written, except deaf after an unknown slave address
+-- refused: no byte is written, except deaf after an unknown slave address
 abbrev pub ignoredOn : State → List ℕ → List ℕ
 ignoredOn s xs = cond (eqb (stateNumber s) 1) (set xs 0 1) xs
 
--- an acknowledged event writes the bus part and the registers; an event refused for the RAM's length writes no byte
+-- an acknowledged event writes the bus part and the registers; a refused one only that the device has turned deaf
 unfoldable pub heardOn : List ℕ → BusOutcome → BusDone
 heardOn xs o =
     record {
-      device =
-          cond (eqb (o .reply .refusal) 5)
-          (ignoredOn (o .bus .state) xs)
-          (unlessRefused (o .reply) (busBytes (o .bus) ++ (o .registers .bytes ++ drop 20 xs)) xs);
+      device = unlessRefused (o .reply) (busBytes (o .bus) ++ (o .registers .bytes ++ drop 20 xs)) (ignoredOn (o .bus .state) xs);
       ram = o .ram;
       answer = answerOf (o .reply);
     }
@@ -158,6 +155,13 @@ pub record Crossing : Type 0 where
       × (drawOn xs ram font line ≡ record { device = xs; line = line; answer = notTaken })
       × (cellOn xs ram c ≡ notTaken)
   pub no-kind : (xs ram : List ℕ) (kind byte : ℕ) → 3 < kind → busOn xs ram kind byte ≡ record { device = xs; ram = ram; answer = notTaken }
+  -- every buffer keeps its length, whatever it is
+  pub length-fresh : (xs : List ℕ) → length (freshOn xs .device) ≡ length xs
+  pub length-bus : (xs ram : List ℕ) (kind byte : ℕ)
+      → (length (busOn xs ram kind byte .device) ≡ length xs) × (length (busOn xs ram kind byte .ram) ≡ length ram)
+  pub length-start : (xs : List ℕ) (lines : ℕ) → length (startOn xs lines .device) ≡ length xs
+  pub length-draw : (xs ram font line : List ℕ)
+      → (length (drawOn xs ram font line .device) ≡ length xs) × (length (drawOn xs ram font line .line) ≡ length line)
   -- a call that the device's function refuses writes no byte of the record ..
   pub silent-start : (xs : List ℕ) (lines : ℕ) → (startFrame (deviceIn xs) lines .reply .refusal ≡ 0 → ⊥) → startOn xs lines .device ≡ xs
   pub silent-draw : (xs ram font line : List ℕ) → (drawLine (deviceIn xs) ram font line .reply .refusal ≡ 0 → ⊥) → drawOn xs ram font line .device ≡ xs

@@ -239,12 +239,13 @@ pub extern "C" fn osd_draw<'a>(
     if device.len() != DEVICE_LENGTH {
         return NOT_TAKEN;
     }
-    let done = layout::device_in(device).draw_line(ram, font, line);
+    let before = layout::device_in(device);
+    let done = before.draw_line(ram, font, line);
     let answer = done.answer;
     match answer {
         DrawAnswer::Drawn(cells) => {
-            let next = done.device;
-            let frame = next.frame;
+            let after = done.device;
+            let frame = after.frame;
             layout::write_frame(device, frame);
             cells as u32
         }

@@ -1,6 +1,7 @@
 -- Document 01, "Refusal numbers": the table's numbers, and what stands in a refusal's other number.
 -- Assumes nothing.
 use Prim.Native.Nat.{ℕ}
+use mathlib.Core.Bool.{Bool, cond}
 use Rattle.refusals.specs.declared.Refusal.{Refusal}
 use Rattle.refusals.specs.declared.Refusal.the-variants.{RamLength, FontLength, LineLength, NoLine, NotAcknowledged, FrameLines, BenchLength, CellRange}
 
@@ -22,7 +23,7 @@ pub record Reply : Type 0 where
 abbrev pub accepted : ℕ → Reply
 accepted v = record { refusal = 0; value = v }
 
--- numbers in a refusal are 0, 255 for the byte of 5
+-- the number beside a refusal: 0, or 255 for the byte of 5
 abbrev pub valueIn : Refusal → ℕ
 valueIn RamLength = 0
 valueIn FontLength = 0
@@ -33,5 +34,20 @@ valueIn FrameLines = 0
 valueIn BenchLength = 0
 valueIn CellRange = 0
 
+-- a refusal with a number beside it
+abbrev pub refusedWith : Refusal → ℕ → Reply
+refusedWith r v = record { refusal = numberOf r; value = v }
+
 abbrev pub refused : Refusal → Reply
-refused r = record { refusal = numberOf r; value = valueIn r }
+refused r = refusedWith r (valueIn r)
+
+-- ---- the order of refusals
+
+-- what a call's tests, made in their order, find
+pub data Verdict : Type 0 where
+  passed : Verdict
+  failed : Refusal → Verdict
+
+-- the call is refused where a test finds its fault; else the later tests decide
+abbrev pub refuseIf : Bool → Refusal → Verdict → Verdict
+refuseIf fault r later = cond fault (failed r) later

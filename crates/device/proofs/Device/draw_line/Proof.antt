@@ -4,7 +4,7 @@ use Prim.Native.Nat.{_-_}
 use borrow.Author.Tests.{eq-eqb, ne-eqb, lt-ltb, le-ltb}
 use denote.Ref.{now}
 use Rattle.refusals.specs.Refusals.{accepted}
-use Rattle.device.specs.Device.{drawLine, lineDrawn, lineOn, pixelsOf}
+use Rattle.device.specs.Device.{drawVerdict, drawBy, drawLine, lineDrawn, lineOn, pixelsOf}
 use borrow.Author.Needs.{needs}
 use Rattle.device.proofs.Device.draw_line.Statement.{statement}
 use Rattle.device.proofs.Device.draw_line.Tie as tie
@@ -13,7 +13,7 @@ not-drawn-requires : tie.Need-not-drawn-requires
 not-drawn-requires c κs = search needs
 
 returns : tie.Need-returns
-unfolding drawLine
+unfolding drawVerdict drawBy drawLine
 returns c =
     let n = c .not-drawn .ensures in
     rw (ne-eqb _ _ (c .before .if1 .taken))
@@ -23,7 +23,7 @@ not-drawn-requires-2 : tie.Need-not-drawn-requires-2
 not-drawn-requires-2 c κs = search needs
 
 returns-2 : tie.Need-returns-2
-unfolding drawLine
+unfolding drawVerdict drawBy drawLine
 returns-2 c =
     let n = c .not-drawn2 .ensures in
     rw (eq-eqb _ _ (c .before .before .if1 .left), ne-eqb _ _ (c .before .if2 .taken))
@@ -33,7 +33,7 @@ not-drawn-requires-3 : tie.Need-not-drawn-requires-3
 not-drawn-requires-3 c κs = search needs
 
 returns-3 : tie.Need-returns-3
-unfolding drawLine
+unfolding drawVerdict drawBy drawLine
 returns-3 c =
     let n = c .not-drawn3 .ensures in
     rw (eq-eqb _ _ (c .before .before .before .before .before .if1 .left), eq-eqb _ _ (c .before .before .before .before .if2 .left), eq-eqb _ _ (c .before .if3 .taken))
@@ -52,7 +52,7 @@ not-drawn-requires-4 : tie.Need-not-drawn-requires-4
 not-drawn-requires-4 c κs = search needs
 
 returns-4 : tie.Need-returns-4
-unfolding drawLine
+unfolding drawVerdict drawBy drawLine
 returns-4 c =
     let n = c .not-drawn4 .ensures in
     rw (
@@ -76,7 +76,7 @@ same-length : tie.Need-same-length
 same-length c = search needs
 
 returns-5 : tie.Need-returns-5
-unfolding drawLine lineDrawn lineOn pixelsOf
+unfolding drawVerdict drawBy drawLine lineDrawn lineOn pixelsOf
 returns-5 c =
     let a = c .before .before .before .before .before .before .before .before .before .before .before .before .before .before .before .before .before .before .before .before .args .self in
     let d = c .before .before .before .before .before .draw .ensures in
