@@ -1,9 +1,9 @@
 #!/usr/bin/env python3
 """Checks that every claim is tied to its proof; run at the repository's root.
 
-A claim is a closed type in a crate's specs/ that says something: an abbreviation `NAME : Type`, or a record `NAME : Type` with a field
-that is an equation, an order, a function or an absurdity (a record of plain data is none). Each crate with claims has one file
-proofs/Claims.antt that gives each of them a name of exactly its type and nothing else:
+A claim is a closed type in a crate's specs/ that says something: an abbreviation `NAME : Type`, or a record `NAME : Type` that is not
+plain data (each field a number, a list of numbers or another named type). Each crate with claims has one file proofs/Claims.antt that
+gives each of them a name of exactly its type and nothing else:
 
     pub one-page : OnePage
     one-page = proof.one-page
@@ -17,8 +17,8 @@ import sys
 
 ABBREVIATION = re.compile(r'^(?:(?:unfoldable|abbrev) )*pub (\S+) : Type \d+$')
 RECORD = re.compile(r'^pub record (\S+) : Type \d+ where$')
-FIELD = re.compile(r'^  pub \S+ :')
-SAYS = re.compile(r'[≡→≤<⊥↔]')
+FIELD = re.compile(r'^  pub (?:\S+ )+: (.*)$')
+PLAIN = re.compile(r'^(?:List )*\(?(?:List )*[^\W\d_]\w*\)?$')
 USE = re.compile(r'^use (\S+?)(?:\.\{([^}]*)\})?(?: as \S+)?$')
 NAMED = re.compile(r'^pub (\S+) : (\S+)$')
 IS = re.compile(r'^(\S+) = \S+$')
@@ -45,8 +45,8 @@ def claims_of(path):
                 if later and not later.startswith(' '):
                     break
                 body.append(later)
-            fields = [part for part in body if not part.strip().startswith('--')]
-            if any(SAYS.search(part) for part in fields):
+            fields = [field.group(1) for field in map(FIELD.match, body) if field]
+            if not all(PLAIN.match(field) for field in fields):
                 yield record.group(1)
 
 
