@@ -2,4 +2,3 @@ pub mod Lines
 pub mod Looks
 pub mod Marks
 pub mod Rows
-pub mod Slices

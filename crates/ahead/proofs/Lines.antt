@@ -1,31 +1,35 @@
 -- The rows of several lines of a strip, and the remaining lines strip by strip.
 -- Assumes nothing.
-use Prim.Native.Nat.{ℕ, zero, suc, _+_, _-_, _*_, _/_, _%_, _≤_, _<_, min}
+use Prim.Native.Nat.{ℕ, zero, suc, _+_, _-_, _≤_, min}
 use mathlib.Core.Path.{_≡_, refl, sym, ap, ap₂, _∙_, subst}
-use mathlib.Core.Bool.{Bool, true, false, cond, _&&_, _||_}
+use mathlib.Core.Bool.{Bool, true, false, cond, _&&_, _||_, or-false, and-or-distrib-right}
 use mathlib.Core.List.{List, [], _∷_, _++_, append-assoc}
 use native.Mathlib.Nat.{not-suc-le-zero}
 use native.Mathlib.Decide.{decLe}
 use native.Mathlib.Omega.{arith}
-use borrow.Author.Tests.{eqb-false, leb-false, eq-eqb, le-leb, lt-leb, ne-eqb, lt-ltb, le-ltb}
-use lib.Dec.{eqb, ltb}
+use borrow.Author.Tests.{eq-eqb, ne-eqb}
+use lib.Dec.{eqb}
 use lib.ListN.{getD}
+use Rattle.facts.proofs.Pairs.{pair-is}
 use Rattle.cells.specs.Reading.{descriptor, Reading, done, read, bind, fmap, value, cells, among}
 use Rattle.cells.proofs.Laws.{cells-bind}
 use Rattle.registers.specs.declared.Settings.{Settings}
 use Rattle.raster.specs.declared.ScanLine.{ScanLine}
-use Rattle.raster.specs.Raster.{stripLines, unzoomed, sliceNumber, interpolated, columnsOf}
+use Rattle.raster.specs.Raster.{following, linesAfter, sameSlice, interpolated, sliceShown, columnsOf}
+use Rattle.raster.proofs.Laws.{one-less, following-in}
+use Rattle.raster.proofs.Rules.{slice-range}
 use Rattle.walk.specs.declared.Strip.{Strip}
 use Rattle.walk.specs.declared.Strip.the-variants.{Spacing, Characters}
 use Rattle.walk.specs.declared.Walk.{Walk}
-use Rattle.walk.specs.Walk.{even, next, atLeastOne, stripOf, over, linesLeft, begun, advanced, nextLine}
-use Rattle.walk.proofs.Laws.{stripOf-begun}
+use Rattle.walk.specs.Walk.{even, next, stripOf, over, linesLeft, begun, advanced, nextLine}
+use Rattle.walk.proofs.Laws.{left-over, none-over, left-advanced, stripOf-begun}
+use Rattle.glyph.specs.Cells.{ofUser, userSlice}
+use Rattle.glyph.proofs.Cells.{ofSlice}
 use Rattle.line.specs.Line.{Place, Scanned, rowOf, shownRow, scan}
-use Rattle.line.proofs.Laws.{interpolated-bound}
 use Rattle.line.proofs.Strips.{scan-value, scan-cells}
 use Rattle.ahead.specs.Ahead.{remaining}
-use Rattle.ahead.specs.Looking.{userSlice, rowReads, sliceShown, rowCells, stripReads, pairOf, codesOf, begunLines}
-use Rattle.ahead.proofs.Rows.{Bytes, ofSlice, or-false, among-append, row-reads, rows-merge, reads-even, first-two, pair-is}
+use Rattle.ahead.specs.Looking.{rowReads, userShown, rowCells, stripReads, pairOf, codesOf}
+use Rattle.ahead.proofs.Rows.{Bytes, among-append, row-reads, rows-merge, first-two}
 
 -- ---- the rows of a strip
 
@@ -62,49 +66,43 @@ rows-disabled : (ram : List ℕ) (s : Settings) (k address height : ℕ) (zoom e
 unfolding rowCells advanced
 rows-disabled ram s zero address height zoom enabled line o e = refl
 rows-disabled ram s (suc k) address height zoom enabled line o e =
-    both ram (row-disabled s address height zoom enabled (record { 0 = line .0 + 1 }) o e)
-    (rows-disabled ram s k address height zoom enabled (record { 0 = line .0 + 1 }) o e)
-
-both-shown : (e r l : Bool) → (e && l) || (r && l) ≡ (e || r) && l
-both-shown true true true = refl
-both-shown true true false = refl
-both-shown true false true = refl
-both-shown true false false = refl
-both-shown false r l = refl
+    both ram (row-disabled s address height zoom enabled (following line) o e)
+    (rows-disabled ram s k address height zoom enabled (following line) o e)
 
 -- the row of one line of characters
 line-reads : (ram : List ℕ) (s : Settings) (address height : ℕ) (zoom : Bool) (line : ScanLine) (c : ℕ) → Bytes ram → s .osd ≡ true
-    → line .0 + 1 ≤ stripLines height zoom
+    → 1 ≤ linesAfter line height zoom
     → among c (cells ram (shownRow s (advanced (Characters address height zoom true line))))
-    ≡ rowReads ram c (ofSlice c (sliceNumber height (unzoomed zoom (line .0 + 1)))) (columnsOf (s .ld) (s .dd)) address
-unfolding shownRow advanced rowOf interpolated
+    ≡ rowReads ram c (ofSlice c (interpolated (following line) height zoom)) (columnsOf (s .ld) (s .dd)) address
+unfolding shownRow advanced rowOf
 line-reads ram s address height zoom line c b o h =
     rw o
-    (row-reads ram c (columnsOf (s .ld) (s .dd)) (interpolated (record { 0 = line .0 + 1 }) height zoom) address b
-    (interpolated-bound (record { 0 = line .0 + 1 }) height zoom (record { from = omega arith; to = h })))
+    (row-reads ram c (columnsOf (s .ld) (s .dd)) (interpolated (following line) height zoom) address b
+    (slice-range (following line) height zoom (following-in line height zoom h)))
 
 -- the rows of k lines
 pub lines-read : (k : ℕ) (ram : List ℕ) (s : Settings) (address height : ℕ) (zoom : Bool) (line : ScanLine) (c : ℕ) → Bytes ram → s .osd ≡ true
-    → line .0 + suc k ≤ stripLines height zoom
+    → suc k ≤ linesAfter line height zoom
     → among c (rowCells ram s (suc k) (Characters address height zoom true line))
-    ≡ rowReads ram c (sliceShown c height zoom (suc k) (line .0) && ltb c 988) (columnsOf (s .ld) (s .dd)) address
+    ≡ rowReads ram c (userShown c line (suc k) height zoom) (columnsOf (s .ld) (s .dd)) address
 unfolding rowCells sliceShown among advanced
 lines-read zero ram s address height zoom line c b o h =
     among-append c (cells ram (shownRow s (advanced (Characters address height zoom true line)))) []
     ∙ or-false (among c (cells ram (shownRow s (advanced (Characters address height zoom true line)))))
     ∙ line-reads ram s address height zoom line c b o (omega arith)
-    ∙ ap (λ (x : Bool). rowReads ram c (x && ltb c 988) (columnsOf (s .ld) (s .dd)) address)
-    (sym (or-false (eqb (sliceNumber height (unzoomed zoom (line .0 + 1))) (userSlice c))))
+    ∙ ap (λ (x : Bool). rowReads ram c (x && ofUser c) (columnsOf (s .ld) (s .dd)) address)
+    (sym (or-false (sameSlice (interpolated (following line) height zoom) (userSlice c))))
 lines-read (suc k) ram s address height zoom line c b o h =
     among-append c (cells ram (shownRow s (advanced (Characters address height zoom true line)))) _
     ∙ ap₂ (λ (x y : Bool). x || y)
     (line-reads ram s address height zoom line c b o (omega arith))
-    (lines-read k ram s address height zoom (record { 0 = line .0 + 1 }) c b o (omega arith))
+    (lines-read k ram s address height zoom (following line) c b o (omega (arith, one-less line height zoom)))
     ∙ rows-merge ram c
-    (ofSlice c (sliceNumber height (unzoomed zoom (line .0 + 1)))) (sliceShown c height zoom (suc k) (line .0 + 1) && ltb c 988)
+    (ofSlice c (interpolated (following line) height zoom)) (userShown c (following line) (suc k) height zoom)
     (columnsOf (s .ld) (s .dd)) address
     ∙ ap (λ (x : Bool). rowReads ram c x (columnsOf (s .ld) (s .dd)) address)
-    (both-shown (eqb (sliceNumber height (unzoomed zoom (line .0 + 1))) (userSlice c)) (sliceShown c height zoom (suc k) (line .0 + 1)) (ltb c 988))
+    (sym (and-or-distrib-right
+    (sameSlice (interpolated (following line) height zoom) (userSlice c)) (sliceShown (following line) (suc k) height zoom (userSlice c)) (ofUser c)))
 
 -- ---- what a strip's rows read, case by case
 
@@ -122,10 +120,9 @@ by-osd s f g = pick (s .osd) f g
 
 -- the k lines lie in the strip
 pub lines-in : (k : ℕ) (strip : Strip) {address height : ℕ} {zoom enabled : Bool} {line : ScanLine} → strip ≡ Characters address height zoom enabled line
-    → 1 ≤ k → k ≤ linesLeft strip → line .0 + k ≤ stripLines height zoom
-lines-in k strip {address} {height} {zoom} {enabled} {line} e h l =
-    let m : k ≤ stripLines height zoom - line .0 = unfold linesLeft in subst (λ (t : Strip). k ≤ linesLeft t) e l in
-    omega arith
+    → k ≤ linesLeft strip → k ≤ linesAfter line height zoom
+unfolding linesLeft
+lines-in k strip e l = subst (λ (t : Strip). k ≤ linesLeft t) e l
 
 module _ (ram : List ℕ) (s : Settings) (k : ℕ) (strip : Strip) (c : ℕ) where
   strip-off : s .osd ≡ false → stripReads ram s k strip c ≡ false
@@ -145,103 +142,25 @@ module _ (ram : List ℕ) (s : Settings) (k : ℕ) (strip : Strip) (c : ℕ) whe
 
   pub strip-characters : {address height : ℕ} {zoom enabled : Bool} {line : ScanLine} → Bytes ram
       → strip ≡ Characters address height zoom enabled line → enabled ≡ true → 1 ≤ k → k ≤ linesLeft strip
-      → rowReads ram c (sliceShown c height zoom k (line .0) && ltb c 988) (codesOf s) address ≡ stripReads ram s k strip c
+      → rowReads ram c (userShown c line k height zoom) (codesOf s) address ≡ stripReads ram s k strip c
   unfolding rowReads
   strip-characters {address} {height} {zoom} {enabled} {line} b e d h l =
       by-osd s
       (λ o.
-      ap (λ (t : Bool). rowReads ram c (sliceShown c height zoom k (line .0) && ltb c 988) (cond t (columnsOf (s .ld) (s .dd)) 0) address) o
-      ∙ sym (ap (λ (t : Strip). among c (rowCells ram s k t)) q ∙ all o k h (lines-in k strip e h l)))
+      ap (λ (t : Bool). rowReads ram c (userShown c line k height zoom) (cond t (columnsOf (s .ld) (s .dd)) 0) address) o
+      ∙ sym (ap (λ (t : Strip). among c (rowCells ram s k t)) q ∙ all o k h (lines-in k strip e l)))
       (λ o.
-      ap (λ (t : Bool). rowReads ram c (sliceShown c height zoom k (line .0) && ltb c 988) (cond t (columnsOf (s .ld) (s .dd)) 0) address) o
+      ap (λ (t : Bool). rowReads ram c (userShown c line k height zoom) (cond t (columnsOf (s .ld) (s .dd)) 0) address) o
       ∙ sym (strip-off o))
     where
       q : strip ≡ Characters address height zoom true line
       q = e ∙ ap (λ (t : Bool). Characters address height zoom t line) d
 
-      all : s .osd ≡ true → (m : ℕ) → 1 ≤ m → line .0 + m ≤ stripLines height zoom
+      all : s .osd ≡ true → (m : ℕ) → 1 ≤ m → m ≤ linesAfter line height zoom
           → among c (rowCells ram s m (Characters address height zoom true line))
-          ≡ rowReads ram c (sliceShown c height zoom m (line .0) && ltb c 988) (columnsOf (s .ld) (s .dd)) address
+          ≡ rowReads ram c (userShown c line m height zoom) (columnsOf (s .ld) (s .dd)) address
       all o zero h l = absurd (not-suc-le-zero h)
       all o (suc m) h l = lines-read m ram s address height zoom line c b o l
-
--- ---- a strip with lines left
-
-left-over : (s : Strip) → 1 ≤ linesLeft s → over s ≡ false
-unfolding linesLeft over
-left-over (Spacing left) h = ne-eqb left 0 (omega arith)
-left-over (Characters address height zoom enabled line) h = lt-leb (stripLines height zoom) (line .0) (omega arith)
-
-none-over : (s : Strip) → linesLeft s ≡ 0 → over s ≡ true
-unfolding linesLeft over
-none-over (Spacing left) h = eq-eqb left 0 h
-none-over (Characters address height zoom enabled line) h = le-leb (stripLines height zoom) (line .0) (omega arith)
-
-pub over-left : (s : Strip) → over s ≡ false → 1 ≤ linesLeft s
-unfolding linesLeft over
-over-left (Spacing left) h = omega (arith, eqb-false left 0 h)
-over-left (Characters address height zoom enabled line) h = omega (arith, leb-false (stripLines height zoom) (line .0) h)
-
--- ---- the strip of a descriptor
-
-begun-spacing : (ch low high : ℕ) → high < 128 → stripOf ch low high ≡ Spacing (atLeastOne low)
-unfolding stripOf
-begun-spacing ch low high h = rw (eq-eqb (high / 128 % 2) 0 (omega arith))
-
-begun-characters : (ch low high : ℕ) → 128 ≤ high → high < 256
-    → stripOf ch low high
-    ≡ Characters (even (high % 4 * 256 + low)) (atLeastOne ch) (eqb (high / 32 % 2) 1) (eqb (high / 64 % 2) 1) (record { 0 = 0 })
-unfolding stripOf
-begun-characters ch low high h k = rw (ne-eqb (high / 128 % 2) 0 (λ e. omega arith))
-
-pub begun-left : (ch height low high : ℕ) → height ≡ atLeastOne ch → high < 256 → begunLines height low high ≡ linesLeft (stripOf ch low high)
-unfolding linesLeft
-begun-left ch height low high e h = by (decLe 128 high)
-  where
-    by : Dec (128 ≤ high) → begunLines height low high ≡ linesLeft (stripOf ch low high)
-    by (yes l) =
-        let z : stripLines height (eqb (high / 32 % 2) 1) - 0 ≡ stripLines height (eqb (high / 32 % 2) 1) = omega arith in
-        rw (le-ltb high 128 l, begun-characters ch low high l h, ← e) (sym z)
-    by (no l) =
-        let m : high < 128 = omega arith in
-        rw (lt-ltb high 128 m, begun-spacing ch low high m)
-
-pub begun-some : (height low high : ℕ) → 1 ≤ height → 1 ≤ begunLines height low high
-begun-some height low high h = by (ltb high 128) (eqb (high / 32 % 2) 1)
-  where
-    by : (t zoom : Bool) → 1 ≤ cond t (atLeastOne low) (stripLines height zoom)
-    by true zoom = omega arith
-    by false true = omega arith
-    by false false = h
-
-pub begun-strip : (height low high : ℕ) → 128 ≤ high → begunLines height low high ≡ stripLines height (eqb (high / 32 % 2) 1)
-begun-strip height low high h = rw (le-ltb high 128 h)
-
--- a strip with no row
-pub begun-none : (ram : List ℕ) (s : Settings) (k low high c : ℕ) → high < 192 → stripReads ram s k (stripOf (s .ch) low high) c ≡ false
-begun-none ram s k low high c h = by (decLe 128 high)
-  where
-    by : Dec (128 ≤ high) → stripReads ram s k (stripOf (s .ch) low high) c ≡ false
-    by (yes l) =
-        strip-disabled ram s k (stripOf (s .ch) low high) c (begun-characters (s .ch) low high l (omega arith)) (ne-eqb (high / 64 % 2) 1 (λ e. omega arith))
-    by (no l) = strip-spacing ram s k (stripOf (s .ch) low high) c (begun-spacing (s .ch) low high (omega arith))
-
--- a strip of characters, as far as it is shown
-pub begun-reads : (ram : List ℕ) (s : Settings) (left low high height c : ℕ) (shown : Bool) → Bytes ram → 192 ≤ high → high < 256 → 1 ≤ left
-    → height ≡ atLeastOne (s .ch)
-    → shown ≡ sliceShown c height (eqb (high / 32 % 2) 1) (min (stripLines height (eqb (high / 32 % 2) 1)) left) 0 && ltb c 988
-    → rowReads ram c shown (codesOf s) (high % 4 * 256 + low)
-    ≡ stripReads ram s (min (linesLeft (stripOf (s .ch) low high)) left) (stripOf (s .ch) low high) c
-begun-reads ram s left low high height c shown b h k l e f =
-    let t = stripOf (s .ch) low high in
-    let q = begun-characters (s .ch) low high (omega arith) k in
-    let m : linesLeft t ≡ stripLines height (eqb (high / 32 % 2) 1) = sym (begun-left (s .ch) height low high e k) ∙ begun-strip height low high (omega arith) in
-    sym (reads-even ram c shown (codesOf s) (high % 4 * 256 + low))
-    ∙ ap (λ (x : Bool). rowReads ram c x (codesOf s) (even (high % 4 * 256 + low)))
-    (f
-    ∙ ap₂ (λ (x y : ℕ). sliceShown c x (eqb (high / 32 % 2) 1) (min y left) 0 && ltb c 988) e (sym m))
-    ∙ strip-characters ram s (min (linesLeft t) left) t c b q (eq-eqb (high / 64 % 2) 1 (omega arith))
-    (omega (arith, over-left t (stripOf-begun (s .ch) low high))) (omega arith)
 
 -- ---- the remaining lines of the strip on screen
 
@@ -258,11 +177,6 @@ step-read : (ch : ℕ) (w : Walk) → over (w .strip) ≡ true
     done (record { descriptor = next (even (w .descriptor)); strip = advanced (stripOf ch low high) }))
 unfolding nextLine begun fmap
 step-read ch w e = rw e
-
-left-advanced : (s : Strip) → linesLeft (advanced s) ≡ linesLeft s - 1
-unfolding linesLeft advanced
-left-advanced (Spacing left) = refl
-left-advanced (Characters address height zoom enabled line) = omega arith
 
 -- the walk at an address, in a strip
 abbrev at : ℕ → Strip → Walk
@@ -390,15 +304,15 @@ module _ (ram : List ℕ) (s : Settings) (c : ℕ) where
     descriptor-here e = with-descriptor n a some ∙ or-with _ (eq-eqb (pairOf c) (even a) (omega arith))
 
     -- another's descriptor: the rows of its strip, and the lines after it
-    pub descriptor-on : (lines : ℕ) → (pairOf c ≡ a → ⊥) → lines ≡ linesLeft (stripOf (s .ch) (getD ram a 0) (getD ram (a + 1) 0))
+    pub descriptor-on : (t : Strip) (lines : ℕ) → (pairOf c ≡ a → ⊥) → t ≡ stripOf (s .ch) (getD ram a 0) (getD ram (a + 1) 0)
+        → lines ≡ min (linesLeft t) n
         → among c (cells ram (remaining s n (at a (Spacing 0))))
-        ≡ stripReads ram s (min (linesLeft (stripOf (s .ch) (getD ram a 0) (getD ram (a + 1) 0))) n) (stripOf (s .ch) (getD ram a 0) (getD ram (a + 1) 0)) c
-        || among c (cells ram (remaining s (n - lines) (at (even (a + 2)) (Spacing 0))))
-    descriptor-on lines e q =
-        let t = stripOf (s .ch) (getD ram a 0) (getD ram (a + 1) 0) in
-        let z : n - min (linesLeft t) n ≡ n - lines = omega arith in
+        ≡ stripReads ram s lines t c || among c (cells ram (remaining s (n - linesLeft t) (at (even (a + 2)) (Spacing 0))))
+    descriptor-on t lines e q m =
+        let z : n - lines ≡ n - linesLeft t = omega arith in
         with-descriptor n a some
         ∙ or-with _ (ne-eqb (pairOf c) (even a) (λ y. e (omega arith)))
         ∙ ap (λ (x : ℕ). among c (cells ram (remaining s n (at (next x) (stripOf (s .ch) (getD ram x 0) (getD ram (x + 1) 0)))))) p
-        ∙ strip-passed ram s n (next a) t (min (linesLeft t) n) c refl
-        ∙ ap (λ (x : ℕ). stripReads ram s (min (linesLeft t) n) t c || among c (cells ram (remaining s x (at (next a) (Spacing 0))))) z
+        ∙ ap (λ (u : Strip). among c (cells ram (remaining s n (at (next a) u)))) (sym q)
+        ∙ strip-passed ram s n (next a) t lines c m
+        ∙ ap (λ (x : ℕ). stripReads ram s lines t c || among c (cells ram (remaining s x (at (next a) (Spacing 0))))) z

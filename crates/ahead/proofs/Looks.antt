@@ -1,27 +1,29 @@
 -- Strip by strip the search finds the cell or lists rows: what it has found adds up to what the lines read.
 -- Assumes nothing.
 use Prim.Native.Nat.{ℕ, _+_, _-_, _*_, _/_, _%_, _≤_, _<_, min}
-use mathlib.Core.Path.{_≡_, sym, ap, _∙_, subst}
-use mathlib.Core.Bool.{Bool, true, false, _&&_, _||_, true≢false}
+use mathlib.Core.Path.{_≡_, refl, sym, ap, _∙_, subst}
+use mathlib.Core.Bool.{Bool, true, false, _&&_, _||_, true≢false, or-false, or-true, or-assoc}
 use mathlib.Core.List.{List}
 use native.Mathlib.Omega.{arith}
-use lib.Dec.{eqb, ltb}
 use lib.ListN.{getD}
 use Rattle.registers.specs.declared.Settings.{Settings}
 use Rattle.cells.specs.Reading.{cells, among}
 use Rattle.raster.specs.declared.ScanLine.{ScanLine}
-use Rattle.raster.specs.Raster.{stripLines}
+use Rattle.raster.specs.Raster.{stripLines, beforeFirst, linesAfter, sliceShown}
+use Rattle.raster.proofs.Laws.{all-after}
+use Rattle.raster.proofs.Slices.{whole-zoom}
 use Rattle.walk.specs.declared.Strip.{Strip}
 use Rattle.walk.specs.declared.Strip.the-variants.{Spacing, Characters}
 use Rattle.walk.specs.declared.Walk.{Walk}
-use Rattle.walk.specs.Walk.{stripOf, linesLeft}
+use Rattle.walk.specs.Walk.{atLeastOne, zoomedBy, codesAt, showsCodes, stripOf, linesLeft}
+use Rattle.walk.proofs.Laws.{stripOf-some, stripOf-height, codes-shown, codes-none}
+use Rattle.glyph.specs.Cells.{ofUser, userSlice}
 use Rattle.ahead.specs.Ahead.{remaining}
 use Rattle.ahead.specs.declared.Sought.{Sought}
 use Rattle.ahead.specs.declared.Looked.{Looked}
-use Rattle.ahead.specs.Looking.{codesOf, codesTo, sliceShown, stripReads, begunLines, rowReads, userReads, anyRow, Listed, Adds, Posed, Ready, RowLooked, StripLooked, BegunLooked, LinesLooked}
-use Rattle.ahead.proofs.Rows.{or-false, or-true, or-assoc, row-near, row-far, code-even, code-of, code-next}
-use Rattle.ahead.proofs.Slices.{whole-zoom}
-use Rattle.ahead.proofs.Lines.{or-with, strip-spacing, strip-disabled, strip-none, strip-characters, begun-none, begun-reads, begun-left, from-even, none-left, descriptor-here, descriptor-on, strip-passed}
+use Rattle.ahead.specs.Looking.{codesOf, codesTo, userShown, stripReads, rowReads, userReads, anyRow, Listed, Adds, Posed, Ready, RowLooked, StripLooked, WholeLooked, LinesLooked}
+use Rattle.ahead.proofs.Rows.{row-near, row-far, code-even, code-of, code-next}
+use Rattle.ahead.proofs.Lines.{or-with, strip-spacing, strip-disabled, strip-none, strip-characters, from-even, none-left, descriptor-here, descriptor-on, strip-passed}
 
 module _ (ram : List ℕ) (c n : ℕ) (b : Bool) (rows : List ℕ) (k : ℕ) where
   found-adds : (rows′ : List ℕ) (r : Looked) → r .found ≡ true → anyRow ram c n rows k || b ≡ true → Adds ram c n b rows k rows′ r
@@ -83,45 +85,47 @@ module _ (q : Sought) (strip : Strip) (lines : ℕ) (rows : List ℕ) (k : ℕ) 
         none-adds ram (q .cell) (codesOf t) (stripReads ram t lines strip (q .cell)) rows k (strip-disabled ram t lines strip (q .cell) e d)
 
     pub strip-shown : (rows′ : List ℕ) (r : Looked) (shown : Bool) → enabled ≡ true → 1 ≤ lines → lines ≤ linesLeft strip
-        → shown ≡ sliceShown (q .cell) height zoom lines (line .0) && ltb (q .cell) 988
+        → shown ≡ userShown (q .cell) line lines height zoom
         → RowLooked q shown address rows k rows′ r → StripLooked q strip lines rows k rows′ r
     strip-shown rows′ r shown d h l f w ram t rd =
         adds-same ram (q .cell) (codesOf t) (rowReads ram (q .cell) shown (codesOf t) address) (stripReads ram t lines strip (q .cell)) rows k rows′ r
         (ap (λ (x : Bool). rowReads ram (q .cell) x (codesOf t) address) f ∙ strip-characters ram t lines strip (q .cell) (rd .bytes) e d h l)
         (w ram (codesOf t) (rd .starts))
 
--- ---- the strip of a descriptor
+-- ---- the strip of a descriptor, all lines
 
-pub whole-begun : (q : Sought) (zoom : Bool) (left : ℕ) → Posed q → stripLines (q .height) zoom ≤ left
-    → q .whole ≡ sliceShown (q .cell) (q .height) zoom (min (stripLines (q .height) zoom) left) 0 && ltb (q .cell) 988
-whole-begun q zoom left w h =
-    let m : min (stripLines (q .height) zoom) left ≡ stripLines (q .height) zoom = omega arith in
+-- it has no row
+pub whole-dark : (q : Sought) (low high : ℕ) (rows : List ℕ) (k : ℕ) → showsCodes high ≡ false
+    → WholeLooked q low high rows k rows (record { found = false; listed = k })
+whole-dark q low high rows k e =
+    codes-none (λ (t : Strip). StripLooked q t (linesLeft t) rows k rows (record { found = false; listed = k })) (q .height) low high e
+    (λ left. strip-spaced q (Spacing left) (linesLeft (Spacing left)) rows k refl)
+    (λ address height zoom line.
+    strip-dark q (Characters address height zoom false line) (linesLeft (Characters address height zoom false line)) rows k refl refl)
+
+-- the slices that a strip of the height sought shows in all
+whole-shown : (q : Sought) (zoom : Bool) → Posed q
+    → q .whole ≡ userShown (q .cell) beforeFirst (linesAfter beforeFirst (q .height) zoom) (q .height) zoom
+whole-shown q zoom w =
     w .whole
-    ∙ ap (λ (x : Bool). x && ltb (q .cell) 988)
-    (sym (ap (λ (x : ℕ). sliceShown (q .cell) (q .height) zoom x 0) m ∙ whole-zoom (q .cell) (q .height) zoom))
+    ∙ ap (λ (x : Bool). x && ofUser (q .cell))
+    (sym (ap (λ (n : ℕ). sliceShown beforeFirst n (q .height) zoom (userSlice (q .cell))) (all-after (q .height) zoom)
+    ∙ whole-zoom (q .height) zoom (userSlice (q .cell))))
 
-module _ (q : Sought) (low high left : ℕ) (rows : List ℕ) (k : ℕ) where
-  pub begun-dark : high < 192 → BegunLooked q low high left rows k rows (record { found = false; listed = k })
-  begun-dark h ram t rd =
-      none-adds ram (q .cell) (codesOf t) (stripReads ram t (min (linesLeft (stripOf (t .ch) low high)) left) (stripOf (t .ch) low high) (q .cell)) rows k
-      (begun-none ram t (min (linesLeft (stripOf (t .ch) low high)) left) low high (q .cell) h)
-
-  pub begun-shown : (rows′ : List ℕ) (r : Looked) (shown : Bool) → 192 ≤ high → high < 256 → 1 ≤ left
-      → shown ≡ sliceShown (q .cell) (q .height) (eqb (high / 32 % 2) 1) (min (stripLines (q .height) (eqb (high / 32 % 2) 1)) left) 0 && ltb (q .cell) 988
-      → RowLooked q shown (high % 4 * 256 + low) rows k rows′ r → BegunLooked q low high left rows k rows′ r
-  begun-shown rows′ r shown h l m f w ram t rd =
-      adds-same ram (q .cell) (codesOf t) (rowReads ram (q .cell) shown (codesOf t) (high % 4 * 256 + low))
-      (stripReads ram t (min (linesLeft (stripOf (t .ch) low high)) left) (stripOf (t .ch) low high) (q .cell)) rows k rows′ r
-      (begun-reads ram t left low high (q .height) (q .cell) shown (rd .bytes) h l m (rd .height) f)
-      (w ram (codesOf t) (rd .starts))
-
--- as many lines as it has, or more
-pub begun-whole : (q : Sought) (low high left : ℕ) (rows : List ℕ) (k : ℕ) (rows′ : List ℕ) (r : Looked) → high < 256 → begunLines (q .height) low high ≤ left
-    → BegunLooked q low high (begunLines (q .height) low high) rows k rows′ r → BegunLooked q low high left rows k rows′ r
-begun-whole q low high left rows k rows′ r b h w ram t rd =
-    let e = begun-left (t .ch) (q .height) low high (rd .height) b in
-    let m : min (linesLeft (stripOf (t .ch) low high)) (begunLines (q .height) low high) ≡ min (linesLeft (stripOf (t .ch) low high)) left = omega (arith, e) in
-    adds-same ram (q .cell) (codesOf t) _ _ rows k rows′ r (ap (λ (x : ℕ). stripReads ram t x (stripOf (t .ch) low high) (q .cell)) m) (w ram t rd)
+-- its row was looked at
+pub whole-looked : (q : Sought) (low high : ℕ) (rows : List ℕ) (k : ℕ) (rows′ : List ℕ) (r : Looked) → Posed q → showsCodes high ≡ true
+    → RowLooked q (q .whole) (codesAt low high) rows k rows′ r → WholeLooked q low high rows k rows′ r
+unfolding linesLeft
+whole-looked q low high rows k rows′ r w e l =
+    let h : atLeastOne (q .height) ≡ q .height = omega (arith, w .some) in
+    let t : stripOf (q .height) low high ≡ Characters (codesAt low high) (q .height) (zoomedBy high) true beforeFirst =
+    codes-shown (q .height) low high e ∙ ap (λ (n : ℕ). Characters (codesAt low high) n (zoomedBy high) true beforeFirst) h
+    in
+    strip-shown q (stripOf (q .height) low high) (linesLeft (stripOf (q .height) low high)) rows k t rows′ r (q .whole) refl
+    (stripOf-some (q .height) low high) (omega arith)
+    (whole-shown q (zoomedBy high) w
+    ∙ ap (λ (n : ℕ). userShown (q .cell) beforeFirst n (q .height) (zoomedBy high)) (sym (ap linesLeft t)))
+    l
 
 -- ---- the lines from a descriptor on
 
@@ -158,34 +162,30 @@ module _ (ram : List ℕ) (q : Sought) (rows₀ : List ℕ) (k₀ left₀ a₀ :
             ∙ or-false (anyRow ram (q .cell) (codesOf s) rows k));
       }
 
-  module _ (rows′ : List ℕ) (r : Looked) (h : 1 ≤ left) (e : q .cell / 2 ≡ p → ⊥) (b : getD ram (2 * p + 1) 0 < 256)
-      (w : BegunLooked q (getD ram (2 * p) 0) (getD ram (2 * p + 1) 0) left rows k rows′ r) where
-    lines : ℕ
-    lines = begunLines (q .height) (getD ram (2 * p) 0) (getD ram (2 * p + 1) 0)
-
+  -- its strip was looked at, as many lines as are shown
+  module _ (t : Strip) (is : t ≡ stripOf (q .height) (getD ram (2 * p) 0) (getD ram (2 * p + 1) 0)) (lines : ℕ) (m : lines ≡ min (linesLeft t) left)
+      (rows′ : List ℕ) (r : Looked) (w : StripLooked q t lines rows k rows′ r) (h : 1 ≤ left) (e : q .cell / 2 ≡ p → ⊥) where
     after : Settings → Bool
-    after s = among (q .cell) (cells ram (remaining s (left - lines) (record { descriptor = 2 * ((p + 1) % 512); strip = Spacing 0 })))
+    after s = among (q .cell) (cells ram (remaining s (left - linesLeft t) (record { descriptor = 2 * ((p + 1) % 512); strip = Spacing 0 })))
 
     -- the rows of its strip, and the lines after it
     step : (s : Settings) → Ready ram s q
         → anyRow ram (q .cell) (codesOf s) rows₀ k₀ || among (q .cell) (cells ram (remaining s left₀ (record { descriptor = a₀; strip = Spacing 0 })))
-        ≡ (anyRow ram (q .cell) (codesOf s) rows k
-        || stripReads ram s (min (linesLeft (stripOf (s .ch) (getD ram (2 * p) 0) (getD ram (2 * p + 1) 0))) left) (stripOf (s .ch) (getD ram (2 * p) 0) (getD ram (2 * p + 1) 0)) (q .cell))
-        || after s
-    unfolding after lines
+        ≡ (anyRow ram (q .cell) (codesOf s) rows k || stripReads ram s lines t (q .cell)) || after s
+    unfolding after
     step s rd =
         sum s rd
         ∙ ap (λ (x : Bool). anyRow ram (q .cell) (codesOf s) rows k || x)
-        (descriptor-on ram s (q .cell) left (2 * p) h (code-even p below) lines (λ y. e (omega (arith, y)))
-        (begun-left (s .ch) (q .height) (getD ram (2 * p) 0) (getD ram (2 * p + 1) 0) (rd .height) b)
+        (descriptor-on ram s (q .cell) left (2 * p) h (code-even p below) t lines (λ y. e (omega (arith, y)))
+        (is ∙ ap (λ (n : ℕ). stripOf n (getD ram (2 * p) 0) (getD ram (2 * p + 1) 0)) (rd .height) ∙ stripOf-height (s .ch) _ _) m
         ∙ ap (λ (x : ℕ).
-        stripReads ram s (min (linesLeft (stripOf (s .ch) (getD ram (2 * p) 0) (getD ram (2 * p + 1) 0))) left) (stripOf (s .ch) (getD ram (2 * p) 0) (getD ram (2 * p + 1) 0)) (q .cell)
-        || among (q .cell) (cells ram (remaining s (left - lines) (record { descriptor = x; strip = Spacing 0 })))) (code-next p))
-        ∙ sym (or-assoc (anyRow ram (q .cell) (codesOf s) rows k) _ (after s))
+        stripReads ram s lines t (q .cell)
+        || among (q .cell) (cells ram (remaining s (left - linesLeft t) (record { descriptor = x; strip = Spacing 0 })))) (code-next p))
+        ∙ sym (or-assoc (anyRow ram (q .cell) (codesOf s) rows k) (stripReads ram s lines t (q .cell)) (after s))
 
     -- the frame ends in the strip
-    pub lines-last : left ≤ begunLines (q .height) (getD ram (2 * p) 0) (getD ram (2 * p + 1) 0) → LinesLooked ram q left₀ a₀ rows₀ k₀ rows′ r
-    unfolding after lines
+    pub lines-last : left ≤ linesLeft t → LinesLooked ram q left₀ a₀ rows₀ k₀ rows′ r
+    unfolding after
     lines-last l s rd =
         record {
           hit = λ y. step s rd ∙ or-with (after s) (w ram s rd .hit y);
@@ -193,7 +193,7 @@ module _ (ram : List ℕ) (q : Sought) (rows₀ : List ℕ) (k₀ left₀ a₀ :
               sym (step s rd
               ∙ or-with (after s) (sym (w ram s rd .miss z))
               ∙ ap (λ (x : Bool). anyRow ram (q .cell) (codesOf s) rows′ (r .listed) || x)
-              (none-left ram s (q .cell) (left - lines) (2 * ((p + 1) % 512)) (omega arith))
+              (none-left ram s (q .cell) (left - linesLeft t) (2 * ((p + 1) % 512)) (omega arith))
               ∙ or-false (anyRow ram (q .cell) (codesOf s) rows′ (r .listed)));
         }
 
@@ -202,8 +202,8 @@ module _ (ram : List ℕ) (q : Sought) (rows₀ : List ℕ) (k₀ left₀ a₀ :
         found-adds ram (q .cell) (codesOf s) _ rows₀ k₀ rows″ r y (step s rd ∙ or-with (after s) (w ram s rd .hit y))
 
     pub sum-on : r .found ≡ false
-        → SumSame ram q rows₀ k₀ left₀ a₀ rows′ (r .listed) (left - begunLines (q .height) (getD ram (2 * p) 0) (getD ram (2 * p + 1) 0)) (2 * ((p + 1) % 512))
-    unfolding after lines
+        → SumSame ram q rows₀ k₀ left₀ a₀ rows′ (r .listed) (left - linesLeft t) (2 * ((p + 1) % 512))
+    unfolding after
     sum-on z s rd = step s rd ∙ or-with (after s) (sym (w ram s rd .miss z))
 
 -- ---- the frame's remaining lines

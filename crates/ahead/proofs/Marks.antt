@@ -2,7 +2,7 @@
 -- Assumes nothing.
 use Prim.Native.Nat.{ℕ, zero, suc, _+_, _-_, _*_, _/_, _%_, _≤_, _<_}
 use mathlib.Core.Path.{_≡_, refl, sym, ap, ap₂, _∙_, subst}
-use mathlib.Core.Bool.{Bool, true, false, cond, _||_}
+use mathlib.Core.Bool.{Bool, true, false, cond, _||_, or-comm}
 use mathlib.Core.List.{List, [], _∷_}
 use native.Mathlib.Decide.{ℕ-discrete}
 use native.Mathlib.Nat.{not-suc-le-zero, le-of-suc-le-suc}
@@ -12,10 +12,12 @@ use borrow.Author.Tests.{eq-eqb, ne-eqb, eqb-false}
 use lib.Dec.{T, eqb}
 use lib.ListN.{getD, set, length, replicate, length-set, length-replicate}
 use lib.Seq.{getD-set-same, getD-set-other}
+use Rattle.facts.proofs.Tests.{iff, or-cases, or-first, or-second}
 use Rattle.walk.specs.Walk.{even, next}
 use Rattle.glyph.specs.Glyph.{endsLine}
-use Rattle.ahead.specs.Looking.{userHigh, userReads, marked, Among, Kept, anyRow, Listed, partReads, anyPart}
-use Rattle.ahead.proofs.Rows.{iff, or-cases, or-first, or-second, user-same, code-even, code-of, code-next}
+use Rattle.glyph.specs.Cells.{userHigh}
+use Rattle.ahead.specs.Looking.{userReads, marked, Among, Kept, anyRow, Listed, partReads, anyPart}
+use Rattle.ahead.proofs.Rows.{user-same, code-even, code-of, code-next}
 
 T-true : {b : Bool} → T b → b ≡ true
 T-true {b = true} t = refl
@@ -79,12 +81,6 @@ any-set ram c n rows i a zero h = refl
 any-set ram c n rows i a (suc k) h =
     ap₂ (λ (x : ℕ) (y : Bool). userReads ram c n x || y) (getD-set-other rows i k a 0 (λ e. omega arith)) (any-set ram c n rows i a k (omega arith))
 
-or-swap : (a b : Bool) → a || b ≡ b || a
-or-swap true true = refl
-or-swap true false = refl
-or-swap false true = refl
-or-swap false false = refl
-
 pub list-again : (marks rows : List ℕ) (k a : ℕ) → Kept marks rows k → (getD marks (a / 2 % 512) 0 ≡ 0 → ⊥) → Listed rows k a marks rows k
 list-again marks rows k a s e =
     record { kept = s; more = λ ram c n. any-again ram c n rows k a (s .listed (a / 2 % 512) e) }
@@ -120,7 +116,7 @@ module _ (marks rows : List ℕ) (k a : ℕ) (s : Kept marks rows k) (e : getD m
         more = λ ram c n.
             ap (anyRow ram c n (set rows k a)) (add-one k)
             ∙ ap₂ (λ (x : ℕ) (y : Bool). userReads ram c n x || y) here (any-set ram c n rows k a k (omega arith))
-            ∙ or-swap (userReads ram c n a) (anyRow ram c n rows k);
+            ∙ or-comm (userReads ram c n a) (anyRow ram c n rows k);
       }
 
 -- ---- nothing is listed yet

@@ -1,19 +1,21 @@
 -- How the search for a cell looks at a row of codes and at a strip: what the promises of its inner functions cite. The search's own
 -- promise (membership in the cells of the remaining lines) does not speak of these.
 -- Assumes nothing.
-use Prim.Native.Nat.{ℕ, zero, suc, _+_, _-_, _*_, _/_, _%_, _≤_, _<_, min}
+use Prim.Native.Nat.{ℕ, zero, suc, _+_, _-_, _*_, _/_, _%_, _≤_, _<_}
 use mathlib.Core.Path.{_≡_}
 use mathlib.Core.Bool.{Bool, true, false, cond, _&&_, _||_}
 use mathlib.Core.List.{List, [], _∷_, _++_}
-use lib.Dec.{eqb, ltb}
+use lib.Dec.{eqb}
 use lib.ListN.{getD, length}
 use Rattle.cells.specs.Reading.{cells, among}
 use Rattle.registers.specs.declared.Settings.{Settings}
-use Rattle.raster.specs.Raster.{unzoomed, sliceNumber, stripLines, columnsOf}
+use Rattle.raster.specs.declared.ScanLine.{ScanLine}
+use Rattle.raster.specs.Raster.{beforeFirst, sliceShown, columnsOf}
 use Rattle.walk.specs.declared.Strip.{Strip}
 use Rattle.walk.specs.declared.Strip.the-variants.{Spacing}
 use Rattle.walk.specs.Walk.{even, next, advanced, atLeastOne, stripOf, linesLeft}
 use Rattle.glyph.specs.Glyph.{endsLine}
+use Rattle.glyph.specs.Cells.{ofUser, userHigh, userSlice}
 use Rattle.line.specs.Line.{shownRow}
 use Rattle.ahead.specs.declared.Sought.{Sought}
 use Rattle.ahead.specs.declared.Looked.{Looked}
@@ -24,13 +26,6 @@ use Rattle.ahead.specs.Ahead.{remaining}
 -- the two bytes at an even address
 abbrev pub pairOf : ℕ → ℕ
 pairOf c = c / 2 * 2
-
--- the high byte of the code whose user character a cell belongs to, and the slice of it
-abbrev pub userHigh : ℕ → ℕ
-userHigh c = 128 + c / 38
-
-abbrev pub userSlice : ℕ → ℕ
-userSlice c = c % 38 / 2
 
 -- the codes that a line reads at the most: none with OSD 0
 abbrev pub codesOf : Settings → ℕ
@@ -66,10 +61,9 @@ pub record Starts (ram : List ℕ) (c n m : ℕ) : Type 0 where
 
 -- ---- a strip
 
--- does one of the k lines after a line of a strip show the cell's slice?
-unfoldable pub sliceShown : ℕ → ℕ → Bool → ℕ → ℕ → Bool
-sliceShown c ch zoom zero j = false
-sliceShown c ch zoom (suc k) j = eqb (sliceNumber ch (unzoomed zoom (j + 1))) (userSlice c) || sliceShown c ch zoom k (j + 1)
+-- does one of the k lines after a line of a strip show the cell's slice, of a user character?
+abbrev pub userShown : ℕ → ScanLine → ℕ → ℕ → Bool → Bool
+userShown c j k ch zoom = sliceShown j k ch zoom (userSlice c) && ofUser c
 
 -- the cells that the next k lines of a strip read in their rows
 unfoldable pub rowCells : List ℕ → Settings → ℕ → Strip → List ℕ
@@ -79,10 +73,6 @@ rowCells ram s (suc k) strip = cells ram (shownRow s (advanced strip)) ++ rowCel
 -- is the cell one of them?
 abbrev pub stripReads : List ℕ → Settings → ℕ → Strip → ℕ → Bool
 stripReads ram s k strip c = among c (rowCells ram s k strip)
-
--- how many lines the strip of a descriptor has
-abbrev pub begunLines : ℕ → ℕ → ℕ → ℕ
-begunLines height low high = cond (ltb high 128) (atLeastOne low) (stripLines height (eqb (high / 32 % 2) 1))
 
 -- ---- the rows that show the cell's slice
 
@@ -137,7 +127,7 @@ pub record Adds (ram : List ℕ) (c n : ℕ) (b : Bool) (rows : List ℕ) (k : �
 pub record Posed (q : Sought) : Type 0 where
   pub cell : q .cell < 1024
   pub some : 1 ≤ q .height
-  pub whole : q .whole ≡ sliceShown (q .cell) (q .height) false (q .height) 0 && ltb (q .cell) 988
+  pub whole : q .whole ≡ userShown (q .cell) beforeFirst (q .height) (q .height) false
 
 -- it is sought in a frame of these settings
 pub record Ready (ram : List ℕ) (s : Settings) (q : Sought) : Type 0 where
@@ -155,13 +145,10 @@ abbrev pub StripLooked : Sought → Strip → ℕ → List ℕ → ℕ → List 
 StripLooked q strip lines rows k rows′ r =
     (ram : List ℕ) (s : Settings) → Ready ram s q → Adds ram (q .cell) (codesOf s) (stripReads ram s lines strip (q .cell)) rows k rows′ r
 
--- as many lines of the strip of a descriptor, from its first on
-abbrev pub BegunLooked : Sought → ℕ → ℕ → ℕ → List ℕ → ℕ → List ℕ → Looked → Type 0
-BegunLooked q low high left rows k rows′ r =
-    (ram : List ℕ) (s : Settings) → Ready ram s q
-    → Adds ram (q .cell) (codesOf s)
-    (stripReads ram s (min (linesLeft (stripOf (s .ch) low high)) left) (stripOf (s .ch) low high) (q .cell))
-    rows k rows′ r
+-- all lines of the strip of a descriptor
+abbrev pub WholeLooked : Sought → ℕ → ℕ → List ℕ → ℕ → List ℕ → Looked → Type 0
+WholeLooked q low high rows k rows′ r =
+    StripLooked q (stripOf (q .height) low high) (linesLeft (stripOf (q .height) low high)) rows k rows′ r
 
 -- the lines from a descriptor on
 abbrev pub LinesLooked : List ℕ → Sought → ℕ → ℕ → List ℕ → ℕ → List ℕ → Looked → Type 0

@@ -1,21 +1,17 @@
 // What the frame's remaining lines read. The strips are walked once, each in constant time: a strip's row reads the cell as a code
 // if it starts closely before it; the rows that show the cell's slice are listed, and then looked through for its user character.
 ghost use mathlib.Core.Path.{_≡_};
-ghost use mathlib.Core.Bool.{false, _&&_};
-ghost use Prim.Native.Nat.{_+_, _≤_, _<_, min, max};
-ghost use lib.Dec.{ltb};
+ghost use Prim.Native.Nat.{_≤_, _<_, min, max};
 ghost use lib.ListN.{length};
 ghost use Rattle.cells.specs.Reading.{cells, among};
-ghost use Rattle.raster.specs.Raster.{stripLines};
+ghost use Rattle.raster.specs.Raster.{linesAfter};
 ghost use Rattle.walk.specs.Walk.{linesLeft};
 ghost use Rattle.ahead.specs.Ahead.{remaining};
-ghost use Rattle.ahead.specs.Looking.{codesOf, sliceShown, Starts, begunLines, Kept, anyRow, Listed, partReads, Posed, Ready, RowLooked, StripLooked, BegunLooked, LinesLooked};
+ghost use Rattle.ahead.specs.Looking.{codesOf, userShown, Starts, Kept, anyRow, Listed, partReads, Posed, Ready, RowLooked, StripLooked, WholeLooked, LinesLooked};
+use raster::ScanLine;
 use registers::Settings;
 use walk::Strip;
 use walk::Walk;
-
-// The cells of the 26 user characters.
-const USER_CELLS: u16 = 988;
 
 // What is looked for in each strip.
 pub struct Sought {
@@ -74,30 +70,15 @@ fn starts(ram: &[u8], n: u16, cell: u16) -> u16
     m
 }
 
-// Does one of the k lines after a line of a strip show the cell's slice? The lines that show a slice are neighbours, so the first
-// that could is looked at.
-fn slice_shown(height: u8, zoom: bool, line: u16, k: u16, cell: u16) -> bool
-    requires { ⌜ (1 ≤ k) × (line + k ≤ stripLines height zoom) ⌝ }
-    ensures { λ r. ⌜ r ≡ sliceShown cell height zoom k line ⌝ }
+// Does one of the k lines after a line of a strip show the cell's slice, of a user character?
+fn user_shown(line: ScanLine, k: u16, height: u8, zoom: bool, cell: u16) -> bool
+    requires { ⌜ (1 ≤ k) × (k ≤ linesAfter line height zoom) ⌝ }
+    ensures { λ r. ⌜ r ≡ userShown cell line k height zoom ⌝ }
 {
-    let ch = height as u16;
-    let slice = cell % 38 / 2 * (2 * ch);
-    let first = (walk::rest(slice, ch) + 35) / 36;
-    let n = most(raster::unzoom(line + 1, zoom), first);
-    if raster::unzoom(line + k, zoom) < n {
-        return false;
+    if glyph::of_user(cell) {
+        return line.shows(k, height, zoom, glyph::user_slice(cell));
     }
-    36 * n + ch < slice + 2 * ch
-}
-
-fn user_shown(height: u8, zoom: bool, line: u16, k: u16, cell: u16) -> bool
-    requires { ⌜ (1 ≤ k) × (line + k ≤ stripLines height zoom) ⌝ }
-    ensures { λ r. ⌜ r ≡ sliceShown cell height zoom k line && ltb cell 988 ⌝ }
-{
-    if cell >= USER_CELLS {
-        return false;
-    }
-    slice_shown(height, zoom, line, k, cell)
+    false
 }
 
 // A row is listed once.
@@ -146,23 +127,24 @@ fn look_row(
     }
 }
 
-// The next k lines of the strip on screen.
+// The next k lines of a strip.
 fn look_strip(
     marks: &mut [u8; 512],
     rows: &mut [u16; 512],
+    listed: u16,
     sought: Sought,
     strip: Strip,
     k: u16,
 ) -> Looked
-    requires { ⌜ Kept (now marks) (now rows) 0 ⌝ }
+    requires { ⌜ Kept (now marks) (now rows) listed ⌝ }
     requires { ⌜ Posed sought ⌝ }
     requires { ⌜ k ≤ linesLeft strip ⌝ }
     ensures { λ r. ⌜ Kept (now (marks .exit)) (now (rows .exit)) (r .listed) ⌝ }
-    ensures { λ r. ⌜ StripLooked sought strip k (now (rows .entry)) 0 (now (rows .exit)) r ⌝ }
+    ensures { λ r. ⌜ StripLooked sought strip k (now (rows .entry)) listed (now (rows .exit)) r ⌝ }
 {
     let none = Looked {
         found: false,
-        listed: 0,
+        listed: listed,
     };
     if k == 0 {
         return none;
@@ -179,8 +161,8 @@ fn look_strip(
             if !enabled {
                 return none;
             }
-            let shown = user_shown(height, zoom, line.0, k, sought.cell);
-            look_row(marks, rows, 0, sought, address, shown)
+            let shown = user_shown(line, k, height, zoom, sought.cell);
+            look_row(marks, rows, listed, sought, address, shown)
         }
     }
 }
@@ -197,53 +179,16 @@ fn look_whole(
     requires { ⌜ Kept (now marks) (now rows) listed ⌝ }
     requires { ⌜ Posed sought ⌝ }
     ensures { λ r. ⌜ Kept (now (marks .exit)) (now (rows .exit)) (r .listed) ⌝ }
-    ensures { λ r. ⌜ BegunLooked sought low high (begunLines (sought .height) low high) (now (rows .entry)) listed (now (rows .exit)) r ⌝ }
+    ensures { λ r. ⌜ WholeLooked sought low high (now (rows .entry)) listed (now (rows .exit)) r ⌝ }
 {
-    if high < 192 {
-        return Looked {
-            found: false,
-            listed: listed,
-        };
+    if walk::shows_codes(high) {
+        let address = walk::code_address(low, high);
+        return look_row(marks, rows, listed, sought, address, sought.whole);
     }
-    let address = (high % 4) as u16 * 256 + low as u16;
-    look_row(marks, rows, listed, sought, address, sought.whole)
-}
-
-// The strip of a descriptor, in which the frame ends.
-fn look_last(
-    marks: &mut [u8; 512],
-    rows: &mut [u16; 512],
-    listed: u16,
-    sought: Sought,
-    low: u8,
-    high: u8,
-    left: u16,
-) -> Looked
-    requires { ⌜ Kept (now marks) (now rows) listed ⌝ }
-    requires { ⌜ Posed sought ⌝ }
-    requires { ⌜ (1 ≤ left) × (left < begunLines (sought .height) low high) ⌝ }
-    ensures { λ r. ⌜ Kept (now (marks .exit)) (now (rows .exit)) (r .listed) ⌝ }
-    ensures { λ r. ⌜ BegunLooked sought low high left (now (rows .entry)) listed (now (rows .exit)) r ⌝ }
-{
-    if high < 192 {
-        return Looked {
-            found: false,
-            listed: listed,
-        };
+    Looked {
+        found: false,
+        listed: listed,
     }
-    let shown = user_shown(sought.height, high / 32 % 2 == 1, 0, left, sought.cell);
-    let address = (high % 4) as u16 * 256 + low as u16;
-    look_row(marks, rows, listed, sought, address, shown)
-}
-
-// How many lines the strip of a descriptor has.
-fn begun_lines(height: u8, low: u8, high: u8) -> u16
-    ensures { λ r. ⌜ r ≡ begunLines height low high ⌝ }
-{
-    if high < 128 {
-        return most(1, low as u16);
-    }
-    raster::strip_lines(height, high / 32 % 2 == 1)
 }
 
 // The lines from a descriptor on. Descriptors go round all of RAM, so within 512 strips they meet the cell or the frame's end.
@@ -253,18 +198,18 @@ fn look_lines(
     rows: &mut [u16; 512],
     already: u16,
     sought: Sought,
-    lines: u16,
+    all: u16,
     descriptor: u16,
 ) -> Looked
     requires { ⌜ length (now ram) ≡ 1024 ⌝ }
     requires { ⌜ Kept (now marks) (now rows) already ⌝ }
     requires { ⌜ Posed sought ⌝ }
     ensures { λ r. ⌜ Kept (now (marks .exit)) (now (rows .exit)) (r .listed) ⌝ }
-    ensures { λ r. ⌜ LinesLooked (now (ram .entry)) sought lines descriptor (now (rows .entry)) already (now (rows .exit)) r ⌝ }
+    ensures { λ r. ⌜ LinesLooked (now (ram .entry)) sought all descriptor (now (rows .entry)) already (now (rows .exit)) r ⌝ }
 {
     let own = (sought.cell / 2) as usize;
     let mut p = (descriptor / 2 % 512) as usize;
-    let mut left = lines;
+    let mut left = all;
     let mut listed = already;
     while left > 0 {
         if own == p {
@@ -275,16 +220,17 @@ fn look_lines(
         }
         let low = ram[2 * p];
         let high = ram[2 * p + 1];
-        let strip_lines = begun_lines(sought.height, low, high);
-        if left < strip_lines {
-            return look_last(marks, rows, listed, sought, low, high, left);
+        let lines = walk::strip_lines(sought.height, low, high);
+        if left < lines {
+            let strip = Strip::of_descriptor(sought.height, low, high);
+            return look_strip(marks, rows, listed, sought, strip, left);
         }
         let looked = look_whole(marks, rows, listed, sought, low, high);
         if looked.found {
             return looked;
         }
         listed = looked.listed;
-        left -= strip_lines;
+        left -= lines;
         p = (p + 1) % 512;
     }
     Looked {
@@ -299,7 +245,7 @@ fn part_reads<'a>(ram: &'a [u8], marks: &'a [u8; 512], address: u16, n: u16, cel
     requires { ⌜ cell < 1024 ⌝ }
     ensures { λ r. ⌜ r ≡ partReads (now (ram .entry)) (now (marks .entry)) cell n address ⌝ }
 {
-    let user = (128 + cell / 38) as u8;
+    let user = glyph::user_high(cell);
     let mut p = (address / 2 % 512) as usize;
     let mut left = n;
     while left > 0 {
@@ -355,7 +301,7 @@ fn seek(ram: &[u8], settings: Settings, n: u16, cell: u16) -> Sought
         cell: cell,
         starts: starts(ram, n, cell),
         height: height as u8,
-        whole: user_shown(height as u8, false, 0, height, cell),
+        whole: user_shown(ScanLine::before_first(), height, height as u8, false, cell),
     }
 }
 
@@ -371,7 +317,7 @@ pub fn reads(ram: &[u8], settings: Settings, left: u16, walk: Walk, cell: u16) -
     let sought = seek(ram, settings, n, cell);
     let strip = walk.strip;
     let k = least(strip.lines_left(), left);
-    let first = look_strip(&mut marks, &mut rows, sought, strip, k);
+    let first = look_strip(&mut marks, &mut rows, 0, sought, strip, k);
     if first.found {
         return true;
     }

@@ -12,7 +12,7 @@ use Rattle.runs.specs.Runs.{Entry, log, end, AsMade, select, othersOf, SameRuns
 use Rattle.cells.specs.Reading.{Role, descriptor, code, slice, sameRole, bind, fmap, value, cells, cellsAs, among, Alike}
 use Rattle.registers.specs.declared.Settings.{Settings}
 use Rattle.registers.specs.Registers.{settingsOf, pageOf}
-use Rattle.raster.specs.Raster.{interpolated, sliceNumber}
+use Rattle.raster.specs.Raster.{beforeFirst, following, isLast, interpolated, sliceNumber}
 use Rattle.bus.specs.declared.Event.the-variants.{Byte}
 use Rattle.bus.specs.Bus.{step, ramWith, registersWith, answerTo, taken, busEvent}
 use Rattle.walk.specs.Walk.{walkFrom, stripOf, over, begun, advanced, nextLine}
@@ -118,8 +118,8 @@ pixelTest : ℕ → State → List Call → Bool
 unfolding addressing write font heard started traffic picture buffer turning refusalOf firstLine but ready alikeTest sameTest quietTest
     runTest pixelOf pixelIn answer after isEvent Stores freshDevice hearEvent startFrame inFrame pixelsOf lineOn lineDrawn drawVerdict drawBy drawLine
     cellsLeft askCell log end select step ramWith registersWith answerTo taken busEvent settingsOf remaining scan nextLine walkFrom
-    over begun advanced stripOf rowOf shownRow codes glyphOf inRam bind fmap value cells cellsAs sameRole among interpolated
-    sliceNumber paint painted character inkOf columns bitsOf
+    over begun advanced stripOf rowOf shownRow codes glyphOf inRam bind fmap value cells cellsAs sameRole among beforeFirst following isLast
+    interpolated sliceNumber paint painted character inkOf columns bitsOf
 pixelTest i s cs =
     eqb (pixelIn i (select (λ x. not (isEvent (x .call))) (log (calls font) s cs))) (pixelIn i (log (calls font) s (othersOf (calls font) cs)))
 

@@ -4,7 +4,7 @@ use mathlib.Core.Path.{refl}
 use mathlib.Core.List.{zipWith}
 use Rattle.cells.specs.Reading.{bind, fmap, value, cells}
 use Rattle.registers.specs.Registers.{loaded, settingsOf}
-use Rattle.raster.specs.Raster.{interpolated, sliceNumber}
+use Rattle.raster.specs.Raster.{beforeFirst, following, isLast, interpolated, sliceNumber}
 use Rattle.walk.specs.Walk.{walkFrom, stripOf, over, begun, advanced, nextLine}
 use Rattle.glyph.specs.Glyph.{glyphOf, inRam, bitsOf}
 use Rattle.line.specs.Line.{codes, rowOf, shownRow, scan, inkOf, columns, character, painted, paint}
@@ -14,5 +14,5 @@ use Rattle.report.specs.Report.{benchDevice, digits, linesText, benchTex
 use Rattle.report.specs.Example.{exampleInput, exampleOutput, bytesOf, BenchExample}
 
 pub bench-example : BenchExample
-unfolding exampleInput exampleOutput bytesOf benchText linesText report.begun benchDevice digits freshDevice inFrame startFrame pixelsOf lineOn lineDrawn drawVerdict drawBy drawLine loaded zipWith settingsOf scan nextLine walkFrom over begun advanced stripOf rowOf shownRow codes glyphOf inRam bind fmap cells value interpolated sliceNumber paint painted character inkOf columns bitsOf
+unfolding exampleInput exampleOutput bytesOf benchText linesText report.begun benchDevice digits freshDevice inFrame startFrame pixelsOf lineOn lineDrawn drawVerdict drawBy drawLine loaded zipWith settingsOf scan nextLine walkFrom over begun advanced stripOf rowOf shownRow codes glyphOf inRam bind fmap cells value beforeFirst following isLast interpolated sliceNumber paint painted character inkOf columns bitsOf
 bench-example = refl

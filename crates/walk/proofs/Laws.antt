@@ -3,7 +3,7 @@
 -- Assumes nothing.
 use Prim.Native.Nat.{ℕ, _+_, _-_, _*_, _/_, _%_, _≤_, _<_}
 use mathlib.Core.Path.{_≡_, refl, sym, ap, _∙_}
-use mathlib.Core.Bool.{Bool, true, false, cond}
+use mathlib.Core.Bool.{Bool, true, false, cond, false≢true}
 use native.Mathlib.Omega.{arith}
 use borrow.Author.Tests.{eqb-false, eq-eqb, ne-eqb}
 use mathlib.Core.List.{List}
@@ -19,7 +19,7 @@ use Rattle.walk.specs.declared.Strip.{Strip}
 use Rattle.walk.specs.declared.Strip.the-variants.{Spacing, Characters}
 use Rattle.walk.specs.declared.Walk.{Walk}
 use Rattle.walk.specs.declared.Walked.{Walked}
-use Rattle.walk.specs.Walk.{even, next, walkFrom, atLeastOne, stripOf, over, linesLeft, begun, advanced, nextLine, OnLine, walked}
+use Rattle.walk.specs.Walk.{even, next, walkFrom, atLeastOne, isSpacing, enabledBy, zoomedBy, codesAt, showsCodes, stripOf, over, linesLeft, begun, advanced, nextLine, OnLine, walked}
 
 -- ---- addresses
 
@@ -84,9 +84,40 @@ left-advanced (Characters address height zoom enabled line) = one-less line heig
 pub stripOf-some : (ch low high : ℕ) → 1 ≤ linesLeft (stripOf ch low high)
 unfolding stripOf linesLeft
 stripOf-some ch low high =
-    either (λ (s : Strip). 1 ≤ linesLeft s) (eqb (high / 128 % 2) 0) _ _
-    (omega arith)
-    (some-after (atLeastOne ch) (eqb (high / 32 % 2) 1) (omega arith))
+    either (λ (s : Strip). 1 ≤ linesLeft s) (isSpacing high) _ _ (omega arith) (some-after (atLeastOne ch) (zoomedBy high) (omega arith))
+
+-- ---- the strip of a descriptor
+
+-- a height that was taken as 1 is 1
+pub stripOf-height : (ch low high : ℕ) → stripOf (atLeastOne ch) low high ≡ stripOf ch low high
+unfolding stripOf
+stripOf-height ch low high =
+    let e : atLeastOne (atLeastOne ch) ≡ atLeastOne ch = omega arith in
+    ap (λ (h : ℕ). cond (isSpacing high) (Spacing (atLeastOne low)) (Characters (codesAt low high) h (zoomedBy high) (enabledBy high) beforeFirst)) e
+
+-- codes are read on its lines
+pub codes-shown : (ch low high : ℕ) → showsCodes high ≡ true
+    → stripOf ch low high ≡ Characters (codesAt low high) (atLeastOne ch) (zoomedBy high) true beforeFirst
+unfolding stripOf
+codes-shown ch low high e = by (isSpacing high) (enabledBy high) e
+  where
+    by : (t u : Bool) → cond t false u ≡ true
+        → cond t (Spacing (atLeastOne low)) (Characters (codesAt low high) (atLeastOne ch) (zoomedBy high) u beforeFirst)
+        ≡ Characters (codesAt low high) (atLeastOne ch) (zoomedBy high) true beforeFirst
+    by true u q = absurd (false≢true q)
+    by false u q = ap (λ (b : Bool). Characters (codesAt low high) (atLeastOne ch) (zoomedBy high) b beforeFirst) q
+
+-- none are: it is spacing, or has DE 0
+pub codes-none : (P : Strip → Type 0) (ch low high : ℕ) → showsCodes high ≡ false → ((left : ℕ) → P (Spacing left))
+    → ((address height : ℕ) (zoom : Bool) (line : ScanLine) → P (Characters address height zoom false line)) → P (stripOf ch low high)
+unfolding stripOf
+codes-none P ch low high e f g = by (isSpacing high) (enabledBy high) e
+  where
+    by : (t u : Bool) → cond t false u ≡ false
+        → P (cond t (Spacing (atLeastOne low)) (Characters (codesAt low high) (atLeastOne ch) (zoomedBy high) u beforeFirst))
+    by true u q = f (atLeastOne low)
+    by false true q = absurd (false≢true (sym q))
+    by false false q = g (codesAt low high) (atLeastOne ch) (zoomedBy high) beforeFirst
 
 -- ---- the strip on screen is at one of its lines
 

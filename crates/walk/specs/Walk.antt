@@ -28,13 +28,36 @@ walkFrom p = record { descriptor = p * 64; strip = Spacing 0 }
 abbrev pub atLeastOne : ℕ → ℕ
 atLeastOne n = max 1 n
 
--- a descriptor, low byte first. High bit 7 clear: spacing, the low byte is SL. High bit 7 set: characters, bit 6 is DE,
--- bit 5 ZY, bits 1 and 0 with the low byte give the code address, its lowest bit taken as 0 (H). CH is the one given
+-- ---- descriptors: two bytes, low byte first
+
+-- high bit 7 clear: spacing. High bit 7 set: characters
+abbrev pub isSpacing : ℕ → Bool
+isSpacing high = eqb (high / 128 % 2) 0
+
+-- bit 6 is DE
+abbrev pub enabledBy : ℕ → Bool
+enabledBy high = eqb (high / 64 % 2) 1
+
+-- bit 5 ZY
+abbrev pub zoomedBy : ℕ → Bool
+zoomedBy high = eqb (high / 32 % 2) 1
+
+-- bits 1 and 0 with the low byte give the code address, its lowest bit taken as 0 (H)
+abbrev pub codesAt : ℕ → ℕ → ℕ
+codesAt low high = even (high % 4 * 256 + low)
+
+-- codes are read on its lines: characters, with DE
+abbrev pub showsCodes : ℕ → Bool
+showsCodes high = cond (isSpacing high) false (enabledBy high)
+
+-- its strip, before the first line. The low byte of spacing is SL, the number of lines; CH is the one given
 unfoldable pub stripOf : ℕ → ℕ → ℕ → Strip
 stripOf ch low high =
-    cond (eqb (high / 128 % 2) 0)
+    cond (isSpacing high)
     (Spacing (atLeastOne low))
-    (Characters (even (high % 4 * 256 + low)) (atLeastOne ch) (eqb (high / 32 % 2) 1) (eqb (high / 64 % 2) 1) beforeFirst)
+    (Characters (codesAt low high) (atLeastOne ch) (zoomedBy high) (enabledBy high) beforeFirst)
+
+-- ---- the strip on screen
 
 -- a strip that has no line left
 unfoldable pub over : Strip → Bool

@@ -2,7 +2,7 @@
 ghost use mathlib.Core.Path.{_≡_};
 ghost use mathlib.Core.Bool.{false};
 ghost use lib.ListN.{length};
-ghost use Rattle.walk.specs.Walk.{even, walkFrom, atLeastOne, stripOf, over, linesLeft, advanced, walked};
+ghost use Rattle.walk.specs.Walk.{even, walkFrom, atLeastOne, isSpacing, enabledBy, zoomedBy, codesAt, showsCodes, stripOf, over, linesLeft, advanced, walked};
 use raster::ScanLine;
 
 // The strip on screen. One with no line left gives way to the next descriptor at the next line.
@@ -53,21 +53,69 @@ fn at_least_one(n: u8) -> u8
     n
 }
 
+// The high byte of a descriptor: spacing, or characters?
+fn is_spacing(high: u8) -> bool
+    ensures { λ r. ⌜ r ≡ isSpacing high ⌝ }
+{
+    high / 128 % 2 == 0
+}
+
+// DE
+fn enabled(high: u8) -> bool
+    ensures { λ r. ⌜ r ≡ enabledBy high ⌝ }
+{
+    high / 64 % 2 == 1
+}
+
+// ZY
+fn zoom(high: u8) -> bool
+    ensures { λ r. ⌜ r ≡ zoomedBy high ⌝ }
+{
+    high / 32 % 2 == 1
+}
+
+// Where the codes of a descriptor's strip start.
+pub fn code_address(low: u8, high: u8) -> u16
+    ensures { λ r. ⌜ r ≡ codesAt low high ⌝ }
+{
+    even_address((high % 4) as u16 * 256 + low as u16)
+}
+
+// Are codes read on the lines of its strip?
+pub fn shows_codes(high: u8) -> bool
+    ensures { λ r. ⌜ r ≡ showsCodes high ⌝ }
+{
+    if is_spacing(high) {
+        return false;
+    }
+    enabled(high)
+}
+
+// How many lines its strip has.
+pub fn strip_lines(ch: u8, low: u8, high: u8) -> u16
+    ensures { λ r. ⌜ r ≡ linesLeft (stripOf ch low high) ⌝ }
+{
+    if is_spacing(high) {
+        return at_least_one(low) as u16;
+    }
+    ScanLine::before_first().lines_after(at_least_one(ch), zoom(high))
+}
+
 impl Strip {
     // The strip of a descriptor, before its first line.
     pub fn of_descriptor(ch: u8, low: u8, high: u8) -> Strip
         ensures { λ r. ⌜ r ≡ stripOf ch low high ⌝ }
     {
-        if high / 128 % 2 == 0 {
+        if is_spacing(high) {
             return Strip::Spacing {
                 left: at_least_one(low),
             };
         }
         Strip::Characters {
-            address: even_address((high % 4) as u16 * 256 + low as u16),
+            address: code_address(low, high),
             height: at_least_one(ch),
-            zoom: high / 32 % 2 == 1,
-            enabled: high / 64 % 2 == 1,
+            zoom: zoom(high),
+            enabled: enabled(high),
             line: ScanLine::before_first(),
         }
     }

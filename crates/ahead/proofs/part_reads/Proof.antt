@@ -1,7 +1,7 @@
 -- `part_reads`: each turn passes one code; what is left of the row shows the user character exactly if the row does.
 -- Assumes nothing.
 use Prim.Native.Nat.{_*_, _≤_, _<_}
-use mathlib.Core.Path.{_≡_, _∙_}
+use mathlib.Core.Path.{_≡_, sym, _∙_}
 use borrow.Author.Needs.{needs}
 use Rattle.ahead.specs.Looking.{partReads}
 use Rattle.ahead.proofs.Marks.{part-start, here-end, here-user, here-next, here-other, reads-none}
@@ -15,11 +15,8 @@ Inv-loop ram marks address n cell user p₀ left₀ p left =
 abbrev μ-loop : tie.MeasureT-loop
 μ-loop ram marks address n cell user p₀ left₀ p left = left
 
-add-user : tie.Need-add-user Inv-loop μ-loop
-add-user c = search needs
-
-cast-user : tie.Need-cast-user Inv-loop μ-loop
-cast-user c = search needs
+user-high-requires : tie.Need-user-high-requires Inv-loop μ-loop
+user-high-requires c κs = search needs
 
 cast-p : tie.Need-cast-p Inv-loop μ-loop
 cast-p c = search needs
@@ -44,7 +41,7 @@ returns c =
 returns-2 : tie.Need-returns-2 Inv-loop μ-loop
 returns-2 c =
     let l = c .before .before .before .before .loop in
-    here-user _ _ _ (l .left) (l .p) (c .before .before .before .loop-test .taken) (l .inv .0) (c .before .if1 .left) (c .if2 .taken) ∙ l .inv .2
+    here-user _ _ _ (l .left) (l .p) (c .before .before .before .loop-test .taken) (l .inv .0) (c .before .if1 .left) (c .if2 .taken ∙ c .before .before .before .before .before .user-high .ensures) ∙ l .inv .2
 
 add-p : tie.Need-add-p Inv-loop μ-loop
 add-p c = search needs
@@ -55,7 +52,9 @@ element-copy-out-if3 c = search needs
 returns-3 : tie.Need-returns-3 Inv-loop μ-loop
 returns-3 c =
     let l = c .before .before .before .before .before .before .loop in
-    here-next _ _ _ (l .left) (l .p) (c .before .before .before .before .before .loop-test .taken) (l .inv .0) (c .before .before .before .if1 .left) (c .before .before .if2 .left) (c .if3 .taken) ∙ l .inv .2
+    here-next _ _ _ (l .left) (l .p) (c .before .before .before .before .before .loop-test .taken) (l .inv .0) (c .before .before .before .if1 .left)
+    (λ e. c .before .before .if2 .left (e ∙ sym (c .before .before .before .before .before .before .before .user-high .ensures))) (c .if3 .taken)
+    ∙ l .inv .2
 
 sub-left : tie.Need-sub-left Inv-loop μ-loop
 sub-left c = search needs
@@ -68,7 +67,9 @@ loop-again c =
     let l = c .before .before .before .before .before .before .loop in (
       search needs,
       search needs,
-      here-other _ _ _ (l .left) (l .p) (c .before .before .before .before .before .loop-test .taken) (l .inv .0) (c .before .before .before .if1 .left) (c .before .before .if2 .left) (c .if3 .left) ∙ l .inv .2,
+      here-other _ _ _ (l .left) (l .p) (c .before .before .before .before .before .loop-test .taken) (l .inv .0) (c .before .before .before .if1 .left)
+          (λ e. c .before .before .if2 .left (e ∙ sym (c .before .before .before .before .before .before .before .user-high .ensures))) (c .if3 .left)
+          ∙ l .inv .2,
     )
 
 returns-4 : tie.Need-returns-4 Inv-loop μ-loop
@@ -80,8 +81,7 @@ part-reads-spec =
     (tie.spec
     Inv-loop
     μ-loop
-    add-user
-    cast-user
+    user-high-requires
     cast-p
     loop-holds
     mul-high

@@ -1,19 +1,31 @@
 -- `user_shown`: past the user characters there is no slice.
 -- Assumes nothing.
-use borrow.Author.Tests.{lt-ltb, le-ltb}
-use Rattle.ahead.proofs.Rows.{and-false, and-true}
+use mathlib.Core.Path.{sym, ap, _∙_}
+use mathlib.Core.Bool.{and-false, and-true}
 use borrow.Author.Needs.{needs}
+use Rattle.raster.specs.Raster.{sliceShown}
 use Rattle.ahead.proofs.user_shown.Statement.{statement}
 use Rattle.ahead.proofs.user_shown.Tie as tie
 
-returns : tie.Need-returns
-returns c = rw (le-ltb _ _ (c .if1 .taken), and-false)
+of-user-requires : tie.Need-of-user-requires
+of-user-requires c κs = search needs
 
-slice-shown-requires : tie.Need-slice-shown-requires
-slice-shown-requires c κs = search needs
+user-slice-requires : tie.Need-user-slice-requires
+user-slice-requires c κs = search needs
+
+shows-requires : tie.Need-shows-requires
+shows-requires c κs = search needs
+
+returns : tie.Need-returns
+returns c =
+    let u = c .before .before in
+    let a = u .before .before .args in
+    rw (sym (u .before .of-user .ensures) ∙ u .if1 .taken, and-true)
+    (c .shows .ensures ∙ ap (sliceShown (a .line) (a .k) (a .height) (a .zoom)) (c .before .user-slice .ensures .0))
 
 returns-2 : tie.Need-returns-2
-returns-2 c = rw (lt-ltb _ _ (c .before .if1 .left), and-true) (c .slice-shown .ensures)
+returns-2 c = rw (sym (c .before .of-user .ensures) ∙ c .if1 .left, and-false)
 
 pub user-shown-spec : {M : Type 1} → statement M
-user-shown-spec = tie.close (tie.spec returns slice-shown-requires returns-2)
+user-shown-spec =
+    tie.close (tie.spec of-user-requires user-slice-requires shows-requires returns returns-2)

@@ -1,34 +1,34 @@
--- `Strip::of_descriptor`: the test on bit 7 picks the case of `stripOf`.
+-- `Strip::of_descriptor`: bit 7 picks the case of `stripOf`.
 -- Assumes nothing.
-use mathlib.Core.Path.{ap}
-use borrow.Author.Tests.{eq-eqb, ne-eqb}
+use mathlib.Core.Path.{sym, ap, _∙_}
 use Rattle.walk.specs.declared.Strip.the-variants.{Spacing}
 use Rattle.walk.specs.Walk.{stripOf}
 use borrow.Author.Needs.{needs}
 use Rattle.walk.proofs.Strip.of_descriptor.Statement.{statement}
 use Rattle.walk.proofs.Strip.of_descriptor.Tie as tie
 
+is-spacing-requires : tie.Need-is-spacing-requires
+is-spacing-requires c κs = search needs
+
 at-least-one-requires : tie.Need-at-least-one-requires
 at-least-one-requires c κs = search needs
 
 returns : tie.Need-returns
 unfolding stripOf
-returns c = rw (eq-eqb _ _ (c .before .if1 .taken)) (ap Spacing (c .at-least-one .ensures))
+returns c =
+    rw (sym (c .before .before .is-spacing .ensures) ∙ c .before .if1 .taken) (ap Spacing (c .at-least-one .ensures))
 
-cast-even-address : tie.Need-cast-even-address
-cast-even-address c = search needs
-
-mul-even-address : tie.Need-mul-even-address
-mul-even-address c = search needs
-
-add-even-address : tie.Need-add-even-address
-add-even-address c = search needs
-
-even-address-requires : tie.Need-even-address-requires
-even-address-requires c κs = search needs
+code-address-requires : tie.Need-code-address-requires
+code-address-requires c κs = search needs
 
 at-least-one-requires-2 : tie.Need-at-least-one-requires-2
 at-least-one-requires-2 c κs = search needs
+
+zoom-requires : tie.Need-zoom-requires
+zoom-requires c κs = search needs
+
+enabled-requires : tie.Need-enabled-requires
+enabled-requires c κs = search needs
 
 before-first-requires : tie.Need-before-first-requires
 before-first-requires c κs = search needs
@@ -36,18 +36,20 @@ before-first-requires c κs = search needs
 returns-2 : tie.Need-returns-2
 unfolding stripOf
 returns-2 c =
-    rw (ne-eqb _ _ (c .before .before .before .if1 .left), c .before .before .even-address .ensures, c .before .at-least-one2 .ensures, c .before-first .ensures)
+    let e = c .before .before .before .before .before in
+    rw (sym (e .before .is-spacing .ensures) ∙ e .if1 .left)
+    (rw (c .before-first .ensures, c .before .enabled .ensures, c .before .before .zoom .ensures, c .before .before .before .at-least-one2 .ensures, c .before .before .before .before .code-address .ensures))
 
 pub of-descriptor-spec : {M : Type 1} → statement M
 of-descriptor-spec =
     tie.close
     (tie.spec
+    is-spacing-requires
     at-least-one-requires
     returns
-    cast-even-address
-    mul-even-address
-    add-even-address
-    even-address-requires
+    code-address-requires
     at-least-one-requires-2
+    zoom-requires
+    enabled-requires
     before-first-requires
     returns-2)
