@@ -10,7 +10,7 @@ use native.Mathlib.Omega.{arith}
 use lib.Dec.{eqb, ltb}
 use lib.ListN.{length, getD, length-set, List·getD-eq-default}
 use lib.Bits.{bitAnd, and-le-r, and-zero-l}
-use Rattle.refusals.specs.declared.Refusal.the-variants.{RamLength, FontLength, LineLength, NoLine, FrameLines}
+use Rattle.refusals.specs.declared.Refusal.the-variants.{FrameLines}
 use Rattle.refusals.specs.Refusals.{accepted, refused}
 use Rattle.registers.specs.declared.Registers.{Registers}
 use Rattle.registers.specs.Registers.{kept, freshRegisters, stored}
@@ -21,7 +21,8 @@ use Rattle.bus.specs.declared.Effect.the-variants.{Acknowledge, Ignore, Store, 
 use Rattle.bus.specs.Bus.{BusOutcome, step, isRegister, registersWith, taken}
 use Rattle.bus.proofs.Laws.{by-event}
 use Rattle.device.specs.declared.Device.{Device}
-use Rattle.device.specs.Device.{freshDevice, hearEvent, StartOutcome, inFrame, startFrame, notDrawn, lineOn, lineDrawn, lineWidth, drawLine}
+use Rattle.device.specs.Device.{freshDevice, hearEvent, StartOutcome, inFrame, startFrame, DrawOutcome, lineOn, lineDrawn, drawLine}
+use Rattle.device.proofs.OnePage.{by-draw}
 use Rattle.device.specs.Reach.{Reachable, fresh, reset, event, start, draw, UnusedBits}
 
 -- ---- what each call does to the registers
@@ -63,20 +64,9 @@ start-same d lines = by (eqb lines 0 || ltb 2048 lines)
     by false = refl
 
 draw-same : (d : Device) (ram font line : List ℕ) → drawLine d ram font line .device .registers ≡ d .registers
-unfolding drawLine lineDrawn lineOn
+unfolding lineDrawn lineOn
 draw-same d ram font line =
-    by (not (eqb (length ram) 1024)) (not (eqb (length font) 4608)) (eqb (d .frame .left) 0) (ltb (length line) (lineWidth d))
-  where
-    by : (ram? font? left? line? : Bool)
-        → cond ram? (notDrawn d line RamLength)
-        (cond font? (notDrawn d line FontLength)
-        (cond left? (notDrawn d line NoLine) (cond line? (notDrawn d line LineLength) (lineDrawn d ram font line))))
-        .device .registers ≡ d .registers
-    by true font? left? line? = refl
-    by false true left? line? = refl
-    by false false true line? = refl
-    by false false false true = refl
-    by false false false false = refl
+    by-draw d ram font line (λ (x : DrawOutcome). x .device .registers ≡ d .registers) (λ r. refl) (λ ready. refl)
 
 reach-whole : {d : Device} → Reachable d → Whole (d .registers)
 unfolding freshDevice
