@@ -7,6 +7,7 @@ use mathlib.Core.Bool.{Bool, true, false, cond, _&&_, _||_}
 use mathlib.Core.List.{List, [], _∷_, _++_}
 use lib.Dec.{eqb}
 use lib.ListN.{getD, length}
+use Rattle.limits.specs.Limits.{ramLength}
 use Rattle.cells.specs.Reading.{cells, among}
 use Rattle.registers.specs.declared.Settings.{Settings}
 use Rattle.raster.specs.declared.ScanLine.{ScanLine}
@@ -125,7 +126,7 @@ pub record Adds (ram : List ℕ) (c n : ℕ) (b : Bool) (rows : List ℕ) (k : �
 
 -- the cell is one of the RAM, the height one of a strip, and a strip of it that is shown whole shows the cell's slice or not
 pub record Posed (q : Sought) : Type 0 where
-  pub cell : q .cell < 1024
+  pub cell : q .cell < ramLength
   pub some : 1 ≤ q .height
   pub whole : q .whole ≡ userShown (q .cell) beforeFirst (q .height) (q .height) false
 

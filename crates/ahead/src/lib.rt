@@ -3,6 +3,7 @@
 ghost use mathlib.Core.Path.{_≡_};
 ghost use Prim.Native.Nat.{_≤_, _<_, min, max};
 ghost use lib.ListN.{length};
+ghost use Rattle.limits.specs.Limits.{ramLength};
 ghost use Rattle.cells.specs.Reading.{cells, among};
 ghost use Rattle.raster.specs.Raster.{linesAfter};
 ghost use Rattle.walk.specs.Walk.{linesLeft};
@@ -54,8 +55,8 @@ fn codes(settings: Settings) -> u16
 
 // Back from the cell's pair, up to a code that ends a line: rows that start there read the cell.
 fn starts(ram: &[u8], n: u16, cell: u16) -> u16
-    requires { ⌜ length (now ram) ≡ 1024 ⌝ }
-    requires { ⌜ cell < 1024 ⌝ }
+    requires { ⌜ length (now ram) ≡ ramLength ⌝ }
+    requires { ⌜ cell < ramLength ⌝ }
     ensures { λ r. ⌜ Starts (now (ram .entry)) cell n r ⌝ }
 {
     let own = (cell / 2) as usize;
@@ -201,7 +202,7 @@ fn look_lines(
     all: u16,
     descriptor: u16,
 ) -> Looked
-    requires { ⌜ length (now ram) ≡ 1024 ⌝ }
+    requires { ⌜ length (now ram) ≡ ramLength ⌝ }
     requires { ⌜ Kept (now marks) (now rows) already ⌝ }
     requires { ⌜ Posed sought ⌝ }
     ensures { λ r. ⌜ Kept (now (marks .exit)) (now (rows .exit)) (r .listed) ⌝ }
@@ -241,8 +242,8 @@ fn look_lines(
 
 // Do the codes of a row, n at the most, show the cell's user character before the next marked row, which sees the rest?
 fn part_reads<'a>(ram: &'a [u8], marks: &'a [u8; 512], address: u16, n: u16, cell: u16) -> bool
-    requires { ⌜ length (now ram) ≡ 1024 ⌝ }
-    requires { ⌜ cell < 1024 ⌝ }
+    requires { ⌜ length (now ram) ≡ ramLength ⌝ }
+    requires { ⌜ cell < ramLength ⌝ }
     ensures { λ r. ⌜ r ≡ partReads (now (ram .entry)) (now (marks .entry)) cell n address ⌝ }
 {
     let user = glyph::user_high(cell);
@@ -274,8 +275,8 @@ fn rows_read<'a>(
     n: u16,
     cell: u16,
 ) -> bool
-    requires { ⌜ length (now ram) ≡ 1024 ⌝ }
-    requires { ⌜ cell < 1024 ⌝ }
+    requires { ⌜ length (now ram) ≡ ramLength ⌝ }
+    requires { ⌜ cell < ramLength ⌝ }
     requires { ⌜ Kept (now marks) (now rows) listed ⌝ }
     ensures { λ r. ⌜ r ≡ anyRow (now (ram .entry)) cell n (now (rows .entry)) listed ⌝ }
 {
@@ -291,8 +292,8 @@ fn rows_read<'a>(
 
 // What is looked for, of a cell.
 fn seek(ram: &[u8], settings: Settings, n: u16, cell: u16) -> Sought
-    requires { ⌜ length (now ram) ≡ 1024 ⌝ }
-    requires { ⌜ cell < 1024 ⌝ }
+    requires { ⌜ length (now ram) ≡ ramLength ⌝ }
+    requires { ⌜ cell < ramLength ⌝ }
     requires { ⌜ n ≡ codesOf settings ⌝ }
     ensures { λ r. ⌜ (r .cell ≡ cell) × (Posed r × Ready (now (ram .entry)) settings r) ⌝ }
 {
@@ -307,8 +308,8 @@ fn seek(ram: &[u8], settings: Settings, n: u16, cell: u16) -> Sought
 
 // Do the frame's remaining lines read the cell?
 pub fn reads(ram: &[u8], settings: Settings, left: u16, walk: Walk, cell: u16) -> bool
-    requires { ⌜ length (now ram) ≡ 1024 ⌝ }
-    requires { ⌜ cell < 1024 ⌝ }
+    requires { ⌜ length (now ram) ≡ ramLength ⌝ }
+    requires { ⌜ cell < ramLength ⌝ }
     ensures { λ r. ⌜ r ≡ among cell (cells (now (ram .entry)) (remaining settings left walk)) ⌝ }
 {
     let mut marks = [0u8; 512];

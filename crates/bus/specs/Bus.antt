@@ -5,6 +5,7 @@ use mathlib.Core.Bool.{Bool, true, false, not, cond}
 use mathlib.Core.List.{List}
 use lib.Dec.{eqb, leb, ltb}
 use lib.ListN.{length, getD, set, replicate}
+use Rattle.limits.specs.Limits.{ramLength}
 use Rattle.refusals.specs.declared.Refusal.the-variants.{RamLength, NotAcknowledged}
 use Rattle.refusals.specs.Refusals.{Reply, accepted, refused}
 use Rattle.registers.specs.declared.Registers.{Registers}
@@ -27,7 +28,7 @@ freshBus = record { state = Idle; counter = 0 }
 
 -- a fresh device has 1,024 RAM cells, all zero; for the rest of it see the device's freshDevice
 abbrev pub freshRam : List ℕ
-freshRam = replicate 1024 0
+freshRam = replicate ramLength 0
 
 -- an event by its number, for those who number them: 0 start, 1 a byte from the host, 2 a fetch, else stop
 abbrev pub eventOf : ℕ → ℕ → Event
@@ -91,7 +92,7 @@ step b Stop = goes b Idle Acknowledge
 -- ---- the address space: cells 0000 to 03FF are RAM, 3FF0 to 3FFF registers. An address is at most 3FFF
 
 abbrev pub isRam : ℕ → Bool
-isRam a = ltb a 0x400
+isRam a = ltb a ramLength
 
 abbrev pub isRegister : ℕ → Bool
 isRegister a = leb 0x3FF0 a
@@ -146,7 +147,7 @@ taken s r ram =
 -- order of refusals: 1, 5
 unfoldable pub busEvent : Bus → Registers → List ℕ → Event → BusOutcome
 busEvent b r ram e =
-    cond (not (eqb (length ram) 1024))
+    cond (not (eqb (length ram) ramLength))
     (record { bus = b; registers = r; ram = ram; reply = refused RamLength })
     (taken (step b e) r ram)
 

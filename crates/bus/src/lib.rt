@@ -1,11 +1,10 @@
 // The two-wire bus: what an event does to the bus, the registers and the lent RAM, and how it is answered.
 ghost use mathlib.Core.Path.{_≡_};
 ghost use lib.ListN.{length};
+ghost use Rattle.limits.specs.Limits.{ramLength};
 ghost use Rattle.bus.specs.Bus.{freshBus, freshRam, eventOf, goes, steps, slave, byteAt, fetchAt, step, registersWith, ramWith, byteIn, busEvent, outcomeOf, busReply};
 use refusals::Refusal;
 use registers::Registers;
-
-const RAM_LENGTH: usize = 1024;
 
 pub enum Event {
     Start,
@@ -186,7 +185,7 @@ impl Bus {
 pub fn hear(bus: Bus, registers: Registers, ram: &mut [u8], event: Event) -> Heard
     ensures { λ r. ⌜ outcomeOf r (now (ram .exit)) ≡ busEvent bus registers (now (ram .entry)) event ⌝ }
 {
-    if ram.len() != RAM_LENGTH {
+    if ram.len() != limits::RAM_LENGTH {
         return Heard {
             bus: bus,
             registers: registers,
@@ -228,7 +227,7 @@ pub fn hear(bus: Bus, registers: Registers, ram: &mut [u8], event: Event) -> Hea
 
 // A byte to an address: a RAM cell, a register, or nothing.
 fn store(registers: Registers, ram: &mut [u8], address: u16, x: u8) -> Registers
-    requires { ⌜ length (now ram) ≡ 1024 ⌝ }
+    requires { ⌜ length (now ram) ≡ ramLength ⌝ }
     ensures registers { λ r. ⌜ r ≡ registersWith (Effect.Store address x) registers ⌝ }
     ensures ram { λ _. ⌜ now (ram .exit) ≡ ramWith (Effect.Store address x) (now (ram .entry)) ⌝ }
 {
@@ -244,7 +243,7 @@ fn store(registers: Registers, ram: &mut [u8], address: u16, x: u8) -> Registers
 
 // The byte at an address: a RAM cell's, a register's, or 0.
 fn load(registers: Registers, ram: &[u8], address: u16) -> u8
-    requires { ⌜ length (now ram) ≡ 1024 ⌝ }
+    requires { ⌜ length (now ram) ≡ ramLength ⌝ }
     ensures { λ r. ⌜ r ≡ byteIn address registers (now (ram .entry)) ⌝ }
 {
     if address < 0x400 {

@@ -6,6 +6,7 @@ use mathlib.Core.Bool.{Bool, true, false, not, cond, _||_}
 use mathlib.Core.List.{List, [], _∷_, _++_}
 use lib.Dec.{eqb, leb, ltb}
 use lib.ListN.{length, drop}
+use Rattle.limits.specs.Limits.{ramLength, fontLength, frameLines}
 use Rattle.cells.specs.Reading.{Reading, value, cells, among}
 use Rattle.refusals.specs.declared.Refusal.{Refusal}
 use Rattle.refusals.specs.declared.Refusal.the-variants.{RamLength, FontLength, LineLength, NoLine, FrameLines, CellRange}
@@ -100,7 +101,7 @@ inFrame d lines =
 -- a frame start names its lines, 1 to 2,048; else refusal 6
 unfoldable pub startFrame : Device → ℕ → StartOutcome
 startFrame d lines =
-    cond (eqb lines 0 || ltb 2048 lines)
+    cond (eqb lines 0 || ltb frameLines lines)
     (record { device = d; reply = refused FrameLines })
     (record { device = inFrame d lines; reply = accepted 0 })
 
@@ -152,8 +153,8 @@ lineDrawn d ram font line =
 -- order of refusals: 1, 2, 4, 3, by the lengths that are lent
 unfoldable pub drawVerdict : Device → ℕ → ℕ → ℕ → Verdict
 drawVerdict d ram font line =
-    refuseIf (not (eqb ram 1024)) RamLength
-    (refuseIf (not (eqb font 4608)) FontLength
+    refuseIf (not (eqb ram ramLength)) RamLength
+    (refuseIf (not (eqb font fontLength)) FontLength
     (refuseIf (eqb (d .frame .left) 0) NoLine
     (refuseIf (ltb line (lineWidth d)) LineLength passed)))
 
@@ -176,6 +177,6 @@ cellsLeft d ram = cells ram (remaining (settingsOf (d .registers)) (d .frame .le
 -- the cell question (document 01's term). Order of refusals: 1, 8. Without a running frame the cell question answers no
 unfoldable pub askCell : Device → List ℕ → ℕ → Reply
 askCell d ram c =
-    cond (not (eqb (length ram) 1024))
+    cond (not (eqb (length ram) ramLength))
     (refused RamLength)
-    (cond (leb 1024 c) (refused CellRange) (accepted (cond (among c (cellsLeft d ram)) 1 0)))
+    (cond (leb ramLength c) (refused CellRange) (accepted (cond (among c (cellsLeft d ram)) 1 0)))

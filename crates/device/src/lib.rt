@@ -10,10 +10,6 @@ use refusals::Refusal;
 use registers::Registers;
 use walk::Walk;
 
-const RAM_LENGTH: usize = 1024;
-
-const FONT_LENGTH: usize = 4608;
-
 pub struct Frame {
     // lines still to draw; 0: no frame, or all its lines drawn
     pub left: u16,
@@ -115,7 +111,7 @@ impl Device {
         if lines == 0 {
             return self.not_started();
         }
-        if lines > 2048 {
+        if lines > limits::FRAME_LINES {
             return self.not_started();
         }
         let bus = self.bus;
@@ -148,10 +144,10 @@ impl Device {
     pub fn draw_line<'a>(self, ram: &'a [u8], font: &'a [u8], line: &mut [u8]) -> DrawDone
         ensures { λ r. ⌜ drawOutcome r (now (line .exit)) ≡ drawLine self (now (ram .entry)) (now (font .entry)) (now (line .entry)) ⌝ }
     {
-        if ram.len() != RAM_LENGTH {
+        if ram.len() != limits::RAM_LENGTH {
             return self.not_drawn(Refusal::RamLength);
         }
-        if font.len() != FONT_LENGTH {
+        if font.len() != limits::FONT_LENGTH {
             return self.not_drawn(Refusal::FontLength);
         }
         let frame = self.frame;
@@ -186,10 +182,10 @@ impl Device {
     pub fn ask(self, ram: &[u8], cell: u32) -> CellAnswer
         ensures { λ r. ⌜ cellReply r ≡ askCell self (now (ram .entry)) cell ⌝ }
     {
-        if ram.len() != RAM_LENGTH {
+        if ram.len() != limits::RAM_LENGTH {
             return CellAnswer::Refused(Refusal::RamLength);
         }
-        if cell >= 1024 {
+        if cell >= limits::RAM_CELLS as u32 {
             return CellAnswer::Refused(Refusal::CellRange);
         }
         let registers = self.registers;

@@ -3,12 +3,13 @@
 use Prim.Native.Nat.{ℕ, _+_, _/_, _%_}
 use mathlib.Core.Bool.{Bool}
 use lib.Dec.{ltb}
+use Rattle.limits.specs.Limits.{userCells}
 use Rattle.raster.specs.declared.Slice.{Slice}
 use Rattle.glyph.specs.Glyph.{userCell}
 
 -- it is a cell of the user characters 0 to 25
 abbrev pub ofUser : ℕ → Bool
-ofUser c = ltb c (userCell 26 0)
+ofUser c = ltb c userCells
 
 -- the high byte of its character's code
 abbrev pub userHigh : ℕ → ℕ

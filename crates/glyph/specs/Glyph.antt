@@ -6,6 +6,7 @@ use mathlib.Core.Bool.{Bool, true, false, cond}
 use mathlib.Core.List.{List}
 use lib.Dec.{eqb, ltb}
 use lib.ListN.{length, getD, take, drop}
+use Rattle.limits.specs.Limits.{ramLength, fontLength}
 use Rattle.cells.specs.Reading.{slice, Reading, done, read, value, cells}
 use Rattle.raster.specs.declared.Slice.{Slice}
 use Rattle.glyph.specs.declared.Shown.{Shown}
@@ -59,8 +60,8 @@ slicePart ram f high s =
 
 -- the RAM and the font are lent at their lengths
 pub record Lent (ram f : List ℕ) : Type 0 where
-  pub ram-length : length ram ≡ 1024
-  pub font-length : length f ≡ 4608
+  pub ram-length : length ram ≡ ramLength
+  pub font-length : length f ≡ fontLength
 
 -- a slice that has two bytes: of a font character from 1, of a user character from 0
 pub record Sliced (high s : ℕ) : Type 0 where

@@ -2,6 +2,7 @@
 ghost use mathlib.Core.Path.{_≡_};
 ghost use Prim.Native.Nat.{_<_};
 ghost use lib.ListN.{length};
+ghost use Rattle.limits.specs.Limits.{ramLength};
 ghost use Rattle.glyph.specs.Glyph.{twelve, slicePart, Lent, Sliced, shownIn};
 ghost use Rattle.raster.specs.Raster.{InCharacter};
 ghost use Rattle.glyph.specs.Words.{inOrder, wordIn};
@@ -116,19 +117,16 @@ pub fn word_shown<'a>(ram: &'a [u8], font: &'a [u8], high: u8, slice: Slice) -> 
     }
 }
 
-// The cells of the 26 user characters.
-const USER_CELLS: u16 = 988;
-
-// Is a cell one of theirs?
+// Is a cell one of a user character's?
 pub fn of_user(cell: u16) -> bool
     ensures { λ r. ⌜ r ≡ ofUser cell ⌝ }
 {
-    cell < USER_CELLS
+    cell < limits::USER_CELLS
 }
 
 // The high byte of the code whose user character a cell belongs to.
 pub fn user_high(cell: u16) -> u8
-    requires { ⌜ cell < 1024 ⌝ }
+    requires { ⌜ cell < ramLength ⌝ }
     ensures { λ r. ⌜ r ≡ userHigh cell ⌝ }
 {
     (128 + cell / 38) as u8

@@ -6,6 +6,7 @@ use mathlib.Core.Path.{_≡_}
 use mathlib.Core.List.{List}
 use lib.Dec.{T}
 use lib.ListN.{length, getD}
+use Rattle.limits.specs.Limits.{ramLength, lineCells}
 use Rattle.cells.specs.Reading.{Reading, descriptor, code, slice, cells, cellsAs, among}
 use Rattle.registers.specs.declared.Registers.{Registers}
 use Rattle.registers.specs.Registers.{settingsOf}
@@ -22,9 +23,9 @@ pub record FewCells (line : Reading Scanned) (ram : List ℕ) : Type 0 where
   -- 61 user slices, of two cells each
   pub slices : length (cellsAs slice ram line) ≤ 2 * 61
   -- so at most 246, a cell read twice counted twice
-  pub most : length (cells ram line) ≤ 246
+  pub most : length (cells ram line) ≤ lineCells
   -- each is a cell of the RAM
-  pub below : (c : ℕ) → T (among c (cells ram line)) → c < 1024
+  pub below : (c : ℕ) → T (among c (cells ram line)) → c < ramLength
 
 -- the claim: every line reads so few cells
 abbrev pub MostCells : Type 0

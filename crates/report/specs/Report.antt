@@ -7,6 +7,7 @@ use mathlib.Core.Bool.{not, cond}
 use mathlib.Core.List.{List, [], _∷_, _++_, map}
 use lib.Dec.{eqb, ltb}
 use lib.ListN.{length, getD, take, drop, replicate}
+use Rattle.limits.specs.Limits.{ramLength, fontLength}
 use Rattle.refusals.specs.declared.Refusal.the-variants.{BenchLength}
 use Rattle.refusals.specs.Refusals.{refused}
 use Rattle.registers.specs.Registers.{loaded}
@@ -17,13 +18,13 @@ use Rattle.report.specs.declared.LineDone.{LineDone}
 -- ---- standard input: RAM, sixteen registers, font, line count low byte first
 
 abbrev pub ramPart : List ℕ → List ℕ
-ramPart input = take 1024 input
+ramPart input = take ramLength input
 
 abbrev pub registersPart : List ℕ → List ℕ
 registersPart input = take 16 (drop 1024 input)
 
 abbrev pub fontPart : List ℕ → List ℕ
-fontPart input = take 4608 (drop 1040 input)
+fontPart input = take fontLength (drop 1040 input)
 
 abbrev pub lineCount : List ℕ → ℕ
 lineCount input = getD input 5648 0 + 256 * getD input 5649 0

@@ -2,6 +2,7 @@
 ghost use mathlib.Core.Path.{_≡_};
 ghost use mathlib.Core.Bool.{false};
 ghost use lib.ListN.{length};
+ghost use Rattle.limits.specs.Limits.{ramLength};
 ghost use Rattle.walk.specs.Walk.{even, walkFrom, atLeastOne, isSpacing, enabledBy, zoomedBy, codesAt, showsCodes, stripOf, over, linesLeft, advanced, walked};
 use raster::ScanLine;
 
@@ -187,7 +188,7 @@ impl Walk {
 
     // The walk at the frame's next line. A descriptor is read, and CH taken, where the strip on screen is over.
     pub fn next_line(self, ram: &[u8], ch: u8) -> Walked
-        requires { ⌜ length (now ram) ≡ 1024 ⌝ }
+        requires { ⌜ length (now ram) ≡ ramLength ⌝ }
         ensures { λ r. ⌜ r ≡ walked (now (ram .entry)) ch self ⌝ }
     {
         let strip = self.strip;

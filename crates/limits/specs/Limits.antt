@@ -1,0 +1,23 @@
+-- Lengths and limits of document 01, each named once.
+-- Assumes nothing.
+use Prim.Native.Nat.{ℕ}
+
+-- the lent RAM has 1,024 bytes, which are cells 0 to 1,023
+abbrev pub ramLength : ℕ
+ramLength = 1024
+
+-- the lent font has 4,608 bytes: 128 characters of 36
+abbrev pub fontLength : ℕ
+fontLength = 4608
+
+-- the 26 user characters have 38 cells each
+abbrev pub userCells : ℕ
+userCells = 988
+
+-- a frame has 1 to 2,048 lines
+abbrev pub frameLines : ℕ
+frameLines = 2048
+
+-- a line reads at most 246 cells
+abbrev pub lineCells : ℕ
+lineCells = 246

@@ -1,0 +1,14 @@
+// Lengths and limits, each named once. specs/Limits.antt has the same names for definitions.
+
+// Bytes of the lent RAM, and of the lent font.
+pub const RAM_LENGTH: usize = 1024;
+
+pub const FONT_LENGTH: usize = 4608;
+
+// RAM cells: those that there are, and those of the 26 user characters.
+pub const RAM_CELLS: u16 = 1024;
+
+pub const USER_CELLS: u16 = 988;
+
+// Lines of a frame at the most.
+pub const FRAME_LINES: u32 = 2048;
