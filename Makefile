@@ -4,7 +4,7 @@ CFLAGS = -std=c11 -O2 -Wall -Wextra -Werror -pedantic -Iinclude
 CARGO = CARGO_TARGET_DIR=target/cargo cargo
 MANIFEST = --quiet --offline --manifest-path compare/Cargo.toml
 
-.PHONY: demo library example model comparison speed
+.PHONY: demo library example model comparison speed ports port-known ports-refusals ports-test
 
 # the picture: proves, builds and runs it, and shows it as text
 demo:
@@ -14,9 +14,27 @@ demo:
 	@echo "the picture: $(CURDIR)/target/demo/frame.ppm"
 	@target/bin/preview < target/demo/frame.ppm
 
-# proves osd and all below it, and writes target/staticlib/libosd.a
+# proves osd and all below it, and writes target/staticlib/libosd.a (rt staticlib osd); its module is kept for the ports
 library:
-	rt staticlib osd
+	ports/library
+
+# the library for ARM, RISC-V and WebAssembly, under target/ports/ (docs/PORTS.md); PORT names one, before anything is proved
+ports: port-known library
+	ports/build $(PORT)
+
+port-known:
+	@ports/build --known $(PORT)
+
+# what the ports' build must refuse: wrong names, modules that mean something else elsewhere, code that needs more than it may
+ports-refusals: library
+	ports/refusals
+
+# the ports against the independent implementation, emulated or in Node, where they are installed; PORT, SEED and SESSIONS can be given
+ports-test: ports
+	mkdir -p target/ports-test
+	$(CARGO) run $(MANIFEST) --release --bin trace -- target/ports-test/trace crates/demo/stdin $(SEED) $(SESSIONS) > target/ports-test/expected
+	$(CARGO) run $(MANIFEST) --release --bin trace -- target/ports-test/trace.short crates/demo/stdin 9425 60 > target/ports-test/expected.short
+	ports/test $(PORT)
 
 # the C example against its stored output (tests/door_monitor.py)
 example: library

@@ -5,8 +5,15 @@
  * hands out each scan line's red, green, blue and fast blanking. Every function is proved to end and to stay within the buffers
  * that you lend it, for any bytes in them.
  *
- * It allocates nothing and keeps no state outside these buffers. It needs memset from your C library and nothing else (a bare-metal
- * build must supply one). It is x86-64 ELF code for the System V calling convention, and uses SSE registers.
+ * It allocates nothing and keeps no state outside these buffers. It needs memset from your C library, and __aeabi_uidiv from the
+ * compiler's run-time where an ARM has no division (thumbv6m, armv7a); nothing else. Where there is no C library, three lines do:
+ *
+ *     void *memset(void *to, int byte, size_t n) {
+ *         for (volatile uint8_t *p = to; n > 0; n--) *p++ = (uint8_t)byte;   // volatile: else a compiler may put in a memset for it
+ *         return to; }
+ *
+ * `make library` makes it for x86-64 (ELF, System V calls; it uses SSE registers), `make ports` for ARM, RISC-V and WebAssembly
+ * (docs/PORTS.md). This header is right on all of them: a length is 64 bits wide everywhere, also where size_t is not.
  *
  * Buffers. You own all of them; the library keeps no pointer after a call has returned.
  *
@@ -66,6 +73,9 @@
 #ifdef __cplusplus
 extern "C" {
 #endif
+
+/* The length of a buffer, in bytes. `sizeof` of the buffer fits on every machine, without a cast. */
+typedef uint64_t osd_len;
 
 /* Lengths, in bytes. */
 #define OSD_DEVICE_LEN 32
@@ -205,40 +215,40 @@ uint32_t osd_device_len(void);
  * Makes a fresh device, whatever the bytes were. A new part's RAM is all zero: clear yours if you want that.
  * Refusal: OSD_NOT_TAKEN. Value 0.
  */
-uint32_t osd_fresh(uint8_t *device, size_t device_len);
+uint32_t osd_fresh(uint8_t *device, osd_len device_len);
 
 /*
  * As osd_fresh: registers to their reset values, bus idle, counter 0, no frame, next frame number 0. The RAM stays.
  * Refusal: OSD_NOT_TAKEN. Value 0.
  */
-uint32_t osd_reset(uint8_t *device, size_t device_len);
+uint32_t osd_reset(uint8_t *device, osd_len device_len);
 
 /*
  * One event on the two-wire bus. `byte` is ignored unless kind is OSD_BYTE.
  * Refusals: OSD_NOT_TAKEN, OSD_RAM_LENGTH, OSD_NOT_ACKNOWLEDGED. Value: the byte that a fetch reads; 0 with other events, 255 where
  * the event is not acknowledged.
  */
-uint32_t osd_bus(uint8_t *device, size_t device_len, uint8_t *ram, size_t ram_len, uint8_t kind, uint8_t byte);
+uint32_t osd_bus(uint8_t *device, osd_len device_len, uint8_t *ram, osd_len ram_len, uint8_t kind, uint8_t byte);
 
 /*
  * Starts a frame of 1 to 2,048 lines, with the page that P names now and the next frame number (0 to 63 and round again; flashing
  * goes by it). A frame that still runs is abandoned. A refused start uses up no number.
  * Refusals: OSD_NOT_TAKEN, OSD_FRAME_LINES. Value 0.
  */
-uint32_t osd_frame_start(uint8_t *device, size_t device_len, uint32_t lines);
+uint32_t osd_frame_start(uint8_t *device, osd_len device_len, uint32_t lines);
 
 /*
  * Draws the frame's next line into `line`.
  * Refusals: OSD_NOT_TAKEN, OSD_RAM_LENGTH, OSD_FONT_LENGTH, OSD_NO_LINE, OSD_LINE_LENGTH. Value: how many RAM cells the line read.
  */
-uint32_t osd_draw(uint8_t *device, size_t device_len, const uint8_t *ram, size_t ram_len, const uint8_t *font, size_t font_len,
-                  uint8_t *line, size_t line_len);
+uint32_t osd_draw(uint8_t *device, osd_len device_len, const uint8_t *ram, osd_len ram_len, const uint8_t *font, osd_len font_len,
+                  uint8_t *line, osd_len line_len);
 
 /*
  * Do the frame's remaining lines read this cell, with RAM and registers as they stand?
  * Refusals: OSD_NOT_TAKEN, OSD_RAM_LENGTH, OSD_CELL_RANGE. Value: 1 yes, 0 no (and without a running frame).
  */
-uint32_t osd_cell(const uint8_t *device, size_t device_len, const uint8_t *ram, size_t ram_len, uint32_t cell);
+uint32_t osd_cell(const uint8_t *device, osd_len device_len, const uint8_t *ram, osd_len ram_len, uint32_t cell);
 
 #ifdef __cplusplus
 }

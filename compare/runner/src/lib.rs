@@ -1,5 +1,10 @@
-//! What the comparison and the race share: the proved library's functions, and a source of random numbers.
+//! What the comparison, the traces and the race share: the library's calls, and random sessions of them.
 
+pub mod lent;
+pub mod library;
 pub mod linked;
 pub mod pages;
 pub mod random;
+pub mod recorder;
+pub mod sample;
+pub mod sessions;

@@ -1,5 +1,6 @@
 //! Random numbers from a seed (splitmix64), so that every run can be run again.
 
+#[derive(Clone)]
 pub struct Random(u64);
 
 impl Random {
@@ -13,6 +14,11 @@ impl Random {
         z = (z ^ (z >> 30)).wrapping_mul(0xBF58_476D_1CE4_E5B9);
         z = (z ^ (z >> 27)).wrapping_mul(0x94D0_49BB_1331_11EB);
         z ^ (z >> 31)
+    }
+
+    /// What the next numbers follow from: `Random::new` of it gives them again.
+    pub fn state(&self) -> u64 {
+        self.0
     }
 
     /// A number below `n`.

@@ -1,0 +1,47 @@
+//! The calls of include/osd.h on lent buffers: of the proved library, or of what stands in for it.
+
+use crate::lent::Lent;
+use crate::linked;
+
+pub trait Library {
+    fn fresh(&mut self, device: &mut Lent) -> u32;
+    fn reset(&mut self, device: &mut Lent) -> u32;
+    fn bus(&mut self, device: &mut Lent, ram: &mut Lent, kind: u8, byte: u8) -> u32;
+    fn frame_start(&mut self, device: &mut Lent, lines: u32) -> u32;
+    fn draw(&mut self, device: &mut Lent, ram: &Lent, font: &Lent, line: &mut Lent) -> u32;
+    fn cell(&mut self, device: &Lent, ram: &Lent, cell: u32) -> u32;
+
+    /// The calls that follow belong to this seed's session; with made-up records nobody knows what they answer.
+    fn session(&mut self, seed: u64, made_up: bool);
+}
+
+/// The proved library.
+pub struct Linked;
+
+impl Library for Linked {
+    fn fresh(&mut self, device: &mut Lent) -> u32 {
+        linked::fresh(device.get_mut())
+    }
+
+    fn reset(&mut self, device: &mut Lent) -> u32 {
+        linked::reset(device.get_mut())
+    }
+
+    fn bus(&mut self, device: &mut Lent, ram: &mut Lent, kind: u8, byte: u8) -> u32 {
+        linked::bus(device.get_mut(), ram.get_mut(), kind, byte)
+    }
+
+    fn frame_start(&mut self, device: &mut Lent, lines: u32) -> u32 {
+        linked::frame_start(device.get_mut(), lines)
+    }
+
+    fn draw(&mut self, device: &mut Lent, ram: &Lent, font: &Lent, line: &mut Lent) -> u32 {
+        linked::draw(device.get_mut(), ram.get(), font.get(), line.get_mut())
+    }
+
+    fn cell(&mut self, device: &Lent, ram: &Lent, cell: u32) -> u32 {
+        linked::cell(device.get(), ram.get(), cell)
+    }
+
+    fn session(&mut self, _seed: u64, _made_up: bool) {}
+}

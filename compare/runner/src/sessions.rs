@@ -1,0 +1,316 @@
+//! Random sessions: calls on a library and on the independent implementation, compared call by call.
+//!
+//! Every answer, every byte of every buffer (the device's record too) and every byte around the buffers is compared after every call.
+
+use crate::lent::Lent;
+use crate::library::Library;
+use crate::pages::{random_page, FONT, RAM};
+use crate::random::Random;
+use osd_model::{Device, Event, Refusal};
+use std::process::exit;
+
+const CALLS: u32 = 400;
+pub const DEFAULT_SEED: u64 = 9425;
+pub const DEFAULT_SESSIONS: u64 = 600;
+
+/// refusal × 65,536 + value, as the header says.
+pub fn packed(answer: Result<u32, Refusal>) -> u32 {
+    match answer {
+        Ok(value) => value,
+        Err(refusal) => u32::from(refusal.number()) << 16 | u32::from(refusal.bus_byte()),
+    }
+}
+
+struct Session<'a, L> {
+    library: &'a mut L,
+    random: Random,
+    seed: u64,
+    call: u32,
+    model: Device,
+    model_ram: Vec<u8>,
+    device: Lent,
+    ram: Lent,
+    font: Lent,
+    counts: [u64; 256],
+}
+
+impl<L: Library> Session<'_, L> {
+    fn new(library: &mut L, seed: u64) -> Session<'_, L> {
+        library.session(seed, false);
+        let mut random = Random::new(seed);
+        let mut page = vec![0; RAM];
+        if !random.one_in(8) {
+            random_page(&mut random, &mut page);
+        }
+        let mut device = Lent::new(&mut random, 32);
+        assert_eq!(library.fresh(&mut device), 0);
+        Session {
+            library,
+            ram: Lent::copy_of(&mut random, &page),
+            font: Lent::new(&mut random, FONT),
+            random,
+            seed,
+            call: 0,
+            model: Device::fresh(),
+            model_ram: page,
+            device,
+            counts: [0; 256],
+        }
+    }
+
+    fn differs(&self, what: &str, ours: impl std::fmt::Debug, model: impl std::fmt::Debug) -> ! {
+        println!("seed {} call {}: {what}: library {ours:?}, model {model:?}", self.seed, self.call);
+        exit(1);
+    }
+
+    fn same<T: PartialEq + std::fmt::Debug>(&self, what: &str, ours: T, model: T) {
+        if ours != model {
+            self.differs(what, ours, model);
+        }
+    }
+
+    /// After every call: the answer, the record, the RAM and what lies around them.
+    fn check(&mut self, what: &str, ours: u32, model: u32) {
+        self.same(what, ours, model);
+        self.same("record", self.device.get(), &self.model.to_bytes()[..]);
+        self.same("RAM", self.ram.get(), &self.model_ram[..]);
+        let held = self.device.guards_hold() && self.ram.guards_hold() && self.font.guards_hold();
+        self.same("bytes around the buffers", held, true);
+        self.counts[(ours >> 16) as usize] += 1;
+        self.call += 1;
+    }
+
+    fn event(&mut self, kind: u8, byte: u8) {
+        let event = match kind {
+            0 => Event::Start,
+            1 => Event::Byte(byte),
+            2 => Event::Fetch,
+            _ => Event::Stop,
+        };
+        let model = packed(self.model.bus(&mut self.model_ram, event).map(u32::from));
+        let ours = self.library.bus(&mut self.device, &mut self.ram, kind, byte);
+        self.check("bus event", ours, model);
+    }
+
+    /// A store or a read of some bytes, as a host makes it.
+    fn transfer(&mut self) {
+        let address = match self.random.below(4) {
+            0 => 0x3FF0 + self.random.below(16),
+            1 => self.random.below(0x4000),
+            _ => self.random.below(RAM as u64 + 4),
+        };
+        self.event(0, 0);
+        self.event(1, 0xBA);
+        // The two highest bits of an address do not count.
+        let spare = self.random.byte();
+        self.event(1, (address >> 8) as u8 | spare & 0xC0);
+        self.event(1, address as u8);
+        if self.random.one_in(2) {
+            self.event(0, spare);
+            self.event(1, 0xBB);
+        }
+        for _ in 0..self.random.below(6) {
+            let kind = 1 + u8::from(self.random.one_in(3));
+            let byte = self.random.byte();
+            self.event(kind, byte);
+        }
+        self.event(3, spare);
+    }
+
+    /// Registers from 3FF0 on, over the bus.
+    fn settings(&mut self, values: &[u8]) {
+        for (kind, byte) in [(0, 0), (1, 0xBA), (1, 0x3F), (1, 0xF0)] {
+            self.event(kind, byte);
+        }
+        for &byte in values {
+            self.event(1, byte);
+        }
+        self.event(3, 0);
+    }
+
+    /// Settings that show something: mostly with the display on, and a CH of every size.
+    fn display(&mut self) {
+        let ld = if self.random.one_in(3) { 63 } else { self.random.byte() };
+        let dd = if self.random.one_in(4) { self.random.byte() } else { self.random.below(40) as u8 };
+        let ch = self.random.byte();
+        let ch = self.random.pick(&[0, 1, 9, 12, 18, 18, 36, 37, 63, ch]);
+        let control = self.random.byte() | if self.random.one_in(8) { 0 } else { 0x80 };
+        self.settings(&[ld, dd, ch, control]);
+    }
+
+    fn any_event(&mut self) {
+        let kind = self.random.below(4) as u8;
+        let byte = if self.random.one_in(2) { self.random.pick(&[0xBA, 0xBB]) } else { self.random.byte() };
+        self.event(kind, byte);
+    }
+
+    fn frame_start(&mut self) {
+        let lines = match self.random.below(6) {
+            0 => self.random.pick(&[0, 1, 2048, 2049, 65_536, 65_537, u32::MAX]),
+            1 => self.random.next() as u32,
+            _ => 1 + self.random.below(300) as u32,
+        };
+        let model = packed(self.model.frame_start(lines).map(|()| 0));
+        let ours = self.library.frame_start(&mut self.device, lines);
+        self.check("frame start", ours, model);
+    }
+
+    /// A buffer length that is right, off by one, or any.
+    fn length(&mut self, right: usize) -> usize {
+        match self.random.below(12) {
+            0 => right - 1,
+            1 => right + 1,
+            2 => self.random.below(2 * right as u64) as usize,
+            3 => 0,
+            _ => right,
+        }
+    }
+
+    fn draw(&mut self) {
+        let width = self.model.width();
+        let room = if self.random.one_in(2) { 0 } else { self.random.below(40) as usize };
+        let len = self.length(width) + room;
+        let mut line = Lent::new(&mut self.random, len);
+        let mut model_line = line.get().to_vec();
+        let wrong_ram = self.random.one_in(20).then(|| self.length(RAM));
+        let wrong_font = self.random.one_in(20).then(|| self.length(FONT));
+        let other_ram = wrong_ram.map(|len| Lent::new(&mut self.random, len));
+        let other_font = wrong_font.map(|len| Lent::new(&mut self.random, len));
+        let ram = other_ram.as_ref().unwrap_or(&self.ram).get().to_vec();
+        let font = other_font.as_ref().unwrap_or(&self.font);
+        let model = packed(self.model.draw(&ram, font.get(), &mut model_line));
+        let lent_ram = other_ram.as_ref().unwrap_or(&self.ram);
+        let ours = self.library.draw(&mut self.device, lent_ram, font, &mut line);
+        self.same("line", line.get(), &model_line[..]);
+        self.same("bytes around the line", line.guards_hold(), true);
+        self.check("draw", ours, model);
+    }
+
+    fn question(&mut self) {
+        let cell = match self.random.below(8) {
+            0 => self.random.pick(&[1023, 1024, 1025, 65_535, 65_536, 65_537, u32::MAX]),
+            _ => self.random.below(RAM as u64) as u32,
+        };
+        self.ask(cell);
+    }
+
+    fn ask(&mut self, cell: u32) {
+        let model = packed(self.model.cell(&self.model_ram, cell).map(u32::from));
+        let ours = self.library.cell(&self.device, &self.ram, cell);
+        self.check("cell question", ours, model);
+    }
+
+    /// Calls that the interface itself refuses, or for the RAM's length: nothing changes.
+    fn refused(&mut self) {
+        const NOT_TAKEN: u32 = 255 << 16;
+        let len = [0, 1, 31, 33, 64][self.random.below(5) as usize];
+        let mut other = Lent::new(&mut self.random, len);
+        let before = other.get().to_vec();
+        let kind = self.random.byte();
+        let byte = self.random.byte();
+        let ram_len = self.length(RAM);
+        let mut ram = Lent::new(&mut self.random, ram_len);
+        let ram_before = ram.get().to_vec();
+        let mut line = Lent::new(&mut self.random, 768);
+        let line_before = line.get().to_vec();
+        let number = self.random.next() as u32;
+        for answer in [
+            self.library.fresh(&mut other),
+            self.library.reset(&mut other),
+            self.library.bus(&mut other, &mut ram, kind, byte),
+            self.library.frame_start(&mut other, number),
+            self.library.draw(&mut other, &ram, &self.font, &mut line),
+            self.library.cell(&other, &ram, number),
+        ] {
+            self.check("record of another length", answer, NOT_TAKEN);
+        }
+        let kind = 4 + self.random.below(252) as u8;
+        let answer = self.library.bus(&mut self.device, &mut ram, kind, byte);
+        self.check("kind above 3", answer, NOT_TAKEN);
+        if ram_len != RAM {
+            let kind = self.random.below(4) as u8;
+            let answer = self.library.bus(&mut self.device, &mut ram, kind, byte);
+            self.check("bus event, RAM length", answer, 1 << 16);
+            let answer = self.library.cell(&self.device, &ram, number);
+            self.check("cell question, RAM length", answer, 1 << 16);
+        }
+        self.same("refused: record", other.get(), &before[..]);
+        self.same("refused: RAM", ram.get(), &ram_before[..]);
+        self.same("refused: line", line.get(), &line_before[..]);
+        let held = other.guards_hold() && ram.guards_hold() && line.guards_hold();
+        self.same("bytes around the buffers", held, true);
+    }
+
+    fn reset(&mut self) {
+        self.model.reset();
+        let ours = self.library.reset(&mut self.device);
+        self.check("reset", ours, 0);
+    }
+
+    fn run(&mut self) {
+        self.display();
+        self.frame_start();
+        while self.call < CALLS {
+            match self.random.below(20) {
+                0..=3 => self.transfer(),
+                4 if self.random.one_in(4) => self.display(),
+                4 => self.transfer(),
+                5 => self.any_event(),
+                6 => self.frame_start(),
+                7..=15 => self.draw(),
+                16..=17 => self.question(),
+                18 => self.refused(),
+                _ if self.random.one_in(10) => self.reset(),
+                _ => self.any_event(),
+            }
+        }
+        for cell in 0..RAM as u32 {
+            self.ask(cell);
+        }
+    }
+}
+
+/// Corrupted records: no comparison, only that every call ends and touches no byte outside its buffers, and none of
+/// those that it only reads.
+pub fn corrupted<L: Library>(library: &mut L, seed: u64) -> u64 {
+    library.session(seed, true);
+    let mut random = Random::new(!seed);
+    let mut calls = 0;
+    for _ in 0..40 {
+        let mut device = Lent::new(&mut random, 32);
+        let ram_len = if random.one_in(8) { random.below(2000) as usize } else { RAM };
+        let font_len = if random.one_in(8) { random.below(9000) as usize } else { FONT };
+        let line_len = random.below(900) as usize;
+        let mut ram = Lent::new(&mut random, ram_len);
+        let font = Lent::new(&mut random, font_len);
+        let mut line = Lent::new(&mut random, line_len);
+        let font_before = font.get().to_vec();
+        for _ in 0..6 {
+            let kind = random.byte() % 5;
+            let byte = random.byte();
+            let number = random.below(1100) as u32;
+            library.cell(&device, &ram, number);
+            let ram_before = ram.get().to_vec();
+            library.draw(&mut device, &ram, &font, &mut line);
+            if random.one_in(6) {
+                library.frame_start(&mut device, number);
+            }
+            let same_ram = ram.get() == &ram_before[..];
+            library.bus(&mut device, &mut ram, kind, byte);
+            calls += 4;
+            let held = device.guards_hold() && ram.guards_hold() && font.guards_hold() && line.guards_hold();
+            if !held || !same_ram || font.get() != &font_before[..] {
+                println!("seed {seed}: a corrupted record changed bytes outside");
+                exit(1);
+            }
+        }
+    }
+    calls
+}
+
+/// Plays a seed's session, and answers how often each refusal was given. Ends the program at the first difference.
+pub fn play<L: Library>(library: &mut L, seed: u64) -> [u64; 256] {
+    let mut session = Session::new(library, seed);
+    session.run();
+    session.counts
+}
