@@ -185,7 +185,7 @@ impl Device {
         if ram.len() != limits::RAM_LENGTH {
             return CellAnswer::Refused(Refusal::RamLength);
         }
-        if cell >= limits::RAM_CELLS as u32 {
+        if cell >= limits::RAM_CELLS {
             return CellAnswer::Refused(Refusal::CellRange);
         }
         let registers = self.registers;

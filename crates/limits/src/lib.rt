@@ -6,7 +6,7 @@ pub const RAM_LENGTH: usize = 1024;
 pub const FONT_LENGTH: usize = 4608;
 
 // RAM cells: those that there are, and those of the 26 user characters.
-pub const RAM_CELLS: u16 = 1024;
+pub const RAM_CELLS: u32 = 1024;
 
 pub const USER_CELLS: u16 = 988;
 
