@@ -4,7 +4,7 @@ CFLAGS = -std=c11 -O2 -Wall -Wextra -Werror -pedantic -Iinclude
 CARGO = CARGO_TARGET_DIR=target/cargo cargo
 MANIFEST = --quiet --offline --manifest-path compare/Cargo.toml
 
-.PHONY: demo library example model comparison speed ports port-known ports-refusals ports-test
+.PHONY: demo claims library example model comparison speed ports port-known ports-refusals ports-test
 
 # the picture: proves, builds and runs it, and shows it as text
 demo:
@@ -13,6 +13,10 @@ demo:
 	target/bin/demo < crates/demo/stdin > target/demo/frame.ppm
 	@echo "the picture: $(CURDIR)/target/demo/frame.ppm"
 	@target/bin/preview < target/demo/frame.ppm
+
+# every claim of specs/ is tied to its proof, and docs/PROMISES.md lists it
+claims:
+	@python3 tests/claims.py
 
 # proves osd and all below it, and writes target/staticlib/libosd.a (rt staticlib osd); its module is kept for the ports
 library:
