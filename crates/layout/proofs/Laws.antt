@@ -1,12 +1,14 @@
--- Reading back what was written: the whole record, and the parts that a call writes beside those that it keeps.
+-- Reading back what was written: each part by itself, and the record with a part put in its place.
 -- Assumes nothing.
 use Prim.Native.Nat.{ℕ, _+_, _*_, _/_, _%_, _≤_, _<_}
 use mathlib.Core.Path.{_≡_, refl, sym, ap, ap₂, _∙_}
-use mathlib.Core.Bool.{true, false}
-use mathlib.Core.List.{List, [], _∷_, _++_, append-assoc}
+use mathlib.Core.Bool.{Bool, true, false, cond}
+use mathlib.Core.List.{List, [], _∷_, _++_}
 use native.Mathlib.Omega.{arith}
-use lib.ListN.{length, getD, take, drop, take-append-drop, length-append, length-take, length-drop, List·getD-append}
-use lib.Seq.{length-take-le, take-at, drop-at, take-add, take-append-le, take-append-add, drop-append-le, getD-append-add, getD-take, getD-drop}
+use borrow.Author.Tests.{eqb-true}
+use lib.Dec.{T, eqb}
+use lib.ListN.{length, take, drop, set, length-append, length-set}
+use lib.Seq.{length-take-le, take-at, drop-at, drop-drop, getD-set-same, getD-set-other, sets, length-sets}
 use Rattle.registers.specs.declared.Registers.{Registers}
 use Rattle.bus.specs.declared.State.{State}
 use Rattle.bus.specs.declared.State.the-variants.{Idle, Deaf, Slave, High, Low, Write, Read}
@@ -15,7 +17,8 @@ use Rattle.walk.specs.declared.Strip.{Strip}
 use Rattle.walk.specs.declared.Strip.the-variants.{Spacing, Characters}
 use Rattle.device.specs.declared.Frame.{Frame}
 use Rattle.device.specs.declared.Device.{Device}
-use Rattle.layout.specs.Layout.{stateNumber, heldHigh, stateOf, busBytes, busIn, registersIn, packed, stripIn, frameBytes, frameIn, deviceBytes, deviceIn, ReadBack}
+use Rattle.layout.specs.Layout.{busAt, busLength, registersAt, registersLength, nextAt, nextLength, frameAt, frameLength, recordLength, part, put, stateNumber, heldHigh, stateOf, busBytes, busIn, registersIn, nextBytes, nextIn, packed, stripOf, frameBytes, frameIn, deviceBytes, deviceIn, ReadBack}
+use Rattle.layout.proofs.Parts.{fit, part-put, sets-append, sets-all, set-part}
 
 -- ---- each part by itself
 
@@ -31,125 +34,125 @@ state-back (Low high) = refl
 state-back Write = refl
 state-back Read = refl
 
-strip-back : (s : Strip) → stripIn (packed s .kind) (packed s .lines) (packed s .address) (packed s .line) ≡ s
+strip-back : (s : Strip) → stripOf (packed s) ≡ s
 strip-back (Spacing left) = refl
 strip-back (Characters address height false false line) = refl
 strip-back (Characters address height false true line) = refl
 strip-back (Characters address height true false line) = refl
 strip-back (Characters address height true true line) = refl
 
-pub bus-back : (b : Bus) (rest : List ℕ) → busIn (busBytes b ++ rest) ≡ b
-bus-back b rest = ap₂ (λ (s : State) (n : ℕ). record { state = s; counter = n }) (state-back (b .state)) (word-back (b .counter))
+pub bus-back : (b : Bus) → busIn (busBytes b) ≡ b
+bus-back b = rw (state-back (b .state), word-back (b .counter))
 
-pub registers-back : (b : Bus) (r : Registers) (rest : List ℕ) → length (r .bytes) ≡ 16 → registersIn (busBytes b ++ (r .bytes ++ rest)) ≡ r
-registers-back b r rest h = ap (λ (l : List ℕ). record { bytes = l }) (take-at (r .bytes) rest 16 h)
+pub frame-back : (f : Frame) → frameIn (frameBytes f) ≡ f
+frame-back f =
+    let p = packed (f .walk .strip) in
+    rw (word-back (f .left), word-back (f .walk .descriptor), word-back (p .address), word-back (p .line), strip-back (f .walk .strip))
 
--- a record from its parts
-whole : {b b′ : Bus} {r r′ : Registers} {f f′ : Frame} {n n′ : ℕ} → b ≡ b′ → r ≡ r′ → f ≡ f′ → n ≡ n′
-    → _≡_ {A = Device} (record { bus = b; registers = r; frame = f; next = n }) (record { bus = b′; registers = r′; frame = f′; next = n′ })
-whole p q r s = λ i. record { bus = p i; registers = q i; frame = r i; next = s i }
+-- a state other than idle is read from its own number
+pub numbered : (n held k : ℕ) → stateNumber (stateOf n held) ≡ k → 0 < k → n ≡ k
+numbered n held k = by (eqb n 1) (eqb n 2) (eqb n 3) (eqb n 4) (eqb n 5) (eqb n 6) refl refl refl refl refl refl
+  where
+    by : (a b c d e f : Bool) → eqb n 1 ≡ a → eqb n 2 ≡ b → eqb n 3 ≡ c → eqb n 4 ≡ d → eqb n 5 ≡ e → eqb n 6 ≡ f
+        → stateNumber (cond a Deaf (cond b Slave (cond c High (cond d (Low held) (cond e Write (cond f Read Idle)))))) ≡ k → 0 < k → n ≡ k
+    by true b c d e f p q r s t u z h = eqb-true _ _ p ∙ z
+    by false true c d e f p q r s t u z h = eqb-true _ _ q ∙ z
+    by false false true d e f p q r s t u z h = eqb-true _ _ r ∙ z
+    by false false false true e f p q r s t u z h = eqb-true _ _ s ∙ z
+    by false false false false true f p q r s t u z h = eqb-true _ _ t ∙ z
+    by false false false false false true p q r s t u z h = eqb-true _ _ u ∙ z
+    by false false false false false false p q r s t u z h = absurd (omega arith)
 
--- ---- behind a part of known length
+-- ---- the record with a part put in its place
 
-behind : (p q : List ℕ) (n k : ℕ) → length p ≡ n → getD (p ++ q) (n + k) 0 ≡ getD q k 0
-behind p q n k h = ap (λ (m : ℕ). getD (p ++ q) (m + k) 0) (sym h) ∙ getD-append-add p q k 0
+-- a device from its parts
+abbrev of : (ℕ → ℕ → List ℕ) → Device
+of p =
+    record {
+      bus = busIn (p busAt busLength);
+      registers = registersIn (p registersAt registersLength);
+      frame = frameIn (p frameAt frameLength);
+      next = nextIn (p nextAt nextLength);
+    }
 
-pub frame-alike : (xs ys : List ℕ) → ((k : ℕ) → getD xs (21 + k) 0 ≡ getD ys (21 + k) 0) → frameIn xs ≡ frameIn ys
-frame-alike xs ys h = rw (h 0, h 1, h 2, h 3, h 4, h 5, h 6, h 7, h 8, h 9, h 10)
+-- n bytes at an offset are one of the parts: the same as it, and apart from all others
+abbrev IsPart : ℕ → ℕ → Type 0
+IsPart at n = T (fit at n busAt busLength) × T (fit at n registersAt registersLength) × T (fit at n nextAt nextLength) × T (fit at n frameAt frameLength)
 
-pub frame-back : (p : List ℕ) (f : Frame) → length p ≡ 21 → frameIn (p ++ frameBytes f) ≡ f
-frame-back p f h =
-    let b : (k : ℕ) → getD (p ++ frameBytes f) (21 + k) 0 ≡ getD (frameBytes f) k 0 = λ k. behind p (frameBytes f) 21 k h in
-    let s = packed (f .walk .strip) in
-    rw (
-      b 0,
-      b 1,
-      b 2,
-      b 3,
-      b 4,
-      b 5,
-      b 6,
-      b 7,
-      b 8,
-      b 9,
-      b 10,
-      word-back (f .left),
-      word-back (f .walk .descriptor),
-      word-back (s .address),
-      word-back (s .line),
-      strip-back (f .walk .strip),
-    )
+-- it is read, and all other parts are as they were
+pub put-part : (at n : ℕ) (bs xs : List ℕ) → length bs ≡ n → at + n ≤ length xs → IsPart at n
+    → deviceIn (put at bs xs) ≡ of (λ from m. cond (eqb from at) bs (part from m xs))
+put-part at n bs xs l h t = λ i. record {
+  bus = busIn (read busAt busLength (t .0) i);
+  registers = registersIn (read registersAt registersLength (t .1) i);
+  next = nextIn (read nextAt nextLength (t .2) i);
+  frame = frameIn (read frameAt frameLength (t .3) i);
+}
+  where
+    read : (from m : ℕ) → T (fit at n from m) → part from m (put at bs xs) ≡ cond (eqb from at) bs (part from m xs)
+    read from m u = part-put xs bs at n from m l h u
 
--- ---- the whole record
+-- all parts put in their places are the whole record
+pub whole-put : (d : Device) (xs : List ℕ) → length xs ≡ recordLength → length (d .registers .bytes) ≡ registersLength
+    → put frameAt (frameBytes (d .frame)) (put nextAt (nextBytes (d .next)) (put registersAt (d .registers .bytes) (put busAt (busBytes (d .bus)) xs)))
+    ≡ deviceBytes d
+whole-put d xs h l =
+    let rest : List ℕ = nextBytes (d .next) ++ frameBytes (d .frame) in
+    let r : List ℕ = d .registers .bytes in
+    let ys : List ℕ = put busAt (busBytes (d .bus)) xs in
+    let e : nextAt ≡ registersAt + length r = omega arith in
+    ap (λ (k : ℕ). sets (put registersAt r ys) k rest) e
+    ∙ sets-append ys r rest registersAt
+    ∙ sets-all xs (deviceBytes d) (omega (arith, length-append r rest))
 
 pub read-back : ReadBack
-read-back d h =
-    let rest : List ℕ = d .next ∷ frameBytes (d .frame) in
-    let front : List ℕ = busBytes (d .bus) ++ (d .registers .bytes ++ (d .next ∷ [])) in
-    let twenty-one : length front ≡ 21 = omega (arith, h, length-append (d .registers .bytes) (d .next ∷ [])) in
-    let split : deviceBytes d ≡ front ++ frameBytes (d .frame) =
-    ap (λ (l : List ℕ). busBytes (d .bus) ++ l) (sym (append-assoc (d .registers .bytes) (d .next ∷ []) (frameBytes (d .frame)))) in
-    let next : getD (deviceBytes d) 20 0 ≡ d .next =
-    behind (busBytes (d .bus) ++ d .registers .bytes) rest 20 0 (omega (arith, h)) in
-    whole (bus-back (d .bus) (d .registers .bytes ++ rest)) (registers-back (d .bus) (d .registers) rest h)
-    (ap frameIn split ∙ frame-back front (d .frame) twenty-one) next
+read-back d l =
+    let r : List ℕ = d .registers .bytes in
+    let rest : List ℕ = nextBytes (d .next) ++ frameBytes (d .frame) in
+    let behind : drop registersLength (r ++ rest) ≡ rest = drop-at r rest registersLength l in
+    let frame : drop 17 (r ++ rest) ≡ frameBytes (d .frame) = sym (drop-drop 1 registersLength (r ++ rest)) ∙ ap (drop 1) behind in
+    λ i. record {
+      bus = bus-back (d .bus) i;
+      registers = registersIn (take-at r rest registersLength l i);
+      frame = (ap (λ (ys : List ℕ). frameIn (take frameLength ys)) frame ∙ frame-back (d .frame)) i;
+      next = nextIn (take nextLength (behind i));
+    }
 
--- ---- a part that is written beside those that stay
+-- ---- what a call writes
 
--- what stands before n
-kept : (xs q : List ℕ) (n k : ℕ) → n ≤ length xs → k < n → getD (take n xs ++ q) k 0 ≡ getD xs k 0
-kept xs q n k h i = List·getD-append (take n xs) q 0 k (omega (arith, length-take n xs)) ∙ getD-take n xs k 0 i
+-- bus and registers
+pub event-back : (b : Bus) (r : Registers) (xs : List ℕ) → length (r .bytes) ≡ registersLength → length xs ≡ recordLength
+    → deviceIn (put busAt (busBytes b) (put registersAt (r .bytes) xs))
+    ≡ record { bus = b; registers = r; frame = deviceIn xs .frame; next = deviceIn xs .next }
+event-back b r xs l h =
+    put-part busAt busLength (busBytes b) (put registersAt (r .bytes) xs) refl (omega (arith, length-sets xs registersAt (r .bytes))) (tt, tt, tt, tt)
+    ∙ ap₂ (λ (c : Bus) (d : Device). record { bus = c; registers = d .registers; frame = d .frame; next = d .next }) (bus-back b)
+    (put-part registersAt registersLength (r .bytes) xs l (omega arith) (tt, tt, tt, tt))
 
--- sixteen from 4 on do not depend on what stands behind 20
-registers-kept : (xs q : List ℕ) (n : ℕ) → 20 ≤ n → n ≤ length xs → registersIn (take n xs ++ q) ≡ registersIn xs
-registers-kept xs q n i h =
-    let p = take n xs in
-    let long : length p ≡ n = length-take-le n xs h in
-    let alone : (r : List ℕ) → take 16 (drop 4 (p ++ r)) ≡ take 16 (drop 4 p) =
-    λ r. ap (take 16) (drop-append-le 4 p r (omega arith)) ∙ take-append-le 16 (drop 4 p) r (omega (arith, length-drop 4 p)) in
-    ap (λ (l : List ℕ). record { bytes = l }) (alone q ∙ sym (alone (drop n xs)) ∙ ap (λ (l : List ℕ). take 16 (drop 4 l)) (take-append-drop n xs))
+-- the frame
+pub draw-back : (f : Frame) (xs : List ℕ) → length xs ≡ recordLength
+    → deviceIn (put frameAt (frameBytes f) xs)
+    ≡ record { bus = deviceIn xs .bus; registers = deviceIn xs .registers; frame = f; next = deviceIn xs .next }
+draw-back f xs h =
+    put-part frameAt frameLength (frameBytes f) xs refl (omega arith) (tt, tt, tt, tt)
+    ∙ ap (λ (g : Frame). record { bus = deviceIn xs .bus; registers = deviceIn xs .registers; frame = g; next = deviceIn xs .next }) (frame-back f)
 
-bus-kept : (xs q : List ℕ) (n : ℕ) → 20 ≤ n → n ≤ length xs → busIn (take n xs ++ q) ≡ busIn xs
-bus-kept xs q n i h =
-    rw (kept xs q n 0 h (omega arith), kept xs q n 1 h (omega arith), kept xs q n 2 h (omega arith), kept xs q n 3 h (omega arith))
+-- the frame and the next frame number
+pub start-back : (f : Frame) (n : ℕ) (xs : List ℕ) → length xs ≡ recordLength
+    → deviceIn (put frameAt (frameBytes f) (put nextAt (nextBytes n) xs))
+    ≡ record { bus = deviceIn xs .bus; registers = deviceIn xs .registers; frame = f; next = n }
+start-back f n xs h =
+    draw-back f (put nextAt (nextBytes n) xs) (length-sets xs nextAt (nextBytes n) ∙ h)
+    ∙ ap (λ (d : Device). record { bus = d .bus; registers = d .registers; frame = f; next = d .next })
+    (put-part nextAt nextLength (nextBytes n) xs refl (omega arith) (tt, tt, tt, tt))
 
--- bus and registers written; frame and next frame number stay
-pub event-back : (b : Bus) (r : Registers) (xs : List ℕ) → length (r .bytes) ≡ 16
-    → deviceIn (busBytes b ++ (r .bytes ++ drop 20 xs)) ≡ record { bus = b; registers = r; frame = frameIn xs; next = getD xs 20 0 }
-event-back b r xs h =
-    let front : List ℕ = busBytes b ++ r .bytes in
-    let same : (k : ℕ) → getD (front ++ drop 20 xs) (20 + k) 0 ≡ getD xs (20 + k) 0 =
-    λ k. behind front (drop 20 xs) 20 k (omega (arith, h)) ∙ getD-drop 20 xs k 0 in
-    whole (bus-back b (r .bytes ++ drop 20 xs)) (registers-back b r (drop 20 xs) h)
-    (frame-alike (front ++ drop 20 xs) xs (λ (k : ℕ). let e : 21 + k ≡ 20 + (1 + k) = omega arith in rw e (same (1 + k)))) (same 0)
-
--- frame and next frame number written; bus and registers stay
-pub start-back : (xs : List ℕ) (n : ℕ) (f : Frame) → length xs ≡ 32
-    → deviceIn (take 20 xs ++ (n ∷ frameBytes f)) ≡ record { bus = busIn xs; registers = registersIn xs; frame = f; next = n }
-start-back xs n f h =
-    let twenty : length (take 20 xs) ≡ 20 = length-take-le 20 xs (omega arith) in
-    whole (bus-kept xs (n ∷ frameBytes f) 20 (omega arith) (omega arith)) (registers-kept xs (n ∷ frameBytes f) 20 (omega arith) (omega arith))
-    (ap frameIn (sym (append-assoc (take 20 xs) (n ∷ []) (frameBytes f)))
-    ∙ frame-back (take 20 xs ++ (n ∷ [])) f (length-append (take 20 xs) (n ∷ []) ∙ omega arith))
-    (behind (take 20 xs) (n ∷ frameBytes f) 20 0 twenty)
-
--- frame written; bus, registers and next frame number stay
-pub draw-back : (xs : List ℕ) (f : Frame) → length xs ≡ 32
-    → deviceIn (take 21 xs ++ frameBytes f) ≡ record { bus = busIn xs; registers = registersIn xs; frame = f; next = getD xs 20 0 }
-draw-back xs f h =
-    whole (bus-kept xs (frameBytes f) 21 (omega arith) (omega arith)) (registers-kept xs (frameBytes f) 21 (omega arith) (omega arith))
-    (frame-back (take 21 xs) f (length-take-le 21 xs (omega arith)))
-    (kept xs (frameBytes f) 21 20 (omega arith) (omega arith))
-
--- bus and registers (bytes 0 to 19) and the frame (bytes 21 on) written in either order
-pub either-order : (front xs tail : List ℕ) → length front ≡ 20 → 20 ≤ length xs
-    → take 21 (front ++ drop 20 xs) ++ tail ≡ front ++ drop 20 (take 21 xs ++ tail)
-either-order front xs tail f h =
-    let next : List ℕ = take 1 (drop 20 xs) in
-    let before : take 21 (front ++ drop 20 xs) ≡ front ++ next =
-    ap (λ (n : ℕ). take (n + 1) (front ++ drop 20 xs)) (sym f) ∙ take-append-add front (drop 20 xs) 1 in
-    let behind-it : drop 20 (take 21 xs ++ tail) ≡ next ++ tail =
-    ap (λ (l : List ℕ). drop 20 (l ++ tail)) (take-add 20 1 xs)
-    ∙ ap (drop 20) (append-assoc (take 20 xs) next tail)
-    ∙ drop-at (take 20 xs) (next ++ tail) 20 (length-take-le 20 xs h) in
-    rw (before, behind-it) (append-assoc front next tail)
+-- the state alone: deaf
+pub deaf-back : (xs : List ℕ) → length xs ≡ recordLength
+    → deviceIn (set xs busAt 1)
+    ≡ record { bus = record { state = Deaf; counter = deviceIn xs .bus .counter }; registers = deviceIn xs .registers; frame = deviceIn xs .frame; next = deviceIn xs .next }
+deaf-back xs h =
+    let p : List ℕ = part busAt busLength xs in
+    let four : length p ≡ busLength = length-take-le busLength xs (omega arith) in
+    ap deviceIn (set-part busAt busLength 0 xs 1 (omega arith))
+    ∙ put-part busAt busLength (set p 0 1) xs (length-set p 0 1 ∙ four) (omega arith) (tt, tt, tt, tt)
+    ∙ rw (getD-set-same p 0 1 0 (omega arith), getD-set-other p 0 2 1 0 (λ e. omega arith), getD-set-other p 0 3 1 0 (λ e. omega arith))

@@ -1,69 +1,115 @@
--- Parts of a list that are written in place: what stands before and behind them stays.
+-- Parts of a list at offsets. The part of n elements from `at` on is `take n (drop at xs)`; elements that are put in place from `at` on are
+-- the kit's `sets xs at vs`, which leaves all others as they are.
 -- Assumes nothing.
-use Prim.Native.Nat.{ℕ, _+_, _-_, _≤_, _<_}
-use mathlib.Core.Path.{_≡_, refl, sym, ap, ap₂, _∙_}
+use Prim.Native.Nat.{ℕ, zero, suc, _+_, _-_, _≤_, _<_}
+use mathlib.Core.Path.{_≡_, refl, sym, ap, _∙_}
 use mathlib.Core.List.{List, [], _∷_, _++_, append-nil, append-assoc}
+use mathlib.Core.Bool.{Bool, true, false, cond, _||_}
+use native.Mathlib.Nat.{suc-add, zero-add, add-zero}
 use native.Mathlib.Omega.{arith}
-use lib.ListN.{length, take, drop, set, length-append, length-take, length-drop, drop-of-length-le}
-use lib.Seq.{take-all, take-length, take-at, take-suc-set, drop-length, drop-drop}
-use native.Mathlib.Numerals.{add-one}
-use Rattle.bus.specs.declared.Bus.{Bus}
-use Rattle.layout.specs.Layout.{busBytes}
-use borrow.Rule.Slice.PartMut.{putMid, postOf}
+use borrow.Author.Tests.{eqb-true, leb-true}
+use lib.Dec.{T, eqb, leb, eqb→eq, leb→le}
+use lib.ListN.{length, getD, take, drop, set, take-append-drop, length-take, length-drop, drop-of-length-le}
+use lib.Seq.{length-take-le, take-length, take-nil, take-at, drop-at, drop-append-le, drop-drop, take-set-le, drop-set-lt, drop-set-add, set-comm, getD-take, getD-drop, sets, sets-eq}
 
--- four numbers set at the front
-pub front : (xs : List ℕ) (a b c d : ℕ) → 4 ≤ length xs → set (set (set (set xs 0 a) 1 b) 2 c) 3 d ≡ a ∷ b ∷ c ∷ d ∷ drop 4 xs
-front [] a b c d h = absurd (omega arith)
-front (x ∷ []) a b c d h = absurd (omega arith)
-front (x ∷ y ∷ []) a b c d h = absurd (omega arith)
-front (x ∷ y ∷ z ∷ []) a b c d h = absurd (omega arith)
-front (x ∷ y ∷ z ∷ w ∷ xs) a b c d h = refl
+-- the part of m at `from` and that of n at `at` are the same, or they do not overlap
+abbrev pub fit : (at n from m : ℕ) → Bool
+fit at n from m = cond (eqb from at) (eqb m n) (leb (at + n) from || leb (from + m) at)
 
--- a list is copied over the whole of another that is as long
-pub copied-whole : (src dst out : List ℕ) → out ≡ take (length src) src ++ drop (length src) dst → length src ≡ length dst → out ≡ src
-copied-whole src dst out e h =
-    e ∙ ap (λ (l : List ℕ). l ++ drop (length src) dst) (take-length src)
-    ∙ ap (λ (l : List ℕ). src ++ l) (drop-of-length-le dst {i = length src} (omega arith))
-    ∙ append-nil src
+module _ {A : Type 0} where
+  -- ---- a part after elements were put: they themselves where they were put; any part that does not overlap is as it was
 
--- a list is copied over a part from `at` on, up to `to`
-pub put : (src xs : List ℕ) (at to : ℕ) (part : List ℕ) → to ≤ length xs → to ≡ at + length src
-    → part ≡ take (length src) src ++ drop (length src) (take (length xs - at) (drop at xs))
-    → putMid at (length xs - at) xs part ≡ take at xs ++ (src ++ drop to xs)
-put src xs at to part h q e =
-    let rest : drop (length src) (drop at xs) ≡ drop to xs = drop-drop (length src) at xs ∙ ap (λ (n : ℕ). drop n xs) (sym q) in
-    let all : take (length xs - at) (drop at xs) ≡ drop at xs = take-all (length xs - at) (drop at xs) (omega (arith, length-drop at xs)) in
-    let none : postOf at (length xs - at) xs ≡ [] = drop-of-length-le (drop at xs) {i = length xs - at} (omega (arith, length-drop at xs)) in
-    ap₂ (λ (k l : List ℕ). take at xs ++ (k ++ l))
-    (e ∙ ap₂ (λ (k l : List ℕ). k ++ drop (length src) l) (take-length src) all ∙ ap (λ (l : List ℕ). src ++ l) rest)
-    none
-    ∙ ap (λ (l : List ℕ). take at xs ++ l) (append-nil (src ++ drop to xs))
+  same : (xs vs : List A) (at n : ℕ) → length vs ≡ n → at + n ≤ length xs → take n (drop at (sets xs at vs)) ≡ vs
+  same xs vs at n l h =
+      ap (λ (ys : List A). take n (drop at ys)) (sets-eq vs xs at (omega arith) ∙ append-assoc (take at xs) vs _)
+      ∙ ap (take n) (drop-at (take at xs) _ at (length-take-le at xs (omega arith)))
+      ∙ take-at vs _ n l
 
--- a list is copied over the end of another
-pub put-last : (src xs : List ℕ) (at : ℕ) (part : List ℕ) → length xs ≡ at + length src
-    → part ≡ take (length src) src ++ drop (length src) (take (length xs - at) (drop at xs))
-    → putMid at (length xs - at) xs part ≡ take at xs ++ src
-put-last src xs at part q e =
-    put src xs at (length xs) part (omega arith) q e
-    ∙ ap (λ (l : List ℕ). take at xs ++ (src ++ l)) (drop-length xs)
-    ∙ ap (λ (l : List ℕ). take at xs ++ l) (append-nil src)
+  before-one : (xs : List A) (v : A) (at from m : ℕ) → from + m ≤ at → take m (drop from (set xs at v)) ≡ take m (drop from xs)
+  before-one xs v at from m h =
+      let e : at ≡ from + (at - from) = omega arith in
+      ap (λ (k : ℕ). take m (drop from (set xs k v))) e
+      ∙ ap (take m) (drop-set-add from xs (at - from) v)
+      ∙ take-set-le m (drop from xs) (at - from) v (omega arith)
 
--- a number set in front of the end
-pub set-before : (xs tail : List ℕ) (at v : ℕ) → at < length xs → take (at + 1) (set xs at v) ++ tail ≡ take at xs ++ (v ∷ tail)
-set-before xs tail at v h =
-    rw (add-one at, take-suc-set xs at v h) (append-assoc (take at xs) (v ∷ []) tail)
+  before : (xs vs : List A) (at from m : ℕ) → from + m ≤ at → take m (drop from (sets xs at vs)) ≡ take m (drop from xs)
+  before xs [] at from m h = refl
+  before xs (v ∷ vs) at from m h = before (set xs at v) vs (suc at) from m (omega arith) ∙ before-one xs v at from m h
 
--- the bus part, then the registers, then the rest
-pub three-parts : (b : Bus) (regs xs ys zs out tail : List ℕ) → ys ≡ busBytes b ++ drop 4 xs → zs ≡ take 4 ys ++ (regs ++ drop 20 ys)
-    → out ≡ take 20 zs ++ tail → length xs ≡ 32 → length zs ≡ length ys → out ≡ busBytes b ++ (regs ++ tail)
-three-parts b regs xs ys zs out tail p q r h k =
-    let long : length ys ≡ length (busBytes b) + length (drop 4 xs) = ap (λ (l : List ℕ). length l) p ∙ length-append (busBytes b) (drop 4 xs) in
-    let longer : length zs ≡ length (take 4 ys) + (length regs + length (drop 20 ys)) =
-    ap (λ (l : List ℕ). length l) q
-    ∙ length-append (take 4 ys) (regs ++ drop 20 ys)
-    ∙ ap (λ (n : ℕ). length (take 4 ys) + n) (length-append regs (drop 20 ys)) in
-    let sixteen : length regs ≡ 16 =
-    omega (arith, h, k, long, longer, length-drop 4 xs, length-take 4 ys, length-drop 20 ys) in
-    r
-    ∙ ap (λ (l : List ℕ). take 20 l ++ tail) (q ∙ ap (λ (l : List ℕ). take 4 l ++ (regs ++ drop 20 ys)) p)
-    ∙ ap (λ (l : List ℕ). busBytes b ++ (l ++ tail)) (take-at regs (drop 20 ys) 16 sixteen)
+  behind : (xs vs : List A) (at from m : ℕ) → at + length vs ≤ from → take m (drop from (sets xs at vs)) ≡ take m (drop from xs)
+  behind xs [] at from m h = refl
+  behind xs (v ∷ vs) at from m h = behind (set xs at v) vs (suc at) from m (omega arith) ∙ ap (take m) (drop-set-lt from xs at v (omega arith))
+
+  pub part-put : (xs vs : List A) (at n from m : ℕ) → length vs ≡ n → at + n ≤ length xs → T (fit at n from m)
+      → take m (drop from (sets xs at vs)) ≡ cond (eqb from at) vs (take m (drop from xs))
+  part-put xs vs at n from m l h = by (eqb from at) (leb (at + n) from) refl refl
+    where
+      by : (p q : Bool) → eqb from at ≡ p → leb (at + n) from ≡ q → T (cond p (eqb m n) (q || leb (from + m) at))
+          → take m (drop from (sets xs at vs)) ≡ cond p vs (take m (drop from xs))
+      by true q e f t = rw (eqb-true from at e, eqb→eq m n t) (same xs vs at n l h)
+      by false true e f t = behind xs vs at from m (omega (arith, leb-true (at + n) from f))
+      by false false e f t = before xs vs at from m (leb→le _ _ t)
+
+  -- one element of a part
+  pub getD-part : (xs : List A) (at n i : ℕ) (d : A) → i < n → getD (take n (drop at xs)) i d ≡ getD xs (at + i) d
+  getD-part xs at n i d h = getD-take n (drop at xs) i d h ∙ getD-drop at xs i d
+
+  -- a list that is copied into a part from `at` on, of k elements or more than it has, is put there
+  pub copied : (xs vs : List A) (at k : ℕ) (mid : List A) → at + length vs ≤ length xs → length vs ≤ k
+      → mid ≡ take (length vs) vs ++ drop (length vs) (take k (drop at xs)) → take at xs ++ (mid ++ drop k (drop at xs)) ≡ sets xs at vs
+  copied xs vs at k mid h l e =
+      let rest : List A = drop at xs in
+      let behind : drop (length vs) (take k rest) ++ drop k rest ≡ drop (at + length vs) xs =
+      sym (drop-append-le (length vs) (take k rest) (drop k rest) (omega (arith, length-take k rest, length-drop at xs)))
+      ∙ ap (drop (length vs)) (take-append-drop k rest)
+      ∙ drop-drop (length vs) at xs in
+      rw (e, take-length vs, append-assoc vs, behind, sets-eq vs xs at h) (sym (append-assoc (take at xs) vs _))
+
+  -- ---- two that do not overlap are put in either order
+
+  set-first : (xs vs : List A) (at k : ℕ) (w : A) → at + length vs ≤ k → set (sets xs at vs) k w ≡ sets (set xs k w) at vs
+  set-first xs [] at k w h = refl
+  set-first xs (v ∷ vs) at k w h =
+      set-first (set xs at v) vs (suc at) k w (omega arith)
+      ∙ ap (λ (ys : List A). sets ys (suc at) vs) (set-comm xs at k v w (λ e. omega arith))
+
+  pub sets-comm : (xs vs ws : List A) (at from : ℕ) → at + length vs ≤ from → sets (sets xs at vs) from ws ≡ sets (sets xs from ws) at vs
+  sets-comm xs vs [] at from h = refl
+  sets-comm xs vs (w ∷ ws) at from h =
+      ap (λ (ys : List A). sets ys (suc from) ws) (set-first xs vs at from w h) ∙ sets-comm (set xs from w) vs ws at (suc from) (omega arith)
+
+  -- one behind the other is both at once
+  pub sets-append : (xs vs ws : List A) (at : ℕ) → sets (sets xs at vs) (at + length vs) ws ≡ sets xs at (vs ++ ws)
+  sets-append xs [] ws at = ap (λ (k : ℕ). sets xs k ws) (add-zero at)
+  sets-append xs (v ∷ vs) ws at =
+      let e : at + suc (length vs) ≡ suc at + length vs = omega arith in
+      ap (λ (k : ℕ). sets (sets (set xs at v) (suc at) vs) k ws) e ∙ sets-append (set xs at v) vs ws (suc at)
+
+  -- as many as there are: nothing stays
+  pub sets-all : (xs vs : List A) → length vs ≡ length xs → sets xs 0 vs ≡ vs
+  sets-all xs vs l =
+      sets-eq vs xs 0 (omega arith) ∙ ap (λ (r : List A). vs ++ r) (drop-of-length-le xs {i = 0 + length vs} (omega arith)) ∙ append-nil vs
+
+  -- ---- a part that is put where it stands
+
+  sets-cons : (x : A) (xs vs : List A) (at : ℕ) → sets (x ∷ xs) (suc at) vs ≡ x ∷ sets xs at vs
+  sets-cons x xs [] at = refl
+  sets-cons x xs (v ∷ vs) at = sets-cons x (set xs at v) vs (suc at)
+
+  pub sets-part : (at n : ℕ) (xs : List A) → sets xs at (take n (drop at xs)) ≡ xs
+  sets-part zero zero xs = refl
+  sets-part zero (suc n) [] = refl
+  sets-part zero (suc n) (x ∷ xs) = sets-cons x xs (take n xs) 0 ∙ ap (λ (r : List A). x ∷ r) (sets-part zero n xs)
+  sets-part (suc at) n [] = rw take-nil
+  sets-part (suc at) n (x ∷ xs) = sets-cons x xs (take n (drop at xs)) at ∙ ap (λ (r : List A). x ∷ r) (sets-part at n xs)
+
+  -- one element of it changed
+  pub set-part : (at n i : ℕ) (xs : List A) (v : A) → i < n → set xs (at + i) v ≡ sets xs at (set (take n (drop at xs)) i v)
+  set-part zero (suc n) i [] v h = refl
+  set-part zero (suc n) zero (x ∷ xs) v h = sym (sets-part zero (suc n) (v ∷ xs))
+  set-part zero (suc n) (suc i) (x ∷ xs) v h =
+      rw zero-add (ap (λ (r : List A). x ∷ r) (rw zero-add at (set-part zero n i xs v (omega arith))) ∙ sym (sets-cons x xs (set (take n xs) i v) 0))
+  set-part zero zero i xs v h = absurd (omega arith)
+  set-part (suc at) n i [] v h = rw take-nil
+  set-part (suc at) n i (x ∷ xs) v h =
+      rw suc-add (ap (λ (r : List A). x ∷ r) (set-part at n i xs v h) ∙ sym (sets-cons x xs (set (take n (drop at xs)) i v) at))

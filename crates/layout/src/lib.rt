@@ -1,10 +1,10 @@
-// The device record in 32 lent bytes, part by part (include/osd.h has the table). Any bytes are some record.
+// The device record in 32 lent bytes, as parts at offsets (include/osd.h has the table). Any bytes are some record.
 ghost use mathlib.Core.Path.{_≡_};
 ghost use mathlib.Core.Bool.{cond};
-ghost use mathlib.Core.List.{_∷_, _++_};
-ghost use Prim.Native.Nat.{_+_, _*_, _/_, _%_};
-ghost use lib.ListN.{length, take, drop};
-ghost use Rattle.layout.specs.Layout.{stateNumber, heldHigh, stateOf, busBytes, busIn, registersIn, packed, stripIn, frameBytes, frameIn, deviceBytes, deviceIn};
+ghost use mathlib.Core.List.{[], _∷_};
+ghost use Prim.Native.Nat.{_+_, _*_, _/_, _%_, _≤_, _<_};
+ghost use lib.ListN.{length};
+ghost use Rattle.layout.specs.Layout.{busAt, busLength, registersAt, registersLength, nextAt, frameAt, frameLength, recordLength, put, word, stateNumber, heldHigh, stateOf, busBytes, busIn, registersIn, nextBytes, packed, stripOf, frameWith, frameBytes, frameIn, deviceBytes, deviceIn};
 use bus::Bus;
 use bus::State;
 use device::Device;
@@ -13,6 +13,21 @@ use raster::ScanLine;
 use registers::Registers;
 use walk::Strip;
 use walk::Walk;
+
+// Where each part begins, and where it ends.
+pub const BUS_AT: usize = 0;
+
+const BUS_END: usize = 4;
+
+pub const REGISTERS_AT: usize = 4;
+
+const REGISTERS_END: usize = 20;
+
+const NEXT_AT: usize = 20;
+
+const FRAME_AT: usize = 21;
+
+const FRAME_END: usize = 32;
 
 // A strip as its bytes have it.
 pub struct Packed {
@@ -30,17 +45,22 @@ fn word(low: u8, high: u8) -> u16
     low as u16 + 256 * high as u16
 }
 
-fn low(x: u16) -> u8
-    ensures { λ r. ⌜ r ≡ x % 256 ⌝ }
+fn word_at(bytes: &[u8], i: usize) -> u16
+    requires { ⌜ i + 1 < length (now bytes) ⌝ }
+    ensures { λ r. ⌜ r ≡ word (now (bytes .entry)) i ⌝ }
 {
-    (x % 256) as u8
+    word(bytes[i], bytes[i + 1])
 }
 
-fn high(x: u16) -> u8
-    ensures { λ r. ⌜ r ≡ x / 256 ⌝ }
+// Bytes put at an offset; all others stay.
+fn put(device: &mut [u8], at: usize, bytes: &[u8])
+    requires { ⌜ at + length (now bytes) ≤ length (now device) ⌝ }
+    ensures { λ _. ⌜ now (device .exit) ≡ put at (now (bytes .entry)) (now (device .entry)) ⌝ }
 {
-    (x / 256) as u8
+    bytes::copy(bytes, &mut device[at..]);
 }
+
+// ---- the bus
 
 fn state_of(number: u8, held: u8) -> State
     ensures { λ r. ⌜ r ≡ stateOf number held ⌝ }
@@ -84,75 +104,118 @@ fn held_high(state: State) -> u8
     }
 }
 
-pub fn counter_in(device: &[u8]) -> u16
-    requires { ⌜ length (now device) ≡ 32 ⌝ }
-    ensures { λ r. ⌜ r ≡ busIn (now (device .entry)) .counter ⌝ }
-{
-    word(device[2], device[3])
-}
-
-pub fn bus_in(device: &[u8]) -> Bus
-    requires { ⌜ length (now device) ≡ 32 ⌝ }
-    ensures { λ r. ⌜ r ≡ busIn (now (device .entry)) ⌝ }
+fn bus_in(bytes: &[u8]) -> Bus
+    requires { ⌜ length (now bytes) ≡ busLength ⌝ }
+    ensures { λ r. ⌜ r ≡ busIn (now (bytes .entry)) ⌝ }
 {
     Bus {
-        state: state_of(device[0], device[1]),
-        counter: counter_in(device),
+        state: state_of(bytes[0], bytes[1]),
+        counter: word_at(bytes, 2),
     }
 }
 
-fn registers_in(device: &[u8]) -> Registers
-    requires { ⌜ length (now device) ≡ 32 ⌝ }
-    ensures { λ r. ⌜ r ≡ registersIn (now (device .entry)) ⌝ }
+pub fn bus_of(device: &[u8]) -> Bus
+    requires { ⌜ length (now device) ≡ recordLength ⌝ }
+    ensures { λ r. ⌜ r ≡ deviceIn (now (device .entry)) .bus ⌝ }
 {
-    let mut bytes = [0; 16];
-    let from = 4;
-    let to = 20;
-    bytes::copy(&device[from..to], &mut bytes);
-    Registers { bytes: bytes }
+    bus_in(&device[BUS_AT..BUS_END])
 }
 
-fn strip_in(kind: u8, lines: u8, address: u16, line: u16) -> Strip
-    ensures { λ r. ⌜ r ≡ stripIn kind lines address line ⌝ }
+pub fn counter_of(device: &[u8]) -> u16
+    requires { ⌜ length (now device) ≡ recordLength ⌝ }
+    ensures { λ r. ⌜ r ≡ deviceIn (now (device .entry)) .bus .counter ⌝ }
 {
+    word_at(&device[BUS_AT..BUS_END], 2)
+}
+
+// The bus as numbers, put in its place.
+fn put_bus(device: &mut [u8], number: u8, held: u8, counter: u16)
+    requires { ⌜ length (now device) ≡ recordLength ⌝ }
+    ensures { λ _. ⌜ now (device .exit) ≡ put busAt (number ∷ held ∷ counter % 256 ∷ counter / 256 ∷ []) (now (device .entry)) ⌝ }
+{
+    device[BUS_AT] = number;
+    device[BUS_AT + 1] = held;
+    device[BUS_AT + 2] = (counter % 256) as u8;
+    device[BUS_AT + 3] = (counter / 256) as u8;
+}
+
+pub fn write_bus(device: &mut [u8], bus: Bus)
+    requires { ⌜ length (now device) ≡ recordLength ⌝ }
+    ensures { λ _. ⌜ now (device .exit) ≡ put busAt (busBytes bus) (now (device .entry)) ⌝ }
+{
+    let state = bus.state;
+    put_bus(device, state_number(state), held_high(state), bus.counter);
+}
+
+// ---- the registers
+
+fn registers_in(bytes: &[u8]) -> Registers
+    requires { ⌜ length (now bytes) ≡ registersLength ⌝ }
+    ensures { λ r. ⌜ r ≡ registersIn (now (bytes .entry)) ⌝ }
+{
+    let mut copy = [0; 16];
+    bytes::copy(bytes, &mut copy);
+    Registers { bytes: copy }
+}
+
+fn registers_of(device: &[u8]) -> Registers
+    requires { ⌜ length (now device) ≡ recordLength ⌝ }
+    ensures { λ r. ⌜ r ≡ deviceIn (now (device .entry)) .registers ⌝ }
+{
+    registers_in(&device[REGISTERS_AT..REGISTERS_END])
+}
+
+fn write_registers(device: &mut [u8], registers: Registers)
+    requires { ⌜ length (now device) ≡ recordLength ⌝ }
+    ensures { λ _. ⌜ now (device .exit) ≡ put registersAt (registers .bytes) (now (device .entry)) ⌝ }
+{
+    let bytes = registers.bytes;
+    put(device, REGISTERS_AT, &bytes);
+}
+
+// ---- the frame
+
+fn unpack(strip: Packed) -> Strip
+    ensures { λ r. ⌜ r ≡ stripOf strip ⌝ }
+{
+    let kind = strip.kind;
     if kind % 2 == 0 {
-        return Strip::Spacing { left: lines };
+        return Strip::Spacing { left: strip.lines };
     }
     Strip::Characters {
-        address: address,
-        height: lines,
+        address: strip.address,
+        height: strip.lines,
         zoom: kind / 2 % 2 == 1,
         enabled: kind / 4 % 2 == 1,
-        line: ScanLine(line),
+        line: ScanLine(strip.line),
     }
 }
 
-fn frame_in(device: &[u8]) -> Frame
-    requires { ⌜ length (now device) ≡ 32 ⌝ }
-    ensures { λ r. ⌜ r ≡ frameIn (now (device .entry)) ⌝ }
+fn frame_in(bytes: &[u8]) -> Frame
+    requires { ⌜ length (now bytes) ≡ frameLength ⌝ }
+    ensures { λ r. ⌜ r ≡ frameIn (now (bytes .entry)) ⌝ }
 {
-    let address = word(device[28], device[29]);
-    let line = word(device[30], device[31]);
+    let strip = Packed {
+        kind: bytes[5],
+        lines: bytes[6],
+        address: word_at(bytes, 7),
+        line: word_at(bytes, 9),
+    };
     Frame {
-        left: word(device[22], device[23]),
-        number: device[21],
+        left: word_at(bytes, 1),
+        number: bytes[0],
         walk: Walk {
-            descriptor: word(device[24], device[25]),
-            strip: strip_in(device[26], device[27], address, line),
+            descriptor: word_at(bytes, 3),
+            strip: unpack(strip),
         },
     }
 }
 
-pub fn device_in(device: &[u8]) -> Device
-    requires { ⌜ length (now device) ≡ 32 ⌝ }
-    ensures { λ r. ⌜ r ≡ deviceIn (now (device .entry)) ⌝ }
+fn frame_of(device: &[u8]) -> Frame
+    requires { ⌜ length (now device) ≡ recordLength ⌝ }
+    ensures { λ r. ⌜ r ≡ deviceIn (now (device .entry)) .frame ⌝ }
 {
-    Device {
-        bus: bus_in(device),
-        registers: registers_in(device),
-        frame: frame_in(device),
-        next: device[20],
-    }
+    frame_in(&device[FRAME_AT..FRAME_END])
 }
 
 fn kind_of(zoom: bool, enabled: bool) -> u8
@@ -189,69 +252,61 @@ fn pack(strip: Strip) -> Packed
     }
 }
 
-fn frame_bytes(frame: Frame) -> [u8; 11]
-    ensures { λ r. ⌜ r ≡ frameBytes frame ⌝ }
+// With its strip as numbers.
+fn frame_bytes(frame: Frame, strip: Packed) -> [u8; 11]
+    ensures { λ r. ⌜ r ≡ frameWith frame strip ⌝ }
 {
     let walk = frame.walk;
-    let strip = walk.strip;
-    let packed = pack(strip);
     [
         frame.number,
-        low(frame.left),
-        high(frame.left),
-        low(walk.descriptor),
-        high(walk.descriptor),
-        packed.kind,
-        packed.lines,
-        low(packed.address),
-        high(packed.address),
-        low(packed.line),
-        high(packed.line),
+        (frame.left % 256) as u8,
+        (frame.left / 256) as u8,
+        (walk.descriptor % 256) as u8,
+        (walk.descriptor / 256) as u8,
+        strip.kind,
+        strip.lines,
+        (strip.address % 256) as u8,
+        (strip.address / 256) as u8,
+        (strip.line % 256) as u8,
+        (strip.line / 256) as u8,
     ]
 }
 
-// Each of the next functions writes a part of the record; the other bytes stay.
-
-pub fn write_bus(device: &mut [u8], bus: Bus)
-    requires { ⌜ length (now device) ≡ 32 ⌝ }
-    ensures { λ _. ⌜ now (device .exit) ≡ busBytes bus ++ drop 4 (now (device .entry)) ⌝ }
-{
-    let state = bus.state;
-    device[0] = state_number(state);
-    device[1] = held_high(state);
-    device[2] = low(bus.counter);
-    device[3] = high(bus.counter);
-}
-
 pub fn write_frame(device: &mut [u8], frame: Frame)
-    requires { ⌜ length (now device) ≡ 32 ⌝ }
-    ensures { λ _. ⌜ now (device .exit) ≡ take 21 (now (device .entry)) ++ frameBytes frame ⌝ }
+    requires { ⌜ length (now device) ≡ recordLength ⌝ }
+    ensures { λ _. ⌜ now (device .exit) ≡ put frameAt (frameBytes frame) (now (device .entry)) ⌝ }
 {
-    let at = 21;
-    let bytes = frame_bytes(frame);
-    bytes::copy(&bytes, &mut device[at..]);
+    let walk = frame.walk;
+    let strip = walk.strip;
+    let bytes = frame_bytes(frame, pack(strip));
+    put(device, FRAME_AT, &bytes);
 }
 
 // The frame with the number that the next one takes.
 pub fn write_start(device: &mut [u8], next: u8, frame: Frame)
-    requires { ⌜ length (now device) ≡ 32 ⌝ }
-    ensures { λ _. ⌜ now (device .exit) ≡ take 20 (now (device .entry)) ++ (next ∷ frameBytes frame) ⌝ }
+    requires { ⌜ length (now device) ≡ recordLength ⌝ }
+    ensures { λ _. ⌜ now (device .exit) ≡ put frameAt (frameBytes frame) (put nextAt (nextBytes next) (now (device .entry))) ⌝ }
 {
-    device[20] = next;
+    device[NEXT_AT] = next;
     write_frame(device, frame);
 }
 
-fn write_registers(device: &mut [u8], registers: Registers)
-    requires { ⌜ length (now device) ≡ 32 ⌝ }
-    ensures { λ _. ⌜ now (device .exit) ≡ take 4 (now (device .entry)) ++ (registers .bytes ++ drop 20 (now (device .entry))) ⌝ }
+// ---- the whole record
+
+pub fn device_in(device: &[u8]) -> Device
+    requires { ⌜ length (now device) ≡ recordLength ⌝ }
+    ensures { λ r. ⌜ r ≡ deviceIn (now (device .entry)) ⌝ }
 {
-    let at = 4;
-    let bytes = registers.bytes;
-    bytes::copy(&bytes, &mut device[at..]);
+    Device {
+        bus: bus_of(device),
+        registers: registers_of(device),
+        frame: frame_of(device),
+        next: device[NEXT_AT],
+    }
 }
 
 pub fn write_device(device: &mut [u8], whole: Device)
-    requires { ⌜ length (now device) ≡ 32 ⌝ }
+    requires { ⌜ length (now device) ≡ recordLength ⌝ }
     ensures { λ _. ⌜ now (device .exit) ≡ deviceBytes whole ⌝ }
 {
     let bus = whole.bus;

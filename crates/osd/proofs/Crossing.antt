@@ -3,12 +3,12 @@
 use Prim.Native.Nat.{ℕ, _+_, _-_, _≤_, _<_}
 use mathlib.Core.Path.{_≡_, refl, sym, ap, _∙_}
 use mathlib.Core.Bool.{Bool, true, false, not, cond, _&&_, _||_}
-use mathlib.Core.List.{List, _∷_}
+use mathlib.Core.List.{List}
 use native.Mathlib.Omega.{arith}
 use borrow.Author.Tests.{eq-eqb, ne-eqb, lt-ltb, le-ltb, eqb-true, ltb-false, not-false}
 use lib.Dec.{T, eqb, ltb}
-use lib.ListN.{length, getD, take, drop, set, length-append, length-set, length-take, length-drop}
-use lib.Seq.{getD-set-same, getD-set-other, drop-set-lt}
+use lib.ListN.{length, set, length-append, length-set, length-take, length-drop}
+use lib.Seq.{length-sets}
 use Rattle.facts.proofs.Choice.{either}
 use Rattle.cells.specs.Reading.{value}
 use Rattle.refusals.specs.Refusals.{numberOf, accepted, refused}
@@ -31,8 +31,8 @@ use Rattle.line.proofs.Laws.{paint-length}
 use Rattle.device.specs.declared.Device.{Device}
 use Rattle.device.specs.Device.{freshDevice, EventOutcome, hearEvent, StartOutcome, inFrame, startFrame, DrawOutcome, notDrawn, nextScan, pixelsOf, lineOn, lineWidth, lineDrawn, drawLine, askCell}
 use Rattle.device.proofs.OnePage.{by-draw}
-use Rattle.layout.specs.Layout.{stateNumber, busIn, registersIn, frameBytes, frameIn, deviceIn}
-use Rattle.layout.proofs.Laws.{frame-alike, read-back, event-back, start-back, draw-back}
+use Rattle.layout.specs.Layout.{busAt, registersAt, registersLength, nextAt, frameAt, recordLength, part, put, stateNumber, busBytes, nextBytes, frameBytes, deviceIn}
+use Rattle.layout.proofs.Laws.{read-back, event-back, start-back, draw-back, deaf-back}
 use Rattle.osd.specs.Interface.{answerOf, notTaken, isRecord, Done, freshOn, BusDone, ignoredOn, heardOn, touched, busOn, startedOn, startOn, DrawDone, drawnOn, drawOn, cellOn, Crossing}
 use Rattle.osd.proofs.Calls.{if-taken, both-tests, ignored-same, fresh-not, bus-not-record, start-not, draw-not, cell-not}
 
@@ -101,81 +101,66 @@ byte-kind kind byte = by (eqb kind 0) (eqb kind 1) (eqb kind 2) refl
 
 -- what an event leaves, read back: the bus and the registers are new, the rest stays
 abbrev After : List ℕ → Bus → Registers → Device
-After xs b r = record { bus = b; registers = r; frame = frameIn xs; next = getD xs 20 0 }
+After xs b r = record { bus = b; registers = r; frame = deviceIn xs .frame; next = deviceIn xs .next }
 
-sixteen : (xs : List ℕ) → length xs ≡ 32 → length (take 16 (drop 4 xs)) ≡ 16
-sixteen xs h = omega (arith, length-take 16 (drop 4 xs), length-drop 4 xs)
+sixteen : (xs : List ℕ) → length xs ≡ recordLength → length (deviceIn xs .registers .bytes) ≡ registersLength
+sixteen xs h = simp (length-take, length-drop) (omega arith)
 
-still-sixteen : (xs : List ℕ) (f : Effect) → length xs ≡ 32 → length (registersWith f (registersIn xs) .bytes) ≡ 16
+still-sixteen : (xs : List ℕ) (f : Effect) → length xs ≡ recordLength → length (registersWith f (deviceIn xs .registers) .bytes) ≡ registersLength
 unfolding registersWith
 still-sixteen xs Acknowledge h = sixteen xs h
 still-sixteen xs Ignore h = sixteen xs h
 still-sixteen xs (Load a) h = sixteen xs h
 still-sixteen xs (Store a x) h = by (isRegister a)
   where
-    by : (t : Bool) → length (cond t (stored (registersIn xs) (a - 0x3FF0) x) (registersIn xs) .bytes) ≡ 16
-    by true = length-set (take 16 (drop 4 xs)) _ _ ∙ sixteen xs h
+    by : (t : Bool) → length (cond t (stored (deviceIn xs .registers) (a - 0x3FF0) x) (deviceIn xs .registers) .bytes) ≡ registersLength
+    by true = length-set (part registersAt registersLength xs) _ _ ∙ sixteen xs h
     by false = sixteen xs h
 
 -- the registers after an event are sixteen
-pub heard-sixteen : (xs ram : List ℕ) (e : Event) → length xs ≡ 32 → length (busEvent (busIn xs) (registersIn xs) ram e .registers .bytes) ≡ 16
+pub heard-sixteen : (xs ram : List ℕ) (e : Event) → length xs ≡ recordLength → length (busEvent (deviceIn xs .bus) (deviceIn xs .registers) ram e .registers .bytes) ≡ registersLength
 heard-sixteen xs ram e h =
-    by-event (λ (o : BusOutcome). length (o .registers .bytes) ≡ 16) (busIn xs) (registersIn xs) ram e (sixteen xs h)
-    (unfold taken in still-sixteen xs (step (busIn xs) e .effect) h)
+    by-event (λ (o : BusOutcome). length (o .registers .bytes) ≡ registersLength) (deviceIn xs .bus) (deviceIn xs .registers) ram e (sixteen xs h)
+    (unfold taken in still-sixteen xs (step (deviceIn xs .bus) e .effect) h)
 
--- the deaf bus, read back
-deaf-back : (xs : List ℕ) → length xs ≡ 32 → deviceIn (set xs 0 1) ≡ After xs (record { state = Deaf; counter = busIn xs .counter }) (registersIn xs)
-deaf-back xs h = λ i. record { bus = bus i; registers = registers i; frame = frame-alike (set xs 0 1) xs (λ (k : ℕ). other (21 + k) (omega arith)) i; next = other 20 (omega arith) i }
-  where
-    other : (k : ℕ) → 0 < k → getD (set xs 0 1) k 0 ≡ getD xs k 0
-    other k p = getD-set-other xs 0 k 1 0 (λ (q : k ≡ 0). omega (arith, p, q))
-
-    bus : busIn (set xs 0 1) ≡ record { state = Deaf; counter = busIn xs .counter }
-    bus = rw (getD-set-same xs 0 1 0 (omega arith), other 2 (omega arith), other 3 (omega arith))
-
-    registers : registersIn (set xs 0 1) ≡ registersIn xs
-    registers = ap (λ (l : List ℕ). record { bytes = take 16 l }) (drop-set-lt 4 xs 0 1 (omega arith))
-
-ignored-back : (xs : List ℕ) (e : Event) (next : Bus) → length xs ≡ 32 → Ignored (busIn xs) e next
-    → deviceIn (ignoredOn (next .state) xs) ≡ After xs next (registersIn xs)
+ignored-back : (xs : List ℕ) (e : Event) (next : Bus) → length xs ≡ recordLength → Ignored (deviceIn xs .bus) e next
+    → deviceIn (ignoredOn (next .state) xs) ≡ After xs next (deviceIn xs .registers)
 ignored-back xs e next h (stays p) =
-    ap (λ (b : Bus). deviceIn (ignoredOn (b .state) xs)) p ∙ ap deviceIn (ignored-same xs) ∙ ap (λ (b : Bus). After xs b (registersIn xs)) (sym p)
+    ap (λ (b : Bus). deviceIn (ignoredOn (b .state) xs)) p ∙ ap deviceIn (ignored-same xs) ∙ ap (λ (b : Bus). After xs b (deviceIn xs .registers)) (sym p)
 ignored-back xs e next h (deafens t q p) =
-    ap (λ (b : Bus). deviceIn (ignoredOn (b .state) xs)) p ∙ deaf-back xs h ∙ ap (λ (b : Bus). After xs b (registersIn xs)) (sym p)
+    ap (λ (b : Bus). deviceIn (ignoredOn (b .state) xs)) p ∙ deaf-back xs h ∙ ap (λ (b : Bus). After xs b (deviceIn xs .registers)) (sym p)
 
 -- by what the step asks of the cells
-heard-back : (xs ram : List ℕ) (next : Bus) (f : Effect) → length xs ≡ 32
-    → (T (isIgnore f) → deviceIn (ignoredOn (next .state) xs) ≡ After xs next (registersIn xs))
-    → deviceIn (heardOn xs (taken (record { bus = next; effect = f }) (registersIn xs) ram) .device) ≡ After xs next (registersWith f (registersIn xs))
+heard-back : (xs ram : List ℕ) (next : Bus) (f : Effect) → length xs ≡ recordLength
+    → (T (isIgnore f) → deviceIn (ignoredOn (next .state) xs) ≡ After xs next (deviceIn xs .registers))
+    → deviceIn (heardOn xs (taken (record { bus = next; effect = f }) (deviceIn xs .registers) ram) .device) ≡ After xs next (registersWith f (deviceIn xs .registers))
 unfolding heardOn taken registersWith answerTo
-heard-back xs ram next Acknowledge h i = event-back next (registersIn xs) xs (still-sixteen xs Acknowledge h)
+heard-back xs ram next Acknowledge h i = event-back next (deviceIn xs .registers) xs (still-sixteen xs Acknowledge h) h
 heard-back xs ram next Ignore h i = i tt
-heard-back xs ram next (Store a x) h i = event-back next (registersWith (Store a x) (registersIn xs)) xs (still-sixteen xs (Store a x) h)
-heard-back xs ram next (Load a) h i = event-back next (registersIn xs) xs (still-sixteen xs (Load a) h)
+heard-back xs ram next (Store a x) h i = event-back next (registersWith (Store a x) (deviceIn xs .registers)) xs (still-sixteen xs (Store a x) h) h
+heard-back xs ram next (Load a) h i = event-back next (deviceIn xs .registers) xs (still-sixteen xs (Load a) h) h
 
-cross-bus : (xs ram : List ℕ) (kind byte : ℕ) → length xs ≡ 32 → kind ≤ 3
+cross-bus : (xs ram : List ℕ) (kind byte : ℕ) → length xs ≡ recordLength → kind ≤ 3
     → deviceIn (busOn xs ram kind byte .device) ≡ hearEvent (deviceIn xs) ram (eventOf kind byte) .device
 unfolding busOn heardOn hearEvent busEvent taken
 cross-bus xs ram kind byte h k = rw (eq-eqb _ _ h, le-ltb _ _ k) (by (not (eqb (length ram) 1024)))
   where
     s : Step
-    s = step (busIn xs) (eventOf kind byte)
+    s = step (deviceIn xs .bus) (eventOf kind byte)
 
     r : BusOutcome
-    r = record { bus = busIn xs; registers = registersIn xs; ram = ram; reply = refused RamLength }
+    r = record { bus = deviceIn xs .bus; registers = deviceIn xs .registers; ram = ram; reply = refused RamLength }
 
-    by : (t : Bool) → let o : BusOutcome = cond t r (taken s (registersIn xs) ram) in deviceIn (heardOn xs o .device) ≡ After xs (o .bus) (o .registers)
+    by : (t : Bool) → let o : BusOutcome = cond t r (taken s (deviceIn xs .registers) ram) in deviceIn (heardOn xs o .device) ≡ After xs (o .bus) (o .registers)
     by true = ap deviceIn (ignored-same xs)
-    by false = heard-back xs ram (s .bus) (s .effect) h (λ t. ignored-back xs (eventOf kind byte) (s .bus) h (how (busIn xs) (eventOf kind byte) t))
+    by false = heard-back xs ram (s .bus) (s .effect) h (λ t. ignored-back xs (eventOf kind byte) (s .bus) h (how (deviceIn xs .bus) (eventOf kind byte) t))
 
 -- ---- the record after a frame start and a draw
 
--- each case of the call: what is read back, that a refused one writes no byte, and that the buffers keep their lengths
-start-cases : (xs : List ℕ) (lines : ℕ) → length xs ≡ 32
+-- each case of the call: what is read back, and that a refused one writes no byte
+start-cases : (xs : List ℕ) (lines : ℕ) → length xs ≡ recordLength
     → let o : StartOutcome = startFrame (deviceIn xs) lines in
-    (deviceIn (startedOn xs o .device) ≡ o .device)
-    × ((o .reply .refusal ≡ 0 → ⊥) → startedOn xs o .device ≡ xs)
-    × (length (startedOn xs o .device) ≡ length xs)
+    (deviceIn (startedOn xs o .device) ≡ o .device) × ((o .reply .refusal ≡ 0 → ⊥) → startedOn xs o .device ≡ xs)
 unfolding startedOn startFrame inFrame
 start-cases xs lines h = by (eqb lines 0 || ltb 2048 lines)
   where
@@ -184,14 +169,9 @@ start-cases xs lines h = by (eqb lines 0 || ltb 2048 lines)
 
     by : (t : Bool)
         → let o : StartOutcome = cond t (record { device = d; reply = refused FrameLines }) (record { device = inFrame d lines; reply = accepted 0 }) in
-        (deviceIn (startedOn xs o .device) ≡ o .device)
-        × ((o .reply .refusal ≡ 0 → ⊥) → startedOn xs o .device ≡ xs)
-        × (length (startedOn xs o .device) ≡ length xs)
-    by true = (refl, λ n. refl, refl)
-    by false =
-        let n = inFrame d lines .next in
-        let f = inFrame d lines .frame in
-        (start-back xs n f h, λ no. absurd (no refl), omega (arith, length-append (take 20 xs) (n ∷ frameBytes f), length-take 20 xs))
+        (deviceIn (startedOn xs o .device) ≡ o .device) × ((o .reply .refusal ≡ 0 → ⊥) → startedOn xs o .device ≡ xs)
+    by true = (refl, λ n. refl)
+    by false = (start-back (inFrame d lines .frame) (inFrame d lines .next) xs h, λ n. absurd (n refl))
 
 -- W bytes written at the front of a buffer that has them
 line-length : (d : Device) (ram font line : List ℕ) → lineWidth d ≤ length line → length (lineDrawn d ram font line .line) ≡ length line
@@ -200,11 +180,10 @@ line-length d ram font line h =
     let w = paint-length (settingsOf (d .registers)) font (d .frame .number) (value ram (nextScan d) .row) in
     simp (length-append, length-drop) (omega (arith, w))
 
-draw-cases : (xs ram font line : List ℕ) → length xs ≡ 32
+draw-cases : (xs ram font line : List ℕ) → length xs ≡ recordLength
     → let o : DrawOutcome = drawLine (deviceIn xs) ram font line in
     (deviceIn (drawnOn xs o .device) ≡ o .device)
     × ((o .reply .refusal ≡ 0 → ⊥) → drawnOn xs o .device ≡ xs)
-    × (length (drawnOn xs o .device) ≡ length xs)
     × (length (o .line) ≡ length line)
 unfolding drawnOn
 draw-cases xs ram font line h =
@@ -212,13 +191,11 @@ draw-cases xs ram font line h =
     (λ (o : DrawOutcome).
     (deviceIn (drawnOn xs o .device) ≡ o .device)
     × ((o .reply .refusal ≡ 0 → ⊥) → drawnOn xs o .device ≡ xs)
-    × (length (drawnOn xs o .device) ≡ length xs)
     × (length (o .line) ≡ length line))
     (λ r. not-written r)
     (unfold lineDrawn lineOn in λ ready. (
-      draw-back xs (lineOn d ram .frame) h,
+      draw-back (lineOn d ram .frame) xs h,
       λ n. absurd (n refl),
-      omega (arith, length-append (take 21 xs) (frameBytes (lineOn d ram .frame)), length-take 21 xs),
       line-length d ram font line (ready .room),
     ))
   where
@@ -228,48 +205,47 @@ draw-cases xs ram font line h =
     not-written : (r : Refusal)
         → (deviceIn (drawnOn xs (notDrawn d line r) .device) ≡ d)
         × ((numberOf r ≡ 0 → ⊥) → drawnOn xs (notDrawn d line r) .device ≡ xs)
-        × (length (drawnOn xs (notDrawn d line r) .device) ≡ length xs)
         × (length line ≡ length line)
-    not-written r = rw (not-zero r) (refl, λ n. refl, refl, refl)
+    not-written r = rw (not-zero r) (refl, λ n. refl, refl)
 
 -- ---- a refused event
 
 silent-by : (xs ram : List ℕ) (next : Bus) (f : Effect) → (T (isIgnore f) → ignoredOn (next .state) xs ≡ xs)
-    → (taken (record { bus = next; effect = f }) (registersIn xs) ram .reply .refusal ≡ 0 → ⊥)
-    → heardOn xs (taken (record { bus = next; effect = f }) (registersIn xs) ram) .device ≡ xs
+    → (taken (record { bus = next; effect = f }) (deviceIn xs .registers) ram .reply .refusal ≡ 0 → ⊥)
+    → heardOn xs (taken (record { bus = next; effect = f }) (deviceIn xs .registers) ram) .device ≡ xs
 unfolding heardOn taken answerTo
 silent-by xs ram next Acknowledge i n = absurd (n refl)
 silent-by xs ram next Ignore i n = i tt
 silent-by xs ram next (Store a x) i n = absurd (n refl)
 silent-by xs ram next (Load a) i n = absurd (n refl)
 
-ignored-silent : (xs : List ℕ) (e : Event) (next : Bus) → (T (isByte e) → busIn xs .state ≡ Slave → ⊥) → Ignored (busIn xs) e next
+ignored-silent : (xs : List ℕ) (e : Event) (next : Bus) → (T (isByte e) → deviceIn xs .bus .state ≡ Slave → ⊥) → Ignored (deviceIn xs .bus) e next
     → ignoredOn (next .state) xs ≡ xs
 ignored-silent xs e next u (stays p) = ap (λ (b : Bus). ignoredOn (b .state) xs) p ∙ ignored-same xs
 ignored-silent xs e next u (deafens t q p) = absurd (u t q)
 
-silence : (xs ram : List ℕ) (kind byte : ℕ) → (kind ≡ 1 → busIn xs .state ≡ Slave → length ram ≡ 1024 → ⊥)
+silence : (xs ram : List ℕ) (kind byte : ℕ) → (kind ≡ 1 → deviceIn xs .bus .state ≡ Slave → length ram ≡ 1024 → ⊥)
     → (hearEvent (deviceIn xs) ram (eventOf kind byte) .reply .refusal ≡ 0 → ⊥) → busOn xs ram kind byte .device ≡ xs
 unfolding busOn heardOn hearEvent busEvent
-silence xs ram kind byte u = by (eqb (length xs) 32 && not (ltb 3 kind)) (not (eqb (length ram) 1024)) refl
+silence xs ram kind byte u = by (eqb (length xs) recordLength && not (ltb 3 kind)) (not (eqb (length ram) 1024)) refl
   where
     e : Event
     e = eventOf kind byte
 
     s : Step
-    s = step (busIn xs) e
+    s = step (deviceIn xs .bus) e
 
     r : BusOutcome
-    r = record { bus = busIn xs; registers = registersIn xs; ram = ram; reply = refused RamLength }
+    r = record { bus = deviceIn xs .bus; registers = deviceIn xs .registers; ram = ram; reply = refused RamLength }
 
     by : (p t : Bool) → not (eqb (length ram) 1024) ≡ t
-        → let o : BusOutcome = cond t r (taken s (registersIn xs) ram) in
+        → let o : BusOutcome = cond t r (taken s (deviceIn xs .registers) ram) in
         (o .reply .refusal ≡ 0 → ⊥) → cond p (heardOn xs o) (record { device = xs; ram = ram; answer = notTaken }) .device ≡ xs
     by false t q n = refl
     by true true q n = ignored-same xs
     by true false q n =
         silent-by xs ram (s .bus) (s .effect)
-        (λ t. ignored-silent xs e (s .bus) (λ c d. u (byte-kind kind byte c) d (eqb-true _ _ (not-false _ q))) (how (busIn xs) e t)) n
+        (λ t. ignored-silent xs e (s .bus) (λ c d. u (byte-kind kind byte c) d (eqb-true _ _ (not-false _ q))) (how (deviceIn xs .bus) e t)) n
 
 start-silence : (xs : List ℕ) (lines : ℕ) → (startFrame (deviceIn xs) lines .reply .refusal ≡ 0 → ⊥) → startOn xs lines .device ≡ xs
 unfolding startOn
@@ -280,8 +256,8 @@ unfolding drawOn
 draw-silence xs ram font line n =
     if-taken (λ (r : DrawDone). r .device ≡ xs) (isRecord xs) _ _ (λ e. draw-cases xs ram font line (eqb-true _ _ e) .1 n) refl
 
-deafness : (xs ram : List ℕ) (byte : ℕ) → length xs ≡ 32 → length ram ≡ 1024 → busIn xs .state ≡ Slave → (byte ≡ 0xBA → ⊥) → (byte ≡ 0xBB → ⊥)
-    → busOn xs ram 1 byte ≡ record { device = set xs 0 1; ram = ram; answer = answerOf (refused NotAcknowledged) }
+deafness : (xs ram : List ℕ) (byte : ℕ) → length xs ≡ recordLength → length ram ≡ 1024 → deviceIn xs .bus .state ≡ Slave → (byte ≡ 0xBA → ⊥) → (byte ≡ 0xBB → ⊥)
+    → busOn xs ram 1 byte ≡ record { device = set xs busAt 1; ram = ram; answer = answerOf (refused NotAcknowledged) }
 unfolding busOn heardOn hearEvent busEvent taken step ramWith answerTo
 deafness xs ram byte h k s a b = rw (eq-eqb _ _ h, eq-eqb _ _ k, s, ne-eqb _ _ a, ne-eqb _ _ b)
 
@@ -291,65 +267,67 @@ fresh-length : (xs : List ℕ) → length (freshOn xs .device) ≡ length xs
 unfolding freshOn freshDevice
 fresh-length xs = if-taken (λ (r : Done). length (r .device) ≡ length xs) (isRecord xs) _ _ (λ e. sym (eqb-true _ _ e)) refl
 
-heard-length : (xs : List ℕ) (o : BusOutcome) → length xs ≡ 32 → length (o .registers .bytes) ≡ 16 → length (heardOn xs o .device) ≡ length xs
-unfolding heardOn
-heard-length xs o h k =
-    either Long (eqb (o .reply .refusal) 0) _ _ (omega (arith, length-append (o .registers .bytes) (drop 20 xs), length-drop 20 xs))
-    (either Long (eqb (stateNumber (o .bus .state)) 1) _ _ (length-set xs 0 1) refl)
-  where
-    Long : List ℕ → Type 0
-    Long l = length l ≡ length xs
+-- puts keep the length, so a call does, whether it is taken or refused
+abbrev Long : List ℕ → List ℕ → Type 0
+Long xs l = length l ≡ length xs
 
 bus-length : (xs ram : List ℕ) (kind byte : ℕ)
     → (length (busOn xs ram kind byte .device) ≡ length xs) × (length (busOn xs ram kind byte .ram) ≡ length ram)
 unfolding busOn heardOn hearEvent
 bus-length xs ram kind byte =
-    if-taken (λ (r : BusDone). (length (r .device) ≡ length xs) × (length (r .ram) ≡ length ram)) (isRecord xs && not (ltb 3 kind)) _ _
-    (λ e.
-    let h : length xs ≡ 32 = both-tests (length xs) kind e .0 in
-    let o : BusOutcome = busEvent (busIn xs) (registersIn xs) ram (eventOf kind byte) in
-    (heard-length xs o h (heard-sixteen xs ram (eventOf kind byte) h), busEvent-length (busIn xs) (registersIn xs) ram (eventOf kind byte)))
+    let o : BusOutcome = busEvent (deviceIn xs .bus) (deviceIn xs .registers) ram (eventOf kind byte) in
+    either (λ (r : BusDone). Long xs (r .device) × Long ram (r .ram)) (isRecord xs && not (ltb 3 kind)) _ _
+    (
+      either (Long xs) (eqb (o .reply .refusal) 0) _ _ (length-sets (put registersAt (o .registers .bytes) xs) busAt (busBytes (o .bus)) ∙ length-sets xs registersAt (o .registers .bytes))
+      (either (Long xs) (eqb (stateNumber (o .bus .state)) 1) _ _ (length-set xs busAt 1) refl),
+      busEvent-length (deviceIn xs .bus) (deviceIn xs .registers) ram (eventOf kind byte),
+    )
     (refl, refl)
 
 start-length : (xs : List ℕ) (lines : ℕ) → length (startOn xs lines .device) ≡ length xs
-unfolding startOn
+unfolding startOn startedOn
 start-length xs lines =
-    if-taken (λ (r : Done). length (r .device) ≡ length xs) (isRecord xs) _ _ (λ e. start-cases xs lines (eqb-true _ _ e) .2) refl
+    let o : StartOutcome = startFrame (deviceIn xs) lines in
+    either (λ (r : Done). Long xs (r .device)) (isRecord xs) _ _
+    (either (Long xs) (eqb (o .reply .refusal) 0) _ _
+    (length-sets (put nextAt (nextBytes (o .device .next)) xs) frameAt (frameBytes (o .device .frame)) ∙ length-sets xs nextAt (nextBytes (o .device .next))) refl) refl
 
 draw-length : (xs ram font line : List ℕ)
     → (length (drawOn xs ram font line .device) ≡ length xs) × (length (drawOn xs ram font line .line) ≡ length line)
 unfolding drawOn drawnOn
 draw-length xs ram font line =
-    if-taken (λ (r : DrawDone). (length (r .device) ≡ length xs) × (length (r .line) ≡ length line)) (isRecord xs) _ _
-    (λ e. let c = draw-cases xs ram font line (eqb-true _ _ e) in (c .2, c .3)) (refl, refl)
+    let o : DrawOutcome = drawLine (deviceIn xs) ram font line in
+    if-taken (λ (r : DrawDone). Long xs (r .device) × Long line (r .line)) (isRecord xs) _ _
+    (λ e. (either (Long xs) (eqb (o .reply .refusal) 0) _ _ (length-sets xs frameAt (frameBytes (o .device .frame))) refl, draw-cases xs ram font line (eqb-true _ _ e) .2))
+    (refl, refl)
 
 -- ---- the answers, and the other buffers
 
-bus-rest : (xs ram : List ℕ) (kind byte : ℕ) → length xs ≡ 32 → kind ≤ 3
+bus-rest : (xs ram : List ℕ) (kind byte : ℕ) → length xs ≡ recordLength → kind ≤ 3
     → let o : EventOutcome = hearEvent (deviceIn xs) ram (eventOf kind byte) in
     let r : BusDone = busOn xs ram kind byte in (r .ram ≡ o .ram) × (r .answer ≡ answerOf (o .reply))
 unfolding busOn heardOn
 bus-rest xs ram kind byte h k = rw (eq-eqb _ _ h, le-ltb _ _ k) (refl, refl)
 
-start-whole : (xs : List ℕ) (lines : ℕ) → length xs ≡ 32
+start-whole : (xs : List ℕ) (lines : ℕ) → length xs ≡ recordLength
     → let o : StartOutcome = startFrame (deviceIn xs) lines in
     let r : Done = startOn xs lines in (deviceIn (r .device) ≡ o .device) × (r .answer ≡ answerOf (o .reply))
 unfolding startOn startedOn
 start-whole xs lines h = rw (eq-eqb _ _ h) (start-cases xs lines h .0, refl)
 
-draw-whole : (xs ram font line : List ℕ) → length xs ≡ 32
+draw-whole : (xs ram font line : List ℕ) → length xs ≡ recordLength
     → let o : DrawOutcome = drawLine (deviceIn xs) ram font line in
     let r : DrawDone = drawOn xs ram font line in (deviceIn (r .device) ≡ o .device) × (r .line ≡ o .line) × (r .answer ≡ answerOf (o .reply))
 unfolding drawOn drawnOn
 draw-whole xs ram font line h = rw (eq-eqb _ _ h) (draw-cases xs ram font line h .0, refl, refl)
 
-cell-rest : (xs ram : List ℕ) (c : ℕ) → length xs ≡ 32 → cellOn xs ram c ≡ answerOf (askCell (deviceIn xs) ram c)
+cell-rest : (xs ram : List ℕ) (c : ℕ) → length xs ≡ recordLength → cellOn xs ram c ≡ answerOf (askCell (deviceIn xs) ram c)
 unfolding cellOn
 cell-rest xs ram c h = rw (eq-eqb _ _ h)
 
 no-kind : (xs ram : List ℕ) (kind byte : ℕ) → 3 < kind → busOn xs ram kind byte ≡ record { device = xs; ram = ram; answer = notTaken }
 unfolding busOn
-no-kind xs ram kind byte k = rw (lt-ltb _ _ k) (by (eqb (length xs) 32))
+no-kind xs ram kind byte k = rw (lt-ltb _ _ k) (by (eqb (length xs) recordLength))
   where
     o : BusDone
     o = record { device = xs; ram = ram; answer = notTaken }
@@ -358,7 +336,7 @@ no-kind xs ram kind byte k = rw (lt-ltb _ _ k) (by (eqb (length xs) 32))
     by true = refl
     by false = refl
 
-fresh-read : (xs : List ℕ) → length xs ≡ 32 → (deviceIn (freshOn xs .device) ≡ freshDevice) × (freshOn xs .answer ≡ 0)
+fresh-read : (xs : List ℕ) → length xs ≡ recordLength → (deviceIn (freshOn xs .device) ≡ freshDevice) × (freshOn xs .answer ≡ 0)
 unfolding freshOn freshDevice
 fresh-read xs h = rw (eq-eqb _ _ h) (read-back freshDevice refl, refl)
 

@@ -4,12 +4,11 @@
 use Prim.Native.Nat.{ℕ, _≤_}
 use mathlib.Core.Path.{_≡_, refl, sym, ap, ap₂, _∙_, subst}
 use mathlib.Core.Bool.{Bool, true, false, not, cond, _&&_, true≢false}
-use mathlib.Core.List.{List, _++_}
+use mathlib.Core.List.{List, [], _∷_}
 use native.Mathlib.Omega.{arith}
 use borrow.Author.Tests.{eq-eqb, eqb-true}
 use lib.Dec.{eqb, ltb}
-use lib.ListN.{length, take, drop, set, length-take}
-use lib.Seq.{set-append-left, take-set-lt}
+use lib.ListN.{length, set}
 use Rattle.runs.specs.Runs.{AsMade}
 use Rattle.runs.proofs.Laws.{as-made-map, kept-by-each, Apart, reordered}
 use Rattle.cells.specs.Reading.{Alike}
@@ -22,8 +21,8 @@ use Rattle.device.specs.OnePage as device
 use Rattle.device.specs.Use.{EventQuiet}
 use Rattle.device.proofs.Quiet.{quiet-if-write}
 use Rattle.device.proofs.OnePage.{late, same-draw, by-draw, apart, still-unread}
-use Rattle.layout.specs.Layout.{stateNumber, busBytes, busIn, registersIn, frameBytes, deviceIn}
-use Rattle.layout.proofs.Laws.{either-order}
+use Rattle.layout.specs.Layout.{busAt, registersAt, registersLength, frameAt, recordLength, put, stateNumber, busBytes, frameBytes, deviceIn}
+use Rattle.layout.proofs.Parts.{sets-comm}
 use Rattle.osd.specs.Interface.{answerOf, notTaken, BusDone, heardOn, busOn, drawnOn, drawOn, cellOn}
 use Rattle.osd.specs.OnePage.{Call, draw, cell, bus, State, Answer, drawn, asked, heard, answer, after, isEvent, calls, Quiet, QuietCall, QuietRun, OnePageBytes, NoStaysBytes}
 use Rattle.osd.proofs.Calls.{both-tests, bus-is}
@@ -33,18 +32,18 @@ use Rattle.osd.proofs.Crossing.{heard-sixteen, crossing}
 
 -- by the length of the record's buffer: what is not taken is refused with 255
 taken : ℕ → Call → Bool
-taken n (draw line) = eqb n 32
-taken n (cell c) = eqb n 32
-taken n (bus kind byte) = eqb n 32 && not (ltb 3 kind)
+taken n (draw line) = eqb n recordLength
+taken n (cell c) = eqb n recordLength
+taken n (bus kind byte) = eqb n recordLength && not (ltb 3 kind)
 
 abbrev takenAt : State → Call → Bool
 takenAt s c = taken (length (s .device)) c
 
-bus-taken : (s : State) (kind byte : ℕ) → takenAt s (bus kind byte) ≡ true → (length (s .device) ≡ 32) × (kind ≤ 3)
+bus-taken : (s : State) (kind byte : ℕ) → takenAt s (bus kind byte) ≡ true → (length (s .device) ≡ recordLength) × (kind ≤ 3)
 unfolding taken
 bus-taken s kind byte t = both-tests (length (s .device)) kind t
 
-taken-length : (s : State) (c : Call) → takenAt s c ≡ true → length (s .device) ≡ 32
+taken-length : (s : State) (c : Call) → takenAt s c ≡ true → length (s .device) ≡ recordLength
 unfolding taken
 taken-length s (draw line) t = eqb-true _ _ t
 taken-length s (cell c) t = eqb-true _ _ t
@@ -145,32 +144,32 @@ quiet-run font s cs q = as-made-map QuietCall QuietTaken (calls font) quiet-take
 -- ---- the bytes: a bus call writes those of bus and registers, a draw those of the frame
 
 -- whatever the event and the draw come to
-apart-bytes : (xs : List ℕ) (o : BusOutcome) (d : DrawOutcome) → length xs ≡ 32 → length (o .registers .bytes) ≡ 16
+apart-bytes : (xs : List ℕ) (o : BusOutcome) (d : DrawOutcome) → length (o .registers .bytes) ≡ registersLength
     → drawnOn (heardOn xs o .device) d .device ≡ heardOn (drawnOn xs d .device) o .device
 unfolding drawnOn heardOn
-apart-bytes xs o d h k =
+apart-bytes xs o d k =
     by (eqb (d .reply .refusal) 0) (eqb (o .reply .refusal) 0) (eqb (stateNumber (o .bus .state)) 1)
   where
     frame : List ℕ
     frame = frameBytes (d .device .frame)
 
     heardBy : Bool → Bool → List ℕ → List ℕ
-    heardBy p q l = cond p (busBytes (o .bus) ++ (o .registers .bytes ++ drop 20 l)) (cond q (set l 0 1) l)
+    heardBy p q l = cond p (put busAt (busBytes (o .bus)) (put registersAt (o .registers .bytes) l)) (cond q (set l busAt 1) l)
 
-    by : (t p q : Bool) → cond t (take 21 (heardBy p q xs) ++ frame) (heardBy p q xs) ≡ heardBy p q (cond t (take 21 xs ++ frame) xs)
+    by : (t p q : Bool) → cond t (put frameAt frame (heardBy p q xs)) (heardBy p q xs) ≡ heardBy p q (cond t (put frameAt frame xs) xs)
     by false p q = refl
-    by true true q = either-order (busBytes (o .bus) ++ o .registers .bytes) xs frame (omega arith) (omega arith)
-    by true false true =
-        ap (λ (l : List ℕ). l ++ frame) (take-set-lt 21 xs 0 1 (omega arith))
-        ∙ sym (set-append-left (take 21 xs) frame 0 1 (omega (arith, length-take 21 xs)))
+    by true true q =
+        sets-comm (put registersAt (o .registers .bytes) xs) (busBytes (o .bus)) frame busAt frameAt (omega arith)
+        ∙ ap (put busAt (busBytes (o .bus))) (sets-comm xs (o .registers .bytes) frame registersAt frameAt (omega arith))
+    by true false true = sets-comm xs (1 ∷ []) frame busAt frameAt (omega arith)
     by true false false = refl
 
-draw-is : (xs ram font line : List ℕ) → length xs ≡ 32 → drawOn xs ram font line .device ≡ drawnOn xs (drawLine (deviceIn xs) ram font line) .device
+draw-is : (xs ram font line : List ℕ) → length xs ≡ recordLength → drawOn xs ram font line .device ≡ drawnOn xs (drawLine (deviceIn xs) ram font line) .device
 unfolding drawOn
 draw-is xs ram font line h = rw (eq-eqb _ _ h)
 
 -- the draw after the quiet event draws the same, the event after the draw does the same; so the bytes are the same
-same-bytes : (xs ram font line : List ℕ) (kind byte : ℕ) → length xs ≡ 32 → kind ≤ 3
+same-bytes : (xs ram font line : List ℕ) (kind byte : ℕ) → length xs ≡ recordLength → kind ≤ 3
     → device.Quiet (record { device = deviceIn xs; ram = ram }) (eventOf kind byte)
     → drawOn (busOn xs ram kind byte .device) (busOn xs ram kind byte .ram) font line .device
     ≡ busOn (drawOn xs ram font line .device) ram kind byte .device
@@ -179,20 +178,20 @@ same-bytes xs ram font line kind byte h k q =
     let e = eventOf kind byte in
     let ys : List ℕ = busOn xs ram kind byte .device in
     let zs : List ℕ = drawOn xs ram font line .device in
-    let o : BusOutcome = busEvent (busIn xs) (registersIn xs) ram e in
+    let o : BusOutcome = busEvent (deviceIn xs .bus) (deviceIn xs .registers) ram e in
     let d : DrawOutcome = drawLine (deviceIn xs) ram font line in
     let b = crossing .bus xs ram kind byte h k in
     let drawn-late : drawLine (deviceIn ys) (busOn xs ram kind byte .ram) font line ≡ late ram e d =
     ap₂ (λ (x : Device) (m : List ℕ). drawLine x m font line) (b .0) (b .1) ∙ same-draw (deviceIn xs) ram e (q .settings) (q .cells) font line in
-    let heard-late : busEvent (busIn zs) (registersIn zs) ram e ≡ o =
+    let heard-late : busEvent (deviceIn zs .bus) (deviceIn zs .registers) ram e ≡ o =
     ap (λ (x : Device). busEvent (x .bus) (x .registers) ram e) (crossing .draw xs ram font line h .0)
     ∙ by-draw (deviceIn xs) ram font line (λ (x : DrawOutcome). busEvent (x .device .bus) (x .device .registers) ram e ≡ o)
     (λ r. refl) (unfold lineDrawn lineOn in λ t. refl) in
-    let heard-is : (l : List ℕ) → length l ≡ 32 → heardOn l (busEvent (busIn l) (registersIn l) ram e) .device ≡ busOn l ram kind byte .device =
+    let heard-is : (l : List ℕ) → length l ≡ recordLength → heardOn l (busEvent (deviceIn l .bus) (deviceIn l .registers) ram e) .device ≡ busOn l ram kind byte .device =
     λ l n. ap (λ (r : BusDone). r .device) (bus-is l ram kind byte n k) in
     draw-is ys (busOn xs ram kind byte .ram) font line (crossing .length-bus xs ram kind byte .0 ∙ h)
     ∙ ap₂ (λ (l : List ℕ) (x : DrawOutcome). drawnOn l x .device) (sym (heard-is xs h)) drawn-late
-    ∙ apart-bytes xs o d h (heard-sixteen xs ram e h)
+    ∙ apart-bytes xs o d (heard-sixteen xs ram e h)
     ∙ ap₂ (λ (l : List ℕ) (x : BusOutcome). heardOn l x .device) (sym (draw-is xs ram font line h)) (sym heard-late)
     ∙ heard-is zs (crossing .length-draw xs ram font line .0 ∙ h)
 
@@ -266,7 +265,7 @@ still-no font c s d q n = by (takenAt s d) refl
   where
     by : (t : Bool) → takenAt s d ≡ t → cellOn (after font s d .device) (after font s d .ram) c ≡ 0
     by true t =
-        let h : length (s .device) ≡ 32 = taken-length s d t in
+        let h : length (s .device) ≡ recordLength = taken-length s d t in
         let no : askCell (deviceIn (s .device)) (s .ram) c ≡ accepted 0 = zero-no _ (sym (crossing .cell (s .device) (s .ram) c h) ∙ n) in
         crossing .cell _ _ c (same-length font s d ∙ h)
         ∙ ap (λ (v : device.State). answerOf (askCell (v .device) (v .ram) c)) (carried font s d t .state)

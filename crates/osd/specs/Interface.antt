@@ -4,9 +4,9 @@
 use Prim.Native.Nat.{ℕ, _+_, _-_, _*_, _%_, _≤_, _<_}
 use mathlib.Core.Path.{_≡_}
 use mathlib.Core.Bool.{Bool, not, cond, _&&_}
-use mathlib.Core.List.{List, _∷_, _++_}
+use mathlib.Core.List.{List}
 use lib.Dec.{eqb, ltb}
-use lib.ListN.{length, getD, take, drop, set}
+use lib.ListN.{length, getD, set}
 use lib.Bits.{bitAnd}
 use Rattle.refusals.specs.declared.Refusal.the-variants.{NotAcknowledged}
 use Rattle.refusals.specs.Refusals.{Reply, refused}
@@ -19,7 +19,7 @@ use Rattle.bus.specs.declared.Effect.{Effect}
 use Rattle.bus.specs.declared.Effect.the-variants.{Acknowledge, Ignore, Store, Load}
 use Rattle.bus.specs.Bus.{eventOf, step, isRegister, BusOutcome, taken}
 use Rattle.device.specs.Device.{freshDevice, EventOutcome, hearEvent, StartOutcome, startFrame, DrawOutcome, drawLine, askCell}
-use Rattle.layout.specs.Layout.{stateNumber, busBytes, busIn, registersIn, frameBytes, deviceBytes, deviceIn}
+use Rattle.layout.specs.Layout.{busAt, registersAt, nextAt, frameAt, recordLength, put, stateNumber, busBytes, nextBytes, frameBytes, deviceBytes, deviceIn}
 
 -- ---- answers: refusal × 65,536 + value
 
@@ -31,7 +31,7 @@ abbrev pub notTaken : ℕ
 notTaken = answerOf (record { refusal = 255; value = 0 })
 
 abbrev pub isRecord : List ℕ → Bool
-isRecord xs = eqb (length xs) 32
+isRecord xs = eqb (length xs) recordLength
 
 -- a refused call writes no byte of the record
 abbrev pub unlessRefused : Reply → List ℕ → List ℕ → List ℕ
@@ -56,13 +56,13 @@ pub record BusDone : Type 0 where
 
 -- refused: no byte is written, except deaf after an unknown slave address
 abbrev pub ignoredOn : State → List ℕ → List ℕ
-ignoredOn s xs = cond (eqb (stateNumber s) 1) (set xs 0 1) xs
+ignoredOn s xs = cond (eqb (stateNumber s) 1) (set xs busAt 1) xs
 
--- an acknowledged event writes the bus part and the registers; a refused one only that the device has turned deaf
+-- an acknowledged event puts the bus part and the registers; a refused one only that the device has turned deaf
 unfoldable pub heardOn : List ℕ → BusOutcome → BusDone
 heardOn xs o =
     record {
-      device = unlessRefused (o .reply) (busBytes (o .bus) ++ (o .registers .bytes ++ drop 20 xs)) (ignoredOn (o .bus .state) xs);
+      device = unlessRefused (o .reply) (put busAt (busBytes (o .bus)) (put registersAt (o .registers .bytes) xs)) (ignoredOn (o .bus .state) xs);
       ram = o .ram;
       answer = answerOf (o .reply);
     }
@@ -76,10 +76,10 @@ InSpace (Load a) = a < 0x4000
 
 -- a step of the bus, and an event to a record and RAM of the right lengths: what the promises of inner functions cite
 abbrev pub stepOn : List ℕ → List ℕ → Step → BusDone
-stepOn xs ram s = heardOn xs (taken s (registersIn xs) ram)
+stepOn xs ram s = heardOn xs (taken s (deviceIn xs .registers) ram)
 
 abbrev pub eventOn : List ℕ → List ℕ → Event → BusDone
-eventOn xs ram e = stepOn xs ram (step (busIn xs) e)
+eventOn xs ram e = stepOn xs ram (step (deviceIn xs .bus) e)
 
 -- all that an event touches of a device
 abbrev pub touched : EventOutcome → BusOutcome
@@ -94,14 +94,14 @@ busOn xs ram kind byte =
 
 -- a store to an address leaves the registers in their place
 abbrev pub storedOn : ℕ → ℕ → List ℕ → List ℕ
-storedOn a x xs = cond (isRegister a) (set xs (4 + (a - 0x3FF0) % 16) (bitAnd x (getD kept ((a - 0x3FF0) % 16) 0))) xs
+storedOn a x xs = cond (isRegister a) (set xs (registersAt + (a - 0x3FF0) % 16) (bitAnd x (getD kept ((a - 0x3FF0) % 16) 0))) xs
 
 -- ---- frame start
 
 unfoldable pub startedOn : List ℕ → StartOutcome → Done
 startedOn xs o =
     record {
-      device = unlessRefused (o .reply) (take 20 xs ++ (o .device .next ∷ frameBytes (o .device .frame))) xs;
+      device = unlessRefused (o .reply) (put frameAt (frameBytes (o .device .frame)) (put nextAt (nextBytes (o .device .next)) xs)) xs;
       answer = answerOf (o .reply);
     }
 
@@ -118,7 +118,7 @@ pub record DrawDone : Type 0 where
 unfoldable pub drawnOn : List ℕ → DrawOutcome → DrawDone
 drawnOn xs o =
     record {
-      device = unlessRefused (o .reply) (take 21 xs ++ frameBytes (o .device .frame)) xs;
+      device = unlessRefused (o .reply) (put frameAt (frameBytes (o .device .frame)) xs) xs;
       line = o .line;
       answer = answerOf (o .reply);
     }
@@ -136,19 +136,19 @@ cellOn xs ram cell = cond (isRecord xs) (answerOf (askCell (deviceIn xs) ram cel
 
 pub record Crossing : Type 0 where
   -- reset has the same definition: a device's reset leaves a fresh device
-  pub fresh : (xs : List ℕ) → length xs ≡ 32 → (deviceIn (freshOn xs .device) ≡ freshDevice) × (freshOn xs .answer ≡ 0)
-  pub bus : (xs ram : List ℕ) (kind byte : ℕ) → length xs ≡ 32 → kind ≤ 3
+  pub fresh : (xs : List ℕ) → length xs ≡ recordLength → (deviceIn (freshOn xs .device) ≡ freshDevice) × (freshOn xs .answer ≡ 0)
+  pub bus : (xs ram : List ℕ) (kind byte : ℕ) → length xs ≡ recordLength → kind ≤ 3
       → let o : EventOutcome = hearEvent (deviceIn xs) ram (eventOf kind byte) in
       let r : BusDone = busOn xs ram kind byte in (deviceIn (r .device) ≡ o .device) × (r .ram ≡ o .ram) × (r .answer ≡ answerOf (o .reply))
-  pub start : (xs : List ℕ) (lines : ℕ) → length xs ≡ 32
+  pub start : (xs : List ℕ) (lines : ℕ) → length xs ≡ recordLength
       → let o : StartOutcome = startFrame (deviceIn xs) lines in
       let r : Done = startOn xs lines in (deviceIn (r .device) ≡ o .device) × (r .answer ≡ answerOf (o .reply))
-  pub draw : (xs ram font line : List ℕ) → length xs ≡ 32
+  pub draw : (xs ram font line : List ℕ) → length xs ≡ recordLength
       → let o : DrawOutcome = drawLine (deviceIn xs) ram font line in
       let r : DrawDone = drawOn xs ram font line in (deviceIn (r .device) ≡ o .device) × (r .line ≡ o .line) × (r .answer ≡ answerOf (o .reply))
-  pub cell : (xs ram : List ℕ) (c : ℕ) → length xs ≡ 32 → cellOn xs ram c ≡ answerOf (askCell (deviceIn xs) ram c)
+  pub cell : (xs ram : List ℕ) (c : ℕ) → length xs ≡ recordLength → cellOn xs ram c ≡ answerOf (askCell (deviceIn xs) ram c)
   -- refused with 255: nothing changes
-  pub not-taken : (xs ram font line : List ℕ) (kind byte lines c : ℕ) → (length xs ≡ 32 → ⊥)
+  pub not-taken : (xs ram font line : List ℕ) (kind byte lines c : ℕ) → (length xs ≡ recordLength → ⊥)
       → (freshOn xs ≡ record { device = xs; answer = notTaken })
       × (busOn xs ram kind byte ≡ record { device = xs; ram = ram; answer = notTaken })
       × (startOn xs lines ≡ record { device = xs; answer = notTaken })
@@ -165,8 +165,8 @@ pub record Crossing : Type 0 where
   -- a call that the device's function refuses writes no byte of the record ..
   pub silent-start : (xs : List ℕ) (lines : ℕ) → (startFrame (deviceIn xs) lines .reply .refusal ≡ 0 → ⊥) → startOn xs lines .device ≡ xs
   pub silent-draw : (xs ram font line : List ℕ) → (drawLine (deviceIn xs) ram font line .reply .refusal ≡ 0 → ⊥) → drawOn xs ram font line .device ≡ xs
-  pub silent-bus : (xs ram : List ℕ) (kind byte : ℕ) → (kind ≡ 1 → busIn xs .state ≡ Slave → length ram ≡ 1024 → ⊥)
+  pub silent-bus : (xs ram : List ℕ) (kind byte : ℕ) → (kind ≡ 1 → deviceIn xs .bus .state ≡ Slave → length ram ≡ 1024 → ⊥)
       → (hearEvent (deviceIn xs) ram (eventOf kind byte) .reply .refusal ≡ 0 → ⊥) → busOn xs ram kind byte .device ≡ xs
   -- .. except deaf after an unknown slave address: byte 0 alone
-  pub deaf : (xs ram : List ℕ) (byte : ℕ) → length xs ≡ 32 → length ram ≡ 1024 → busIn xs .state ≡ Slave → (byte ≡ 0xBA → ⊥) → (byte ≡ 0xBB → ⊥)
-      → busOn xs ram 1 byte ≡ record { device = set xs 0 1; ram = ram; answer = answerOf (refused NotAcknowledged) }
+  pub deaf : (xs ram : List ℕ) (byte : ℕ) → length xs ≡ recordLength → length ram ≡ 1024 → deviceIn xs .bus .state ≡ Slave → (byte ≡ 0xBA → ⊥) → (byte ≡ 0xBB → ⊥)
+      → busOn xs ram 1 byte ≡ record { device = set xs busAt 1; ram = ram; answer = answerOf (refused NotAcknowledged) }

@@ -15,7 +15,7 @@ use Rattle.registers.specs.Registers.{settingsOf}
 use Rattle.bus.specs.Bus.{eventOf, step}
 use Rattle.device.specs.Device.{cellsLeft}
 use Rattle.device.specs.OnePage.{Stores}
-use Rattle.layout.specs.Layout.{busIn, registersIn, deviceIn}
+use Rattle.layout.specs.Layout.{recordLength, deviceIn}
 use Rattle.osd.specs.Interface.{busOn, drawOn, cellOn}
 
 -- a call of the list: a draw with any bytes, in any number, in its line buffer at entry; a cell question; a bus call
@@ -60,13 +60,13 @@ calls font = record { answer = answer font; after = after font; isEvent = isEven
 
 -- a bus write: the call is taken, and the event that it makes stores a byte
 abbrev pub Writes : State → ℕ → ℕ → Type 0
-Writes s kind byte = (length (s .device) ≡ 32) × (kind ≤ 3) × Stores (step (busIn (s .device)) (eventOf kind byte) .effect)
+Writes s kind byte = (length (s .device) ≡ recordLength) × (kind ≤ 3) × Stores (step (deviceIn (s .device) .bus) (eventOf kind byte) .effect)
 
 -- a bus call is quiet (the order's term, condition 3) if it changes no cell that the frame's remaining lines read, given RAM and
 -- registers as they stand, and none of the settings LD, DD, CH, OSD, FBK and FL
 pub record Quiet (s : State) (kind byte : ℕ) : Type 0 where
   pub cells : Alike (cellsLeft (deviceIn (s .device)) (s .ram)) (s .ram) (busOn (s .device) (s .ram) kind byte .ram)
-  pub settings : settingsOf (registersIn (busOn (s .device) (s .ram) kind byte .device)) ≡ settingsOf (registersIn (s .device))
+  pub settings : settingsOf (deviceIn (busOn (s .device) (s .ram) kind byte .device) .registers) ≡ settingsOf (deviceIn (s .device) .registers)
 
 -- a bus write among the calls is quiet; nothing is asked of any other call
 unfoldable pub QuietCall : State → Call → Type 0

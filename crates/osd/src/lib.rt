@@ -6,7 +6,7 @@ ghost use Rattle.refusals.specs.Refusals.{refused};
 ghost use Rattle.bus.specs.declared.Event.the-variants.{Byte, Fetch};
 ghost use Rattle.bus.specs.declared.Effect.the-variants.{Store};
 ghost use Rattle.bus.specs.Bus.{ramWith, byteIn};
-ghost use Rattle.layout.specs.Layout.{registersIn};
+ghost use Rattle.layout.specs.Layout.{busAt, recordLength, deviceIn};
 ghost use Rattle.osd.specs.Interface.{answerOf, freshOn, ignoredOn, InSpace, stepOn, eventOn, busOn, storedOn, startOn, drawOn, cellOn};
 use bus::Bus;
 use bus::Effect;
@@ -48,7 +48,7 @@ fn refuse(refusal: Refusal) -> u32
 
 #[no_mangle]
 pub extern "C" fn osd_device_len() -> u32
-    ensures { λ r. ⌜ r ≡ 32 ⌝ }
+    ensures { λ r. ⌜ r ≡ recordLength ⌝ }
 {
     32
 }
@@ -78,7 +78,7 @@ pub extern "C" fn osd_reset(device: &mut [u8]) -> u32
 
 // A byte to an address: a RAM cell, a register in its place, or nothing.
 fn store(device: &mut [u8], ram: &mut [u8], address: u16, x: u8)
-    requires { ⌜ (length (now device) ≡ 32) × (length (now ram) ≡ 1024) × (address < 0x4000) ⌝ }
+    requires { ⌜ (length (now device) ≡ recordLength) × (length (now ram) ≡ 1024) × (address < 0x4000) ⌝ }
     ensures registers { λ _. ⌜ now (device .exit) ≡ storedOn address x (now (device .entry)) ⌝ }
     ensures cells { λ _. ⌜ now (ram .exit) ≡ ramWith (Store address x) (now (ram .entry)) ⌝ }
 {
@@ -88,38 +88,38 @@ fn store(device: &mut [u8], ram: &mut [u8], address: u16, x: u8)
     }
     if address >= 0x3FF0 {
         let i = (address - 0x3FF0) as usize;
-        device[4 + i] = x & Registers::KEPT[i];
+        device[layout::REGISTERS_AT + i] = x & Registers::KEPT[i];
     }
 }
 
 // The byte at an address: a RAM cell's, a register's, or 0.
 fn load(device: &[u8], ram: &[u8], address: u16) -> u8
-    requires { ⌜ (length (now device) ≡ 32) × (length (now ram) ≡ 1024) × (address < 0x4000) ⌝ }
-    ensures { λ r. ⌜ r ≡ byteIn address (registersIn (now (device .entry))) (now (ram .entry)) ⌝ }
+    requires { ⌜ (length (now device) ≡ recordLength) × (length (now ram) ≡ 1024) × (address < 0x4000) ⌝ }
+    ensures { λ r. ⌜ r ≡ byteIn address (deviceIn (now (device .entry)) .registers) (now (ram .entry)) ⌝ }
 {
     if address < 0x400 {
         return ram[address as usize];
     }
     if address >= 0x3FF0 {
         let i = (address - 0x3FF0) as usize;
-        return device[4 + i];
+        return device[layout::REGISTERS_AT + i];
     }
     0
 }
 
 // An event that is not acknowledged writes no byte, unless the device turns deaf.
 fn ignore(device: &mut [u8], state: State)
-    requires { ⌜ length (now device) ≡ 32 ⌝ }
+    requires { ⌜ length (now device) ≡ recordLength ⌝ }
     ensures { λ _. ⌜ now (device .exit) ≡ ignoredOn state (now (device .entry)) ⌝ }
 {
     if layout::state_number(state) == DEAF {
-        device[0] = DEAF;
+        device[layout::BUS_AT] = DEAF;
     }
 }
 
 // What the bus asks of the cells, done in place.
 fn apply(device: &mut [u8], ram: &mut [u8], step: Step) -> u32
-    requires { ⌜ (length (now device) ≡ 32) × (length (now ram) ≡ 1024) × InSpace (step .effect) ⌝ }
+    requires { ⌜ (length (now device) ≡ recordLength) × (length (now ram) ≡ 1024) × InSpace (step .effect) ⌝ }
     ensures { λ r. ⌜ record { device = now (device .exit); ram = now (ram .exit); answer = r } ≡ stepOn (now (device .entry)) (now (ram .entry)) step ⌝ }
 {
     let next = step.bus;
@@ -149,10 +149,10 @@ fn apply(device: &mut [u8], ram: &mut [u8], step: Step) -> u32
 
 // A data byte: stored at the counter, which goes up.
 fn write_next(device: &mut [u8], ram: &mut [u8], x: u8) -> u32
-    requires { ⌜ (length (now device) ≡ 32) × (length (now ram) ≡ 1024) × (getD (now device) 0 0 ≡ 5) ⌝ }
+    requires { ⌜ (length (now device) ≡ recordLength) × (length (now ram) ≡ 1024) × (getD (now device) busAt 0 ≡ 5) ⌝ }
     ensures { λ r. ⌜ record { device = now (device .exit); ram = now (ram .exit); answer = r } ≡ eventOn (now (device .entry)) (now (ram .entry)) (Byte x) ⌝ }
 {
-    let address = layout::counter_in(device) % 0x4000;
+    let address = layout::counter_of(device) % 0x4000;
     let next = Bus {
         state: State::Write,
         counter: (address + 1) % 0x4000,
@@ -164,16 +164,17 @@ fn write_next(device: &mut [u8], ram: &mut [u8], x: u8) -> u32
 
 // A fetch: the byte at the counter, which goes up.
 fn read_next(device: &mut [u8], ram: &mut [u8]) -> u32
-    requires { ⌜ (length (now device) ≡ 32) × (length (now ram) ≡ 1024) × (getD (now device) 0 0 ≡ 6) ⌝ }
+    requires { ⌜ (length (now device) ≡ recordLength) × (length (now ram) ≡ 1024) × (getD (now device) busAt 0 ≡ 6) ⌝ }
     ensures { λ r. ⌜ record { device = now (device .exit); ram = now (ram .exit); answer = r } ≡ eventOn (now (device .entry)) (now (ram .entry)) Fetch ⌝ }
 {
-    let address = layout::counter_in(device) % 0x4000;
+    let address = layout::counter_of(device) % 0x4000;
     let next = Bus {
         state: State::Read,
         counter: (address + 1) % 0x4000,
     };
+    let byte = load(device, ram, address);
     layout::write_bus(device, next);
-    load(device, ram, address) as u32
+    byte as u32
 }
 
 // Of the record only the bus part and at most one register are read and written. Data bytes and fetches come most often, so they are
@@ -191,7 +192,7 @@ pub extern "C" fn osd_bus(device: &mut [u8], ram: &mut [u8], kind: u8, byte: u8)
     if ram.len() != RAM_LENGTH {
         return refuse(Refusal::RamLength);
     }
-    let state = device[0];
+    let state = device[layout::BUS_AT];
     if kind == 2 {
         if state == READING {
             return read_next(device, ram);
@@ -203,7 +204,7 @@ pub extern "C" fn osd_bus(device: &mut [u8], ram: &mut [u8], kind: u8, byte: u8)
             return write_next(device, ram, byte);
         }
     }
-    let bus = layout::bus_in(device);
+    let bus = layout::bus_of(device);
     apply(device, ram, bus.take(Event::of_kind(kind, byte)))
 }
 

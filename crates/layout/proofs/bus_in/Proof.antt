@@ -13,11 +13,11 @@ shared-slice-read-state-of-2 c = search needs
 state-of-requires : tie.Need-state-of-requires
 state-of-requires c κs = search needs
 
-counter-in-requires : tie.Need-counter-in-requires
-counter-in-requires c κs = search needs
+word-at-requires : tie.Need-word-at-requires
+word-at-requires c κs = search needs
 
 returns : tie.Need-returns
-returns c = rw (c .counter-in .ensures, c .before .state-of .ensures)
+returns c = rw (c .word-at .ensures, c .before .state-of .ensures)
 
 pub bus-in-spec : {M : Type 1} → statement M
 bus-in-spec =
@@ -26,5 +26,5 @@ bus-in-spec =
     shared-slice-read-state-of
     shared-slice-read-state-of-2
     state-of-requires
-    counter-in-requires
+    word-at-requires
     returns)

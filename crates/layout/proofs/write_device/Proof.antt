@@ -1,31 +1,47 @@
--- `write_device`: the bus part, then the registers, then the rest.
--- Assumes nothing.
+use Prim.Native.Nat.{ℕ}
+use mathlib.Core.Path.{_≡_, ap, _∙_}
+use mathlib.Core.List.{List}
+use lib.ListN.{length}
 use denote.Ref.{now}
 use borrow.Author.Needs.{needs}
-use Rattle.layout.proofs.Parts.{three-parts}
+use Rattle.layout.specs.Layout.{registersAt, nextAt, frameAt, put, nextBytes, frameBytes}
+use Rattle.layout.proofs.Laws.{whole-put}
 use Rattle.layout.proofs.write_device.Statement.{statement}
 use Rattle.layout.proofs.write_device.Tie as tie
+use Rattle.layout.proofs.write_device.Reads as reads
+use Rattle.layout.proofs.write_device.Lts as lts
+use Rattle.layout.proofs.write_bus.Reads as write-bus-reads
+use Rattle.layout.proofs.write_registers.Reads as write-registers-reads
+use Rattle.layout.proofs.write_start.Reads as write-start-reads
 
+-- src/lib.rt:315:5
 write-bus-requires : tie.Need-write-bus-requires
 write-bus-requires c κs = search needs
 
+-- src/lib.rt:316:5
 write-registers-requires : tie.Need-write-registers-requires
 write-registers-requires c κs = search needs
 
+-- src/lib.rt:317:5
 write-start-requires : tie.Need-write-start-requires
 write-start-requires c κs = search needs
 
+-- src/lib.rt:308:1
 same-length : tie.Need-same-length
 same-length c = search needs
 
+-- src/lib.rt:308:1
 returns : tie.Need-returns
 returns c =
     let s = c .before .before in
     let r = s .before .before .before .before in
     let b = r .before .before .before .before in
     let a = b .before .before .before .before .before .before in
-    three-parts (a .args .whole .bus) (a .args .whole .registers .bytes) (now (a .args .device)) _ _ _ _
-    (b .write-bus .ensures) (r .write-registers .ensures) (s .write-start .ensures) (a .pre) (s .before .before .before .device2 .given)
+    let sixteen : length (a .args .whole .registers .bytes) ≡ 16 = search (needs, a .good .1 .0 .1 .1 .1) in
+    s .write-start .ensures
+    ∙ ap (λ (l : List ℕ). put frameAt (frameBytes (a .args .whole .frame)) (put nextAt (nextBytes (a .args .whole .next)) l))
+    (r .write-registers .ensures ∙ ap (put registersAt (a .args .whole .registers .bytes)) (b .write-bus .ensures))
+    ∙ whole-put (a .args .whole) (now (a .args .device)) (a .pre) sixteen
 
 pub write-device-spec : {M : Type 1} → statement M
 write-device-spec =

@@ -1,33 +1,25 @@
--- `write_frame`: the frame is copied over the last eleven bytes.
+-- `write_frame`: the frame with its strip packed, put in its place.
 -- Assumes nothing.
 use Prim.Native.Nat.{ℕ}
-use mathlib.Core.Path.{_≡_, ap, _∙_}
-use mathlib.Core.List.{List, _++_}
-use native.Mathlib.Omega.{arith}
-use lib.ListN.{length, take}
+use mathlib.Core.Path.{ap, _∙_}
+use mathlib.Core.List.{List}
 use denote.Ref.{now}
 use borrow.Author.Needs.{needs}
-use Rattle.layout.proofs.Parts.{put-last}
+use Rattle.layout.specs.Layout.{frameAt, put, frameWith}
 use Rattle.layout.proofs.write_frame.Statement.{statement}
 use Rattle.layout.proofs.write_frame.Tie as tie
+
+pack-requires : tie.Need-pack-requires
+pack-requires c κs = search needs
 
 frame-bytes-requires : tie.Need-frame-bytes-requires
 frame-bytes-requires c κs = search needs
 
-slice-aggregate-copy : tie.Need-slice-aggregate-copy
-slice-aggregate-copy c = search needs
+slice-aggregate-put : tie.Need-slice-aggregate-put
+slice-aggregate-put c = search needs
 
-sub-copy : tie.Need-sub-copy
-sub-copy c = search needs
-
-part-copy-start : tie.Need-part-copy-start
-part-copy-start c = search needs
-
-part-copy-end : tie.Need-part-copy-end
-part-copy-end c = search needs
-
-copy-requires : tie.Need-copy-requires
-copy-requires c κs = search needs
+put-requires : tie.Need-put-requires
+put-requires c κs = search needs
 
 same-length : tie.Need-same-length
 same-length c = search needs
@@ -35,21 +27,17 @@ same-length c = search needs
 returns : tie.Need-returns
 returns c =
     let k = c .before .before .before .before .before in
-    let a = k .before .before in
-    let e = k .frame-bytes .ensures in
-    let eleven : length (k .frame-bytes .result) ≡ 11 = ap (λ (l : List ℕ). length l) e in
-    put-last (k .frame-bytes .result) (now (a .args .device)) 21 _ (omega (arith, eleven, a .pre)) (c .before .before .copy .ensures .1)
-    ∙ ap (λ (l : List ℕ). take 21 (now (a .args .device)) ++ l) e
+    let a = k .before .before .before .before in
+    c .before .before .put .ensures
+    ∙ ap (λ (l : List ℕ). put frameAt l (now (a .args .device))) (k .frame-bytes .ensures ∙ ap (frameWith (a .args .frame)) (k .before .pack .ensures))
 
 pub write-frame-spec : {M : Type 1} → statement M
 write-frame-spec =
     tie.close
     (tie.spec
+    pack-requires
     frame-bytes-requires
-    slice-aggregate-copy
-    sub-copy
-    part-copy-start
-    part-copy-end
-    copy-requires
+    slice-aggregate-put
+    put-requires
     same-length
     returns)

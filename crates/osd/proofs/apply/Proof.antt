@@ -51,7 +51,7 @@ same-length : tie.Need-same-length
 same-length c = search needs
 
 returns : tie.Need-returns
-returns c = applied-acknowledge _ _ _ _ (c .before .before .before .before .before .before .before .before .before .pre .0) (c .before .before .write-bus .ensures) (c .before .before .before .before .enum-told .given .1)
+returns c = applied-acknowledge _ _ _ _ (c .before .before .write-bus .ensures) (c .before .before .before .before .enum-told .given .1)
 
 same-length-2 : tie.Need-same-length-2
 same-length-2 c = search needs
@@ -69,7 +69,7 @@ returns-3 : tie.Need-returns-3
 returns-3 c =
     let t = c .before .before .before .before in
     let w = t .before .before .before .before .before in
-    applied-store _ _ _ _ (w .before .before .before .before .before .before .before .before .pre .0) (w .write-bus2 .ensures) _ _ _ _
+    applied-store _ _ _ _ (w .write-bus2 .ensures) _ _ _ _
     (w .before .before .before .effect .given .1) (t .store .ensures .0) (t .store .ensures .1)
 
 same-length-5 : tie.Need-same-length-5
@@ -82,7 +82,7 @@ returns-4 : tie.Need-returns-4
 returns-4 c =
     let w = c .before .before in
     let l = w .before .before in
-    applied-load _ _ _ _ (l .before .before .before .before .before .before .before .before .before .pre .0) (w .write-bus3 .ensures) _ _
+    applied-load _ _ _ _ (w .write-bus3 .ensures) _ _
     (l .before .before .before .before .effect2 .given .1) (l .load .ensures)
 
 pub apply-spec : {M : Type 1} → statement M

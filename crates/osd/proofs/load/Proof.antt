@@ -1,12 +1,13 @@
 -- `load`: the tests on the address pick the case of `byteIn`.
 -- Assumes nothing.
 use Prim.Native.Nat.{_-_, _%_}
-use mathlib.Core.Path.{_≡_}
+use mathlib.Core.Path.{_≡_, sym}
 use native.Mathlib.Omega.{arith}
 use denote.Ref.{now}
 use borrow.Author.Tests.{lt-ltb, le-ltb, le-leb, lt-leb}
 use borrow.Author.Needs.{needs}
-use Rattle.osd.proofs.Calls.{fetched-in-place}
+use Rattle.layout.specs.Layout.{registersAt, registersLength}
+use Rattle.layout.proofs.Parts.{getD-part}
 use Rattle.osd.proofs.load.Statement.{statement}
 use Rattle.osd.proofs.load.Tie as tie
 
@@ -30,7 +31,7 @@ returns-2 c =
     let a = c .before .before .before in
     let i = a .args .address - 0x3FF0 in
     let few : i % 16 ≡ i = omega (arith, a .pre .2) in
-    rw (le-ltb _ _ (c .before .before .if1 .left), le-leb _ _ (c .before .if2 .taken), few) (fetched-in-place (now (a .args .device)) i (omega (arith, a .pre .2)))
+    rw (le-ltb _ _ (c .before .before .if1 .left), le-leb _ _ (c .before .if2 .taken), few) (sym (getD-part (now (a .args .device)) registersAt registersLength i 0 (omega (arith, a .pre .2))))
 
 returns-3 : tie.Need-returns-3
 returns-3 c = rw (le-ltb _ _ (c .before .if1 .left), lt-leb _ _ (c .if2 .left))

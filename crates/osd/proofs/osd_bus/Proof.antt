@@ -73,8 +73,8 @@ returns-6 c =
     bus-heard _ _ _ b (l .before .before .if1 .left) (l .before .if2 .left) (Byte b) _
     (l .if3 .left) (ap (λ (n : ℕ). eventOf n b) (sym (t .if6 .taken))) (k .write-next .ensures)
 
-bus-in-requires : tie.Need-bus-in-requires
-bus-in-requires c κs = search needs
+bus-of-requires : tie.Need-bus-of-requires
+bus-of-requires c κs = search needs
 
 of-kind-requires : tie.Need-of-kind-requires
 of-kind-requires c κs = search needs
@@ -87,7 +87,7 @@ apply-requires c κs =
     let b = c .before .before .before .before in (
       search needs,
       b .before .before .before .before .before .if3 .left,
-      subst (λ (s : Step). InSpace (s .effect)) (sym (c .take .ensures)) (step-in-space (b .bus-in .result) (c .before .of-kind .result)),
+      subst (λ (s : Step). InSpace (s .effect)) (sym (c .take .ensures)) (step-in-space (b .bus-of .result) (c .before .of-kind .result)),
     )
 
 same-length-5 : tie.Need-same-length-5
@@ -101,8 +101,8 @@ returns-7 c =
     let k = c .before .before .before .before in
     let b = k .before .before .before .before .before in
     let l = b .before .before .before .before .before in
-    bus-applied _ _ _ _ (l .before .before .if1 .left) (l .before .if2 .left) (b .bus-in .result) (k .before .before .of-kind .result) (k .before .take .result) _
-    (l .if3 .left) (b .bus-in .ensures) (k .before .before .of-kind .ensures) (k .before .take .ensures) (k .apply .ensures)
+    bus-applied _ _ _ _ (l .before .before .if1 .left) (l .before .if2 .left) (b .bus-of .result) (k .before .before .of-kind .result) (k .before .take .result) _
+    (l .if3 .left) (b .bus-of .ensures) (k .before .before .of-kind .ensures) (k .before .take .ensures) (k .apply .ensures)
 
 pub osd-bus-spec : {M : Type 1} → statement M
 osd-bus-spec =
@@ -123,7 +123,7 @@ osd-bus-spec =
     same-length-3
     same-length-4
     returns-6
-    bus-in-requires
+    bus-of-requires
     of-kind-requires
     take-requires
     apply-requires

@@ -5,8 +5,8 @@ use Rattle.osd.proofs.Calls.{written-next}
 use Rattle.osd.proofs.write_next.Statement.{statement}
 use Rattle.osd.proofs.write_next.Tie as tie
 
-counter-in-requires : tie.Need-counter-in-requires
-counter-in-requires c κs = search needs
+counter-of-requires : tie.Need-counter-of-requires
+counter-of-requires c κs = search needs
 
 add-t6 : tie.Need-add-t6
 add-t6 c = search needs
@@ -29,14 +29,14 @@ returns c =
     let w = t .before .before .before .before .before in
     let k = w .before .before in
     let a = k .before .before .before .before in
-    written-next _ _ _ (k .counter-in .result) (a .pre .0) (k .counter-in .ensures) (a .args .x) _ _ (a .pre .2) (w .write-bus .ensures)
+    written-next _ _ _ (k .counter-of .result) (k .counter-of .ensures) (a .args .x) _ _ (a .pre .2) (w .write-bus .ensures)
     (t .store .ensures .0) (t .store .ensures .1)
 
 pub write-next-spec : {M : Type 1} → statement M
 write-next-spec =
     tie.close
     (tie.spec
-    counter-in-requires
+    counter-of-requires
     add-t6
     write-bus-requires
     store-requires
