@@ -15,7 +15,8 @@ use Rattle.cells.specs.Reading.{descriptor, Reading, done, read, bind, fmap, va
 use Rattle.cells.proofs.Laws.{cells-bind}
 use Rattle.registers.specs.declared.Settings.{Settings}
 use Rattle.raster.specs.declared.ScanLine.{ScanLine}
-use Rattle.raster.specs.Raster.{following, linesAfter, sameSlice, interpolated, sliceShown, columnsOf}
+use Rattle.raster.specs.Raster.{following, linesAfter, interpolated, columnsOf}
+use Rattle.raster.specs.Search.{sameSlice, sliceShown}
 use Rattle.raster.proofs.Laws.{one-less, following-in}
 use Rattle.raster.proofs.Rules.{slice-range}
 use Rattle.walk.specs.declared.Strip.{Strip}

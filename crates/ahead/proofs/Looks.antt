@@ -9,7 +9,8 @@ use lib.ListN.{getD}
 use Rattle.registers.specs.declared.Settings.{Settings}
 use Rattle.cells.specs.Reading.{cells, among}
 use Rattle.raster.specs.declared.ScanLine.{ScanLine}
-use Rattle.raster.specs.Raster.{stripLines, beforeFirst, linesAfter, sliceShown}
+use Rattle.raster.specs.Raster.{beforeFirst, linesAfter}
+use Rattle.raster.specs.Search.{sliceShown}
 use Rattle.raster.proofs.Laws.{all-after}
 use Rattle.raster.proofs.Slices.{whole-zoom}
 use Rattle.walk.specs.declared.Strip.{Strip}
@@ -130,24 +131,23 @@ whole-looked q low high rows k rows′ r w e l =
 -- ---- the lines from a descriptor on
 
 -- what is listed and what is still to look at say the same as at the start
-abbrev pub SumSame : List ℕ → Sought → List ℕ → ℕ → ℕ → ℕ → List ℕ → ℕ → ℕ → ℕ → Type 0
-SumSame ram q rows₀ k₀ left₀ a₀ rows k left a =
-    (s : Settings) → Ready ram s q
-    → anyRow ram (q .cell) (codesOf s) rows₀ k₀ || among (q .cell) (cells ram (remaining s left₀ (record { descriptor = a₀; strip = Spacing 0 })))
-    ≡ anyRow ram (q .cell) (codesOf s) rows k || among (q .cell) (cells ram (remaining s left (record { descriptor = a; strip = Spacing 0 })))
+pub record SumSame (ram : List ℕ) (q : Sought) (rows₀ : List ℕ) (k₀ left₀ a₀ : ℕ) (rows : List ℕ) (k left a : ℕ) : Type 0 where
+  pub same : (s : Settings) → Ready ram s q
+      → anyRow ram (q .cell) (codesOf s) rows₀ k₀ || among (q .cell) (cells ram (remaining s left₀ (record { descriptor = a₀; strip = Spacing 0 })))
+      ≡ anyRow ram (q .cell) (codesOf s) rows k || among (q .cell) (cells ram (remaining s left (record { descriptor = a; strip = Spacing 0 })))
 
 pub sum-start : (ram : List ℕ) (q : Sought) (rows : List ℕ) (k left a : ℕ) → SumSame ram q rows k left a rows k left (2 * (a / 2 % 512))
 sum-start ram q rows k left a =
     subst (λ (x : ℕ). SumSame ram q rows k left a rows k left x) (code-of a)
-    (λ s rd. ap (λ (x : Bool). anyRow ram (q .cell) (codesOf s) rows k || x) (sym (from-even ram s (q .cell) left a)))
+    (record { same = λ s rd. ap (λ (x : Bool). anyRow ram (q .cell) (codesOf s) rows k || x) (sym (from-even ram s (q .cell) left a)) })
 
 -- at the descriptor of a number
-module _ (ram : List ℕ) (q : Sought) (rows₀ : List ℕ) (k₀ left₀ a₀ : ℕ) (rows : List ℕ) (k left p : ℕ)
+module _ {ram : List ℕ} {q : Sought} {rows₀ : List ℕ} {k₀ left₀ a₀ : ℕ} {rows : List ℕ} {k left : ℕ} (p : ℕ)
     (sum : SumSame ram q rows₀ k₀ left₀ a₀ rows k left (2 * p)) (below : p < 512) where
   pub lines-here : (rows′ : List ℕ) (r : Looked) → r .found ≡ true → 1 ≤ left → q .cell / 2 ≡ p → LinesLooked ram q left₀ a₀ rows₀ k₀ rows′ r
   lines-here rows′ r y h e s rd =
       found-adds ram (q .cell) (codesOf s) _ rows₀ k₀ rows′ r y
-      (sum s rd
+      (sum .same s rd
       ∙ ap (λ (x : Bool). anyRow ram (q .cell) (codesOf s) rows k || x)
       (descriptor-here ram s (q .cell) left (2 * p) h (code-even p below) (omega (arith, e)))
       ∙ or-true (anyRow ram (q .cell) (codesOf s) rows k))
@@ -157,7 +157,7 @@ module _ (ram : List ℕ) (q : Sought) (rows₀ : List ℕ) (k₀ left₀ a₀ :
       record {
         hit = λ z. absurd (true≢false (sym z));
         miss = λ _.
-            sym (sum s rd
+            sym (sum .same s rd
             ∙ ap (λ (x : Bool). anyRow ram (q .cell) (codesOf s) rows k || x) (none-left ram s (q .cell) left (2 * p) h)
             ∙ or-false (anyRow ram (q .cell) (codesOf s) rows k));
       }
@@ -174,7 +174,7 @@ module _ (ram : List ℕ) (q : Sought) (rows₀ : List ℕ) (k₀ left₀ a₀ :
         ≡ (anyRow ram (q .cell) (codesOf s) rows k || stripReads ram s lines t (q .cell)) || after s
     unfolding after
     step s rd =
-        sum s rd
+        sum .same s rd
         ∙ ap (λ (x : Bool). anyRow ram (q .cell) (codesOf s) rows k || x)
         (descriptor-on ram s (q .cell) left (2 * p) h (code-even p below) t lines (λ y. e (omega (arith, y)))
         (is ∙ ap (λ (n : ℕ). stripOf n (getD ram (2 * p) 0) (getD ram (2 * p + 1) 0)) (rd .height) ∙ stripOf-height (s .ch) _ _) m
@@ -204,7 +204,7 @@ module _ (ram : List ℕ) (q : Sought) (rows₀ : List ℕ) (k₀ left₀ a₀ :
     pub sum-on : r .found ≡ false
         → SumSame ram q rows₀ k₀ left₀ a₀ rows′ (r .listed) (left - linesLeft t) (2 * ((p + 1) % 512))
     unfolding after
-    sum-on z s rd = step s rd ∙ or-with (after s) (sym (w ram s rd .miss z))
+    sum-on z = record { same = λ s rd. step s rd ∙ or-with (after s) (sym (w ram s rd .miss z)) }
 
 -- ---- the frame's remaining lines
 

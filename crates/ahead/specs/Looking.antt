@@ -11,7 +11,8 @@ use Rattle.limits.specs.Limits.{ramLength}
 use Rattle.cells.specs.Reading.{cells, among}
 use Rattle.registers.specs.declared.Settings.{Settings}
 use Rattle.raster.specs.declared.ScanLine.{ScanLine}
-use Rattle.raster.specs.Raster.{beforeFirst, sliceShown, columnsOf}
+use Rattle.raster.specs.Raster.{beforeFirst, columnsOf}
+use Rattle.raster.specs.Search.{sliceShown}
 use Rattle.walk.specs.declared.Strip.{Strip}
 use Rattle.walk.specs.declared.Strip.the-variants.{Spacing}
 use Rattle.walk.specs.Walk.{even, next, advanced, atLeastOne, stripOf, linesLeft}

@@ -1,6 +1,6 @@
 -- Which codes read a cell in a slice: those of the user character that it belongs to, in its own slice.
 -- Assumes nothing.
-use Prim.Native.Nat.{ℕ, _+_, _-_, _*_, _/_, _%_, _≤_, _<_}
+use Prim.Native.Nat.{ℕ, _+_, _-_, _*_, _/_, _%_, _<_}
 use mathlib.Core.Path.{_≡_, ap, _∙_}
 use mathlib.Core.Bool.{Bool, false, _&&_}
 use mathlib.Core.List.{List}
@@ -12,7 +12,8 @@ use Rattle.facts.proofs.Pairs.{pair-is}
 use Rattle.facts.proofs.Tests.{iff, and-left, and-right, and-both, eq-T}
 use Rattle.cells.specs.Reading.{cells, among}
 use Rattle.raster.specs.declared.Slice.{Slice}
-use Rattle.raster.specs.Raster.{InCharacter, sameSlice}
+use Rattle.raster.specs.Raster.{InCharacter}
+use Rattle.raster.specs.Search.{sameSlice}
 use Rattle.glyph.specs.Glyph.{userCell, inRam, glyphOf}
 use Rattle.glyph.specs.Cells.{ofUser, userHigh, userSlice}
 

@@ -1,6 +1,6 @@
 -- The laws of codes and glyphs: what a glyph reads lies below 1,024, and is at most two cells.
 -- Assumes nothing.
-use Prim.Native.Nat.{ℕ, _+_, _*_, _%_, _/_, _≤_, _<_}
+use Prim.Native.Nat.{ℕ, _+_, _%_, _/_, _≤_, _<_}
 use mathlib.Core.Path.{_≡_, refl, ap, _∙_}
 use mathlib.Core.Bool.{Bool, true, false, cond}
 use native.Mathlib.Omega.{arith}
@@ -108,7 +108,13 @@ module _ (ram f : List ℕ) (high : ℕ) (s : Slice) where
       → record { bits = wordAt (slicePart ram f high (s .0)); cells = 2; ends = false } ≡ wordIn ram f high s
   unfolding wordAt slicePart wordIn glyphOf inRam value cells wordOf
   word-user l h =
-      rw (ne-eqb (high / 128 % 2) 0 (λ e. omega arith), lt-ltb (high % 128) 26 (omega arith), part-first, part-second, ne-eqb high 255 (λ e. omega arith))
+      rw (
+        ne-eqb (high / 128 % 2) 0 (λ e. omega arith),
+        lt-ltb (high % 128) 26 (omega arith),
+        part-first,
+        part-second,
+        ne-eqb high 255 (λ e. omega arith),
+      )
 
   -- all background, or the end of line
   pub word-blank : 154 ≤ high → high < 256 → record { bits = 0; cells = 0; ends = eqb high 255 } ≡ wordIn ram f high s

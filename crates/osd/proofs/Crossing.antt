@@ -276,10 +276,9 @@ bus-length : (xs ram : List ℕ) (kind byte : ℕ)
 unfolding busOn heardOn hearEvent
 bus-length xs ram kind byte =
     let o : BusOutcome = busEvent (deviceIn xs .bus) (deviceIn xs .registers) ram (eventOf kind byte) in
-    either (λ (r : BusDone). Long xs (r .device) × Long ram (r .ram)) (isRecord xs && not (ltb 3 kind)) _ _
-    (
+    either (λ (r : BusDone). Long xs (r .device) × Long ram (r .ram)) (isRecord xs && not (ltb 3 kind)) _ _ (
       either (Long xs) (eqb (o .reply .refusal) 0) _ _ (length-sets (put registersAt (o .registers .bytes) xs) busAt (busBytes (o .bus)) ∙ length-sets xs registersAt (o .registers .bytes))
-      (either (Long xs) (eqb (stateNumber (o .bus .state)) 1) _ _ (length-set xs busAt 1) refl),
+          (either (Long xs) (eqb (stateNumber (o .bus .state)) 1) _ _ (length-set xs busAt 1) refl),
       busEvent-length (deviceIn xs .bus) (deviceIn xs .registers) ram (eventOf kind byte),
     )
     (refl, refl)

@@ -10,7 +10,8 @@ use lib.Dec.{T, eqb, ltb, eqb→eq, ltb→lt, lt→ltb}
 use Rattle.facts.proofs.Tests.{iff, or-cases, or-first, or-second, eq-T}
 use Rattle.raster.specs.declared.ScanLine.{ScanLine}
 use Rattle.raster.specs.declared.Slice.{Slice}
-use Rattle.raster.specs.Raster.{stripLines, beforeFirst, following, linesAfter, InCharacter, sameSlice, unzoomed, sliceNumber, interpolated, sliceShown}
+use Rattle.raster.specs.Raster.{stripLines, beforeFirst, following, linesAfter, InCharacter, unzoomed, sliceNumber, interpolated}
+use Rattle.raster.specs.Search.{sameSlice, sliceShown}
 
 -- slice u is shown by line n exactly if 36 n + CH lies in the 2 CH numbers from 2 CH u on
 in-range : (ch n u : ℕ) → 0 < ch → sliceNumber ch n ≡ u → (u * (2 * ch) ≤ 36 * n + ch) × (36 * n + ch < u * (2 * ch) + 2 * ch)

@@ -1,2 +1,3 @@
 pub mod Raster
 pub mod Rules
+pub mod Search

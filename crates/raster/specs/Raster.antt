@@ -2,8 +2,8 @@
 -- pixel and the hidden time.
 -- Assumes nothing.
 use Prim.Native.Nat.{ℕ, zero, suc, _+_, _-_, _*_, _/_, _≤_, _<_, max}
-use mathlib.Core.Bool.{Bool, false, cond, _||_}
-use lib.Dec.{eqb, leb}
+use mathlib.Core.Bool.{Bool, false, cond}
+use lib.Dec.{leb}
 use Rattle.raster.specs.declared.ScanLine.{ScanLine}
 use Rattle.raster.specs.declared.Slice.{Slice}
 
@@ -44,9 +44,6 @@ HasNext j = j .0 < 65535
 abbrev pub InCharacter : Slice → Type 0
 InCharacter s = s .0 ≤ 18
 
-abbrev pub sameSlice : Slice → Slice → Bool
-sameSlice s t = eqb (s .0) (t .0)
-
 -- ---- from line to slice
 
 -- n is j, or with ZY half of j rounded up
@@ -60,11 +57,6 @@ sliceNumber ch n = (36 * n + ch) / (2 * ch)
 -- only this turns a scan line of a strip into a slice of a character
 unfoldable pub interpolated : ScanLine → ℕ → Bool → Slice
 interpolated j ch zoom = record { 0 = sliceNumber ch (unzoomed zoom (j .0)) }
-
--- does one of the k lines after line j of a strip show this slice?
-unfoldable pub sliceShown : ScanLine → ℕ → ℕ → Bool → Slice → Bool
-sliceShown j zero ch zoom s = false
-sliceShown j (suc k) ch zoom s = sameSlice (interpolated (following j) ch zoom) s || sliceShown (following j) k ch zoom s
 
 -- ---- the characters of a line
 

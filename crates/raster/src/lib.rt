@@ -1,7 +1,8 @@
 // The geometry of a line: which slice a scan line shows, how wide a line is, where its characters start, and what flashes.
 ghost use mathlib.Core.Path.{_≡_};
 ghost use Prim.Native.Nat.{_-_, _≤_, max};
-ghost use Rattle.raster.specs.Raster.{stripLines, beforeFirst, following, InStrip, isLast, linesAfter, HasNext, InCharacter, unzoomed, interpolated, sliceShown, widthOf, firstPixelOf, columnsOf, hiddenIn};
+ghost use Rattle.raster.specs.Raster.{stripLines, beforeFirst, following, InStrip, isLast, linesAfter, HasNext, InCharacter, unzoomed, interpolated, widthOf, firstPixelOf, columnsOf, hiddenIn};
+ghost use Rattle.raster.specs.Search.{sliceShown};
 
 // A scan line of a strip, counted from 1; 0 before the first.
 pub struct ScanLine(pub u16);

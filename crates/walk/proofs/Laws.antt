@@ -1,7 +1,7 @@
 -- The laws of the walk: addresses are even and below 1,024, a line of the walk reads at most one descriptor, and the strip on
 -- screen is at one of its lines.
 -- Assumes nothing.
-use Prim.Native.Nat.{ℕ, _+_, _-_, _*_, _/_, _%_, _≤_, _<_}
+use Prim.Native.Nat.{ℕ, _+_, _-_, _%_, _≤_, _<_}
 use mathlib.Core.Path.{_≡_, refl, sym, ap, _∙_}
 use mathlib.Core.Bool.{Bool, true, false, cond, false≢true}
 use native.Mathlib.Omega.{arith}
@@ -13,7 +13,7 @@ use Rattle.facts.proofs.Choice.{either}
 use Rattle.cells.specs.Reading.{descriptor, Reading, done, read, fmap, value, cells}
 use Rattle.cells.proofs.Bounds.{Gives, Within, AtMost, gives-fmap, within-fmap, within-cond, atMost-fmap, atMost-cond}
 use Rattle.raster.specs.declared.ScanLine.{ScanLine}
-use Rattle.raster.specs.Raster.{beforeFirst, following, linesAfter}
+use Rattle.raster.specs.Raster.{beforeFirst}
 use Rattle.raster.proofs.Laws.{some-after, one-less, last-none, following-in}
 use Rattle.walk.specs.declared.Strip.{Strip}
 use Rattle.walk.specs.declared.Strip.the-variants.{Spacing, Characters}

@@ -1,7 +1,7 @@
 -- Document 01, "Walk of a frame": descriptors and strips, line by line.
 -- Assumes nothing.
 use Prim.Native.Nat.{ℕ, _+_, _-_, _*_, _/_, _%_, max}
-use mathlib.Core.Bool.{Bool, true, false, cond}
+use mathlib.Core.Bool.{Bool, false, cond}
 use lib.Dec.{eqb}
 use lib.ListN.{length}
 use mathlib.Core.List.{List}

@@ -1,6 +1,6 @@
 -- `look_lines`: each turn passes a descriptor and its strip; what is listed and what is still to look at add up to the same (`SumSame`).
 -- Assumes nothing.
-use Prim.Native.Nat.{_+_, _*_, _<_}
+use Prim.Native.Nat.{_+_, _*_, _≤_, _<_}
 use mathlib.Core.Path.{refl, ap}
 use native.Mathlib.Omega.{arith}
 use borrow.Author.Needs.{needs}
@@ -35,10 +35,7 @@ loop-holds c =
 returns : tie.Need-returns Inv-loop μ-loop
 returns c =
     let l = c .before .before .loop in
-    let a = c .before .before .before .before .before .args in (
-      l .inv .1,
-      lines-here (now (a .ram)) (a .sought) (now (a .rows)) (a .already) (a .all) (a .descriptor) (l .rows) (l .listed) (l .left) (l .p) (l .inv .2) (l .inv .0) _ _ refl (c .before .loop-test .taken) (c .if1 .taken),
-    )
+    (l .inv .1, lines-here (l .p) (l .inv .2) (l .inv .0) _ _ refl (c .before .loop-test .taken) (c .if1 .taken))
 
 mul-low : tie.Need-mul-low Inv-loop μ-loop
 mul-low c = search needs
@@ -64,22 +61,20 @@ of-descriptor-requires c κs = search needs
 look-strip-requires : tie.Need-look-strip-requires Inv-loop μ-loop
 look-strip-requires c κs =
     let d = c .before .before in
-    let l = d .before .before .before .before .before .before .before in (
-      l .loop .inv .1,
-      (l .before .before .before .pre .1 .1, omega (arith, ap linesLeft (d .of-descriptor .ensures), d .before .before .strip-lines .ensures, d .before .if2 .taken)),
-    )
+    let l = d .before .before .before .before .before .before .before in
+    let e = ap linesLeft (d .of-descriptor .ensures) in
+    (l .loop .inv .1, (l .before .before .before .pre .1 .1, omega (arith, e, d .before .before .strip-lines .ensures, d .before .if2 .taken)))
 
 returns-2 : tie.Need-returns-2 Inv-loop μ-loop
 returns-2 c =
     let d = c .before .before .before in
     let n = d .before .before in
     let l = d .before .before .before .before .before .before .before .loop in
-    let a = d .before .before .before .before .before .before .before .before .before .before .args in
-    let e = ap linesLeft (d .of-descriptor .ensures) in (
+    let e = ap linesLeft (d .of-descriptor .ensures) in
+    let shorter : l .left ≤ linesLeft (d .of-descriptor .result) = omega (arith, e, n .strip-lines .ensures, d .before .if2 .taken) in (
       c .look-strip .ensures .0,
-      lines-last (now (a .ram)) (a .sought) (now (a .rows)) (a .already) (a .all) (a .descriptor) (l .rows) (l .listed) (l .left) (l .p) (l .inv .2) (l .inv .0)
-          (d .of-descriptor .result) (d .of-descriptor .ensures) (l .left) (omega (arith, e, n .strip-lines .ensures, d .before .if2 .taken)) _ _
-          (c .look-strip .ensures .1) (n .before .before .before .before .loop-test .taken) (n .before .before .before .if1 .left) (omega (arith, e, n .strip-lines .ensures, d .before .if2 .taken)),
+      lines-last (l .p) (l .inv .2) (l .inv .0) (d .of-descriptor .result) (d .of-descriptor .ensures) (l .left) (omega (arith, shorter)) _ _
+          (c .look-strip .ensures .1) (n .before .before .before .before .loop-test .taken) (n .before .before .before .if1 .left) shorter,
     )
 
 look-whole-requires : tie.Need-look-whole-requires Inv-loop μ-loop
@@ -93,9 +88,10 @@ returns-3 c =
     let l = n .before .before .before .before .before .loop in
     let a = n .before .before .before .before .before .before .before .before .args in (
       c .before .look-whole .ensures .0,
-      lines-found (now (a .ram)) (a .sought) (now (a .rows)) (a .already) (a .all) (a .descriptor) (l .rows) (l .listed) (l .left) (l .p) (l .inv .2) (l .inv .0)
-          (stripOf (a .sought .height) (getD (now (a .ram)) (2 * l .p) 0) (getD (now (a .ram)) (2 * l .p + 1) 0)) refl _ (omega (arith, n .strip-lines .ensures, c .before .before .before .before .if2 .left)) _ _
-          (c .before .look-whole .ensures .1) (n .before .before .before .before .loop-test .taken) (n .before .before .before .if1 .left) _ (c .if3 .taken),
+      lines-found (l .p) (l .inv .2) (l .inv .0)
+          (stripOf (a .sought .height) (getD (now (a .ram)) (2 * l .p) 0) (getD (now (a .ram)) (2 * l .p + 1) 0)) refl _
+          (omega (arith, n .strip-lines .ensures, c .before .before .before .before .if2 .left)) _ _ (c .before .look-whole .ensures .1)
+          (n .before .before .before .before .loop-test .taken) (n .before .before .before .if1 .left) _ (c .if3 .taken),
     )
 
 add-p : tie.Need-add-p Inv-loop μ-loop
@@ -106,7 +102,8 @@ loop-less c =
     let n = c .before .before .before .before .before in
     let l = n .before .before .before .before .before .loop in
     let a = n .before .before .before .before .before .before .before .before .args in
-    omega (arith, n .strip-lines .ensures, c .before .before .before .before .if2 .left, n .before .before .before .before .loop-test .taken, stripOf-some (a .sought .height) (getD (now (a .ram)) (2 * l .p) 0) (getD (now (a .ram)) (2 * l .p + 1) 0))
+    let some = stripOf-some (a .sought .height) (getD (now (a .ram)) (2 * l .p) 0) (getD (now (a .ram)) (2 * l .p + 1) 0) in
+    omega (arith, some, n .strip-lines .ensures, c .before .before .before .before .if2 .left, n .before .before .before .before .loop-test .taken)
 
 loop-again : tie.Need-loop-again Inv-loop μ-loop
 loop-again c =
@@ -116,16 +113,16 @@ loop-again c =
       search needs,
       c .before .look-whole .ensures .0,
       rw (n .strip-lines .ensures)
-          (sum-on (now (a .ram)) (a .sought) (now (a .rows)) (a .already) (a .all) (a .descriptor) (l .rows) (l .listed) (l .left) (l .p) (l .inv .2) (l .inv .0)
-          (stripOf (a .sought .height) (getD (now (a .ram)) (2 * l .p) 0) (getD (now (a .ram)) (2 * l .p + 1) 0)) refl _ (omega (arith, n .strip-lines .ensures, c .before .before .before .before .if2 .left)) _ _
-          (c .before .look-whole .ensures .1) (n .before .before .before .before .loop-test .taken) (n .before .before .before .if1 .left) (c .if3 .left)),
+          (sum-on (l .p) (l .inv .2) (l .inv .0)
+          (stripOf (a .sought .height) (getD (now (a .ram)) (2 * l .p) 0) (getD (now (a .ram)) (2 * l .p + 1) 0)) refl _
+          (omega (arith, n .strip-lines .ensures, c .before .before .before .before .if2 .left)) _ _ (c .before .look-whole .ensures .1)
+          (n .before .before .before .before .loop-test .taken) (n .before .before .before .if1 .left) (c .if3 .left)),
     )
 
 returns-4 : tie.Need-returns-4 Inv-loop μ-loop
 returns-4 c =
     let l = c .before .loop in
-    let a = c .before .before .before .before .args in
-    (l .inv .1, lines-over (now (a .ram)) (a .sought) (now (a .rows)) (a .already) (a .all) (a .descriptor) (l .rows) (l .listed) (l .left) (l .p) (l .inv .2) (l .inv .0) (omega (arith, c .loop-test .left)))
+    (l .inv .1, lines-over (l .p) (l .inv .2) (l .inv .0) (omega (arith, c .loop-test .left)))
 
 pub look-lines-spec : {M : Type 1} → statement M
 look-lines-spec =

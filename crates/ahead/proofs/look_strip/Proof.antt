@@ -48,7 +48,12 @@ returns-4 : tie.Need-returns-4
 returns-4 c =
     let a = c .before .before .before .before .before .before .before .before .before .args in
     let p = c .before .before .before .before .before .before .before .before .before .pre in
-    (c .look-row .ensures .0, strip-shown (a .sought) (a .strip) (a .k) (now (a .rows)) (a .listed) (c .before .before .before .before .before .before .strip .given .1) _ _ _ (not-false _ (c .before .before .before .before .if2 .left)) (omega (arith, c .before .before .before .before .before .before .before .before .if1 .left)) (p .1 .1) (c .before .before .before .user-shown .ensures) (c .look-row .ensures .1))
+    let g = c .before .before .before .before .before .before in (
+      c .look-row .ensures .0,
+      strip-shown (a .sought) (a .strip) (a .k) (now (a .rows)) (a .listed) (g .strip .given .1) _ _ _
+          (not-false _ (c .before .before .before .before .if2 .left)) (omega (arith, g .before .before .if1 .left)) (p .1 .1)
+          (c .before .before .before .user-shown .ensures) (c .look-row .ensures .1),
+    )
 
 pub look-strip-spec : {M : Type 1} → statement M
 look-strip-spec =

@@ -41,7 +41,9 @@ returns c =
 returns-2 : tie.Need-returns-2 Inv-loop μ-loop
 returns-2 c =
     let l = c .before .before .before .before .loop in
-    here-user _ _ _ (l .left) (l .p) (c .before .before .before .loop-test .taken) (l .inv .0) (c .before .if1 .left) (c .if2 .taken ∙ c .before .before .before .before .before .user-high .ensures) ∙ l .inv .2
+    here-user _ _ _ (l .left) (l .p) (c .before .before .before .loop-test .taken) (l .inv .0) (c .before .if1 .left)
+    (c .if2 .taken ∙ c .before .before .before .before .before .user-high .ensures)
+    ∙ l .inv .2
 
 add-p : tie.Need-add-p Inv-loop μ-loop
 add-p c = search needs

@@ -37,7 +37,11 @@ returns c =
       refl,
       (
         record { cell = search needs; some = omega (arith, e); whole = rw (c .before .before-first .ensures) at (c .user-shown .ensures) },
-        record { bytes = λ i. c .before .before .before .before .before .shared-slice-known .given i .fits; starts = rw (c .before .before .before .before .before .before .pre .1 .1) at (c .before .before .starts .ensures); height = e },
+        record {
+          bytes = λ i. c .before .before .before .before .before .shared-slice-known .given i .fits;
+          starts = rw (c .before .before .before .before .before .before .pre .1 .1) at (c .before .before .starts .ensures);
+          height = e;
+        },
       ),
     )
 

@@ -3,7 +3,7 @@
 use mathlib.Core.Path.{sym, ap, _∙_}
 use mathlib.Core.Bool.{and-false, and-true}
 use borrow.Author.Needs.{needs}
-use Rattle.raster.specs.Raster.{sliceShown}
+use Rattle.raster.specs.Search.{sliceShown}
 use Rattle.ahead.proofs.user_shown.Statement.{statement}
 use Rattle.ahead.proofs.user_shown.Tie as tie
 

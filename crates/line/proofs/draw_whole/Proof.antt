@@ -42,8 +42,8 @@ returns-2 c =
     let s = k .before .before .before .before .before .before in
     let a = s .args in
     whole-drawn (now (a .ram)) (now (a .font)) (a .at) (a .pen) (now (a .out)) (w .result) (w .ensures)
-    (λ i. k .before .shared-slice-known4 .given i .fits) (λ i. k .shared-slice-known5 .given i .fits) (c .before .before .before .before .before .if1 .left) _ (s .pre .0)
-    (c .before .before .before .draw-twelve .ensures)
+    (λ i. k .before .shared-slice-known4 .given i .fits) (λ i. k .shared-slice-known5 .given i .fits)
+    (c .before .before .before .before .before .if1 .left) _ (s .pre .0) (c .before .before .before .draw-twelve .ensures)
 
 pub draw-whole-spec : {M : Type 1} → statement M
 draw-whole-spec =

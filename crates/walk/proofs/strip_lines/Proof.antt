@@ -36,7 +36,12 @@ unfolding stripOf linesLeft
 returns-2 c =
     let e = c .before .before .before .before in
     rw (sym (e .before .is-spacing .ensures) ∙ e .if1 .left)
-    (rw (c .lines-after .ensures, c .before .zoom .ensures, c .before .before .at-least-one2 .ensures, c .before .before .before .before-first .ensures))
+    (rw (
+      c .lines-after .ensures,
+      c .before .zoom .ensures,
+      c .before .before .at-least-one2 .ensures,
+      c .before .before .before .before-first .ensures,
+    ))
 
 pub strip-lines-spec : {M : Type 1} → statement M
 strip-lines-spec =

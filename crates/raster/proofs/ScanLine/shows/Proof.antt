@@ -24,8 +24,7 @@ some c = height-some (c .args .self) (c .args .count) (c .args .height) (c .args
 
 -- the line that is looked at
 first-is : (c : tie.After-most)
-    → c .most .result
-    ≡ firstOf (c .before .before .before .before .before .args .self) (c .before .before .before .before .before .args .height) (c .before .before .before .before .before .args .zoom) (c .before .before .before .before .before .args .slice)
+    → let a = c .before .before .before .before .before .args in c .most .result ≡ firstOf (a .self) (a .height) (a .zoom) (a .slice)
 first-is c =
     c .most .ensures ∙ ap₂ max (c .before .unzoom .ensures) (ap (λ (x : ℕ). (x + 35) / 36) (c .before .before .before .rest .ensures))
 

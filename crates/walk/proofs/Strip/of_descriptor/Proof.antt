@@ -38,7 +38,13 @@ unfolding stripOf
 returns-2 c =
     let e = c .before .before .before .before .before in
     rw (sym (e .before .is-spacing .ensures) ∙ e .if1 .left)
-    (rw (c .before-first .ensures, c .before .enabled .ensures, c .before .before .zoom .ensures, c .before .before .before .at-least-one2 .ensures, c .before .before .before .before .code-address .ensures))
+    (rw (
+      c .before-first .ensures,
+      c .before .enabled .ensures,
+      c .before .before .zoom .ensures,
+      c .before .before .before .at-least-one2 .ensures,
+      c .before .before .before .before .code-address .ensures,
+    ))
 
 pub of-descriptor-spec : {M : Type 1} → statement M
 of-descriptor-spec =

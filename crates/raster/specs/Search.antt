@@ -1,0 +1,16 @@
+-- Which lines of a strip show a slice: what the search for a cell asks.
+-- Assumes nothing.
+use Prim.Native.Nat.{ℕ, zero, suc}
+use mathlib.Core.Bool.{Bool, false, _||_}
+use lib.Dec.{eqb}
+use Rattle.raster.specs.declared.ScanLine.{ScanLine}
+use Rattle.raster.specs.declared.Slice.{Slice}
+use Rattle.raster.specs.Raster.{following, interpolated}
+
+abbrev pub sameSlice : Slice → Slice → Bool
+sameSlice s t = eqb (s .0) (t .0)
+
+-- does one of the k lines after line j of a strip show this slice?
+unfoldable pub sliceShown : ScanLine → ℕ → ℕ → Bool → Slice → Bool
+sliceShown j zero ch zoom s = false
+sliceShown j (suc k) ch zoom s = sameSlice (interpolated (following j) ch zoom) s || sliceShown (following j) k ch zoom s
