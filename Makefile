@@ -4,7 +4,11 @@ CFLAGS = -std=c11 -O2 -Wall -Wextra -Werror -pedantic -Iinclude
 CARGO = CARGO_TARGET_DIR=target/cargo cargo
 MANIFEST = --quiet --offline --manifest-path compare/Cargo.toml
 
-.PHONY: demo claims library example model comparison speed ports port-known ports-refusals ports-test
+# the scripts of tests/ that make stored inputs and outputs, and where they put them
+STORED = test_bus test_frames test_pages test_bench demo door_monitor
+INTO = .
+
+.PHONY: demo claims stored stored-check library example model comparison speed ports port-known ports-refusals ports-test
 
 # the picture: proves, builds and runs it, and shows it as text
 demo:
@@ -45,6 +49,17 @@ example: library
 	mkdir -p target/example
 	$(CC) $(CFLAGS) examples/door_monitor.c target/staticlib/libosd.a -o target/example/door_monitor
 	target/example/door_monitor | diff examples/door_monitor.stdout -
+
+# makes all stored inputs and outputs again, with the answers of tests/model.py
+stored:
+	@set -e; for name in $(STORED); do python3 -B tests/$$name.py $(INTO); done
+
+# makes them below target/ instead: a line for each file that the repository has otherwise, or that no script makes
+stored-check:
+	@rm -rf target/stored
+	@$(MAKE) --no-print-directory stored INTO=target/stored
+	@same=true; for file in $$({ find crates examples -name stdin -o -name '*stdout'; (cd target/stored && find * -type f); } | sort -u); do \
+		cmp -s $$file target/stored/$$file || { echo "stored-check: $$file is not what tests/ makes"; same=false; }; done; $$same
 
 # the independent implementation's own tests
 model:

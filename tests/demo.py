@@ -8,6 +8,7 @@ code: the camera is painted as shapes, one over the other, and the overlay is la
 import pathlib
 
 import model
+import script
 
 HERE = pathlib.Path(__file__).resolve().parent
 WIDTH, LINES = 384, 216
@@ -67,9 +68,8 @@ traffic = bytearray()
 
 
 def write(address, *data):
-    """One transfer over the bus: start, slave address, address high and low, data, stop."""
-    for kind, x in [(0, 0)] + [(1, x) for x in (0xBA, address >> 8, address & 255) + data] + [(3, 0)]:
-        traffic.extend((kind, x))
+    for kind, x in script.writes(address, *data):
+        traffic.extend((script.EVENTS.index(kind), x))
 
 
 def text(s, colour, background):
@@ -180,7 +180,7 @@ def car(x, y):
 def picture(font):
     device, ram = model.Device(), [0] * 1024
     for kind, x in zip(traffic[::2], traffic[1::2]):
-        assert device.event(ram, ('start', 'byte', 'fetch', 'stop')[kind], x) == (0, 0)
+        assert device.event(ram, script.EVENTS[kind], x) == (0, 0)
     assert device.start(LINES) == 0
     out = bytearray(b'P6\n%d %d\n255\n' % (WIDTH, LINES))
     take_shot()
@@ -229,9 +229,6 @@ def characters(picture):
 
 font = sample_font()
 send_stop_page()
-crates = HERE.parent / 'crates'
-(crates / 'demo' / 'stdin').write_bytes(bytes(font) + traffic)
-(crates / 'demo' / 'stdout').write_bytes(picture(font))
-(crates / 'preview' / 'stdin').write_bytes(small_picture())
-(crates / 'preview' / 'stdout').write_bytes(characters(small_picture()))
-print('%d events' % (len(traffic) // 2))
+script.store({
+    'crates/demo/stdin': bytes(font) + traffic, 'crates/demo/stdout': picture(font),
+    'crates/preview/stdin': small_picture(), 'crates/preview/stdout': characters(small_picture())})

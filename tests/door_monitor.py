@@ -1,8 +1,7 @@
 #!/usr/bin/env python3
 """Makes examples/door_monitor.stdout, what the C example must print: its calls, answered by tests/model.py."""
-import pathlib
-
 import model
+import script
 
 LINES = 20
 O = (0x0F0, 0x198, 0x30C, 0x30C, 0x30C, 0x30C, 0x30C, 0x30C, 0x198, 0x0F0)
@@ -11,9 +10,7 @@ device, ram, font, output = model.Device(), [0] * 1024, [0] * 4608, []
 
 
 def host_writes(address, data):
-    answers = [device.event(ram, 'start')]
-    answers += [device.event(ram, 'byte', x) for x in [0xBA, address >> 8, address & 255] + data]
-    answers += [device.event(ram, 'stop')]
+    answers = [device.event(ram, kind, x) for kind, x in script.writes(address, *data)]
     return sum(refusal != 0 for refusal, _ in answers)
 
 
@@ -62,4 +59,4 @@ device.event(ram, 'start')
 show('unknown slave address', *device.event(ram, 'byte', 0x42))
 show('a byte to a deaf device', *device.event(ram, 'byte', 0))
 show('a record of another length', 255)      # the interface's own refusal
-pathlib.Path(__file__).parent.parent.joinpath('examples', 'door_monitor.stdout').write_text('\n'.join(output) + '\n')
+script.store({'examples/door_monitor.stdout': '\n'.join(output) + '\n'})

@@ -1,0 +1,77 @@
+-- `bitmap_row` writes its digits within the text.
+-- Assumes nothing.
+use Prim.Native.Nat.{_-_, _≤_}
+use mathlib.Core.Path.{_≡_}
+use lib.ListN.{length}
+use borrow.Author.Needs.{needs}
+use Rattle.test_pages.proofs.bitmap_row.Statement.{statement}
+use Rattle.test_pages.proofs.bitmap_row.Tie as tie
+
+abbrev Inv-loop : tie.InvT-loop
+Inv-loop device ram first text₀ i₀ text i = (i ≤ 64) × (length text ≡ 65)
+
+abbrev μ-loop : tie.MeasureT-loop
+μ-loop device ram first text₀ i₀ text i = 64 - i
+
+loop-holds : tie.Need-loop-holds Inv-loop μ-loop
+loop-holds c = search needs
+
+cast-four : tie.Need-cast-four Inv-loop μ-loop
+cast-four c = search needs
+
+mul-four : tie.Need-mul-four Inv-loop μ-loop
+mul-four c = search needs
+
+add-four : tie.Need-add-four Inv-loop μ-loop
+add-four c = search needs
+
+four-requires : tie.Need-four-requires Inv-loop μ-loop
+four-requires c κs = search needs
+
+digit-requires : tie.Need-digit-requires Inv-loop μ-loop
+digit-requires c κs = search needs
+
+cast-text : tie.Need-cast-text Inv-loop μ-loop
+cast-text c = search needs
+
+array-write-text : tie.Need-array-write-text Inv-loop μ-loop
+array-write-text c = search needs
+
+add-i : tie.Need-add-i Inv-loop μ-loop
+add-i c = search needs
+
+loop-less : tie.Need-loop-less Inv-loop μ-loop
+loop-less c = search needs
+
+loop-again : tie.Need-loop-again Inv-loop μ-loop
+loop-again c = search needs
+
+slice-aggregate-write-all : tie.Need-slice-aggregate-write-all Inv-loop μ-loop
+slice-aggregate-write-all c = search needs
+
+write-all-requires : tie.Need-write-all-requires Inv-loop μ-loop
+write-all-requires c κs = search needs
+
+returns : tie.Need-returns Inv-loop μ-loop
+returns c = search needs
+
+pub bitmap-row-spec : {M : Type 1} → statement M
+bitmap-row-spec =
+    tie.close
+    (tie.spec
+    Inv-loop
+    μ-loop
+    loop-holds
+    cast-four
+    mul-four
+    add-four
+    four-requires
+    digit-requires
+    cast-text
+    array-write-text
+    add-i
+    loop-less
+    loop-again
+    slice-aggregate-write-all
+    write-all-requires
+    returns)

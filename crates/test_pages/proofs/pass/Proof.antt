@@ -1,0 +1,57 @@
+-- `pass` ends, and the RAM and the font keep their lengths.
+-- Assumes nothing.
+use Prim.Native.Nat.{_-_}
+use mathlib.Core.Path.{_≡_}
+use lib.ListN.{length}
+use borrow.Author.Needs.{needs}
+use Rattle.test_pages.proofs.pass.Statement.{statement}
+use Rattle.test_pages.proofs.pass.Tie as tie
+
+abbrev Inv-loop : tie.InvT-loop
+Inv-loop script from to which ram₀ font₀ now₀ i₀ ram font now i = (length ram ≡ length ram₀) × (length font ≡ length font₀)
+
+abbrev μ-loop : tie.MeasureT-loop
+μ-loop script from to which ram₀ font₀ now₀ i₀ ram font now i = to - i
+
+loop-holds : tie.Need-loop-holds Inv-loop μ-loop
+loop-holds c = search needs
+
+step-at-requires : tie.Need-step-at-requires Inv-loop μ-loop
+step-at-requires c κs = search needs
+
+turn-if-requires : tie.Need-turn-if-requires Inv-loop μ-loop
+turn-if-requires c κs = search needs
+
+add-i : tie.Need-add-i Inv-loop μ-loop
+add-i c = search needs
+
+loop-less : tie.Need-loop-less Inv-loop μ-loop
+loop-less c = search needs
+
+loop-again : tie.Need-loop-again Inv-loop μ-loop
+loop-again c = search needs
+
+same-length : tie.Need-same-length Inv-loop μ-loop
+same-length c = search needs
+
+same-length-2 : tie.Need-same-length-2 Inv-loop μ-loop
+same-length-2 c = search needs
+
+returns : tie.Need-returns Inv-loop μ-loop
+returns c = search needs
+
+pub pass-spec : {M : Type 1} → statement M
+pass-spec =
+    tie.close
+    (tie.spec
+    Inv-loop
+    μ-loop
+    loop-holds
+    step-at-requires
+    turn-if-requires
+    add-i
+    loop-less
+    loop-again
+    same-length
+    same-length-2
+    returns)
