@@ -12,7 +12,7 @@ use lib.ListN.{length, drop, replicate, length-append, length-take, length-drop,
 use lib.Seq.{take-append-seam}
 use Rattle.line.proofs.Laws.{paint-length}
 use Rattle.device.specs.declared.Device.{Device}
-use Rattle.device.specs.Device.{StartOutcome, DrawOutcome, lineWidth, pixelsOf, lineOn, lineDrawn, drawLine}
+use Rattle.device.specs.Device.{StartOutcome, DrawOutcome, lineWidth, pixelsOf, lineOn, lineDrawn, drawVerdict, drawBy, drawLine}
 use Rattle.report.specs.Report.{ramPart, fontPart, begun, refusalText, headingText, lineText, TextOutcome, writeText, LineOutcome, nextDraw, linesText, benchText}
 use Rattle.report.specs.Parts.{printed, lineParts, frameParts, benchParts, JoinedParts}
 use Rattle.report.proofs.Texts.{places-few, text-drawn, width-most, refusal-long, heading-long, line-long}
@@ -41,7 +41,7 @@ module _ (text out : List ℕ) (fits : length text ≤ length out) where
 
 module _ (d : Device) (ram font : List ℕ) (n : ℕ) (some : d .frame .left ≡ suc n) (r : length ram ≡ 1024) (f : length font ≡ 4608) where
   drawn-is : nextDraw d ram font ≡ lineDrawn d ram font (replicate (lineWidth d) 0)
-  unfolding drawLine
+  unfolding drawVerdict drawBy drawLine
   drawn-is =
       rw (
         eq-eqb (length ram) 1024 r,
