@@ -17,7 +17,7 @@ use Rattle.walk.specs.declared.Strip.{Strip}
 use Rattle.walk.specs.declared.Strip.the-variants.{Spacing, Characters}
 use Rattle.device.specs.declared.Frame.{Frame}
 use Rattle.device.specs.declared.Device.{Device}
-use Rattle.layout.specs.Layout.{busAt, busLength, registersAt, registersLength, nextAt, nextLength, frameAt, frameLength, recordLength, part, put, stateNumber, heldHigh, stateOf, busBytes, busIn, registersIn, nextBytes, nextIn, packed, stripOf, frameBytes, frameIn, deviceBytes, deviceIn, ReadBack}
+use Rattle.layout.specs.Layout.{busAt, busLength, registersAt, registersLength, nextAt, nextLength, frameAt, frameLength, recordLength, part, put, stateNumber, heldHigh, stateOf, busBytes, busIn, registersIn, nextBytes, nextIn, packed, stripIn, frameBytes, frameIn, deviceBytes, deviceIn, ReadBack}
 use Rattle.layout.proofs.Parts.{fit, part-put, sets-append, sets-all, set-part}
 
 -- ---- each part by itself
@@ -34,7 +34,7 @@ state-back (Low high) = refl
 state-back Write = refl
 state-back Read = refl
 
-strip-back : (s : Strip) → stripOf (packed s) ≡ s
+strip-back : (s : Strip) → stripIn (packed s .kind) (packed s .lines) (packed s .address) (packed s .line) ≡ s
 strip-back (Spacing left) = refl
 strip-back (Characters address height false false line) = refl
 strip-back (Characters address height false true line) = refl

@@ -131,11 +131,11 @@ packed (Spacing left) = record { kind = 0; lines = left; address = 0; line = 0 }
 packed (Characters address height zoom enabled line) =
     record { kind = 1 + cond zoom 2 0 + cond enabled 4 0; lines = height; address = address; line = line .0 }
 
-abbrev pub stripOf : Packed → Strip
-stripOf p =
-    cond (eqb (p .kind % 2) 0)
-    (Spacing (p .lines))
-    (Characters (p .address) (p .lines) (eqb (p .kind / 2 % 2) 1) (eqb (p .kind / 4 % 2) 1) (record { 0 = p .line }))
+abbrev pub stripIn : ℕ → ℕ → ℕ → ℕ → Strip
+stripIn kind lines address line =
+    cond (eqb (kind % 2) 0)
+    (Spacing lines)
+    (Characters address lines (eqb (kind / 2 % 2) 1) (eqb (kind / 4 % 2) 1) (record { 0 = line }))
 
 -- with its strip as numbers
 abbrev pub frameWith : Frame → Packed → List ℕ
@@ -148,8 +148,11 @@ frameBytes f = frameWith f (packed (f .walk .strip))
 
 abbrev pub frameIn : List ℕ → Frame
 frameIn bytes =
-    let p : Packed = record { kind = getD bytes 5 0; lines = getD bytes 6 0; address = word bytes 7; line = word bytes 9 } in
-    record { left = word bytes 1; number = getD bytes 0 0; walk = record { descriptor = word bytes 3; strip = stripOf p } }
+    record {
+      left = word bytes 1;
+      number = getD bytes 0 0;
+      walk = record { descriptor = word bytes 3; strip = stripIn (getD bytes 5 0) (getD bytes 6 0) (word bytes 7) (word bytes 9) };
+    }
 
 -- ---- the whole record
 

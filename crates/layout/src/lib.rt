@@ -4,7 +4,7 @@ ghost use mathlib.Core.Bool.{cond};
 ghost use mathlib.Core.List.{[], _∷_};
 ghost use Prim.Native.Nat.{_+_, _*_, _/_, _%_, _≤_, _<_};
 ghost use lib.ListN.{length};
-ghost use Rattle.layout.specs.Layout.{busAt, busLength, registersAt, registersLength, nextAt, frameAt, frameLength, recordLength, put, word, stateNumber, heldHigh, stateOf, busBytes, busIn, registersIn, nextBytes, packed, stripOf, frameWith, frameBytes, frameIn, deviceBytes, deviceIn};
+ghost use Rattle.layout.specs.Layout.{busAt, busLength, registersAt, registersLength, nextAt, frameAt, frameLength, recordLength, put, word, stateNumber, heldHigh, stateOf, busBytes, busIn, registersIn, nextBytes, packed, stripIn, frameWith, frameBytes, frameIn, deviceBytes, deviceIn};
 use bus::Bus;
 use bus::State;
 use device::Device;
@@ -175,19 +175,18 @@ fn write_registers(device: &mut [u8], registers: Registers)
 
 // ---- the frame
 
-fn unpack(strip: Packed) -> Strip
-    ensures { λ r. ⌜ r ≡ stripOf strip ⌝ }
+fn strip_in(kind: u8, lines: u8, address: u16, line: u16) -> Strip
+    ensures { λ r. ⌜ r ≡ stripIn kind lines address line ⌝ }
 {
-    let kind = strip.kind;
     if kind % 2 == 0 {
-        return Strip::Spacing { left: strip.lines };
+        return Strip::Spacing { left: lines };
     }
     Strip::Characters {
-        address: strip.address,
-        height: strip.lines,
+        address: address,
+        height: lines,
         zoom: kind / 2 % 2 == 1,
         enabled: kind / 4 % 2 == 1,
-        line: ScanLine(strip.line),
+        line: ScanLine(line),
     }
 }
 
@@ -195,18 +194,14 @@ fn frame_in(bytes: &[u8]) -> Frame
     requires { ⌜ length (now bytes) ≡ frameLength ⌝ }
     ensures { λ r. ⌜ r ≡ frameIn (now (bytes .entry)) ⌝ }
 {
-    let strip = Packed {
-        kind: bytes[5],
-        lines: bytes[6],
-        address: word_at(bytes, 7),
-        line: word_at(bytes, 9),
-    };
+    let address = word_at(bytes, 7);
+    let line = word_at(bytes, 9);
     Frame {
         left: word_at(bytes, 1),
         number: bytes[0],
         walk: Walk {
             descriptor: word_at(bytes, 3),
-            strip: unpack(strip),
+            strip: strip_in(bytes[5], bytes[6], address, line),
         },
     }
 }
