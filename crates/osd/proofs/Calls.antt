@@ -31,7 +31,7 @@ use Rattle.device.specs.declared.DrawAnswer.the-variants as draw
 use Rattle.device.specs.Device.{freshDevice, hearEvent, startOutcome, startFrame, drawOutcome, drawLine, askCell}
 use Rattle.layout.specs.Layout.{busAt, busLength, registersAt, registersLength, nextAt, frameAt, recordLength, part, put, stateNumber, busBytes, nextBytes, frameBytes, deviceBytes, deviceIn}
 use Rattle.layout.proofs.Parts.{getD-part, sets-comm, sets-part, set-part}
-use Rattle.layout.proofs.Laws.{numbered}
+use Rattle.layout.proofs.Laws.{numbered, put-part}
 use Rattle.osd.specs.Interface as osd
 use Rattle.osd.specs.Interface.{answerOf, notTaken, InSpace, freshOn, ignoredOn, heardOn, stepOn, eventOn, busOn, storedOn, startedOn, startOn, drawnOn, drawOn, cellOn}
 
@@ -242,11 +242,14 @@ module _ (xs ram ys : List ℕ) (n : ℕ) (p : n ≡ deviceIn xs .bus .counter) 
       by : step (deviceIn xs .bus) (Byte x) ≡ record { bus = up Write (deviceIn xs .bus .counter); effect = Store (deviceIn xs .bus .counter % 0x4000) x }
       by = rw (state-byte xs, five)
 
-  pub fetched-next : (byte : ℕ) → getD xs busAt 0 ≡ 6 → ys ≡ put busAt (busBytes (up Read n)) xs → byte ≡ byteIn (n % 0x4000) (deviceIn xs .registers) ram
+  pub fetched-next : (byte : ℕ) → length xs ≡ recordLength → getD xs busAt 0 ≡ 6 → ys ≡ put busAt (busBytes (up Read n)) xs
+      → byte ≡ byteIn (n % 0x4000) (deviceIn ys .registers) ram
       → _≡_ {A = osd.BusDone} (record { device = ys; ram = ram; answer = byte }) (eventOn xs ram Fetch)
   unfolding step
-  fetched-next byte six e q =
-      applied-load xs ram ys (record { bus = up Read n; effect = Load (n % 0x4000) }) e (n % 0x4000) byte refl q
+  fetched-next byte h six e q =
+      applied-load xs ram ys (record { bus = up Read n; effect = Load (n % 0x4000) }) e (n % 0x4000) byte refl
+      (q ∙ ap (λ (d : Device). byteIn (n % 0x4000) (d .registers) ram)
+      (ap deviceIn e ∙ put-part busAt busLength (busBytes (up Read n)) xs refl (omega arith) (tt, tt, tt, tt)))
       ∙ ap (λ (m : ℕ). stepOn xs ram (record { bus = up Read m; effect = Load (m % 0x4000) })) p
       ∙ ap (stepOn xs ram) (sym by)
     where

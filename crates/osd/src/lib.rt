@@ -172,9 +172,8 @@ fn read_next(device: &mut [u8], ram: &mut [u8]) -> u32
         state: State::Read,
         counter: (address + 1) % 0x4000,
     };
-    let byte = load(device, ram, address);
     layout::write_bus(device, next);
-    byte as u32
+    load(device, ram, address) as u32
 }
 
 // Of the record only the bus part and at most one register are read and written. Data bytes and fetches come most often, so they are
