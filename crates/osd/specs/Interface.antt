@@ -8,6 +8,7 @@ use mathlib.Core.List.{List}
 use lib.Dec.{eqb, ltb}
 use lib.ListN.{length, getD, set}
 use lib.Bits.{bitAnd}
+use Rattle.limits.specs.Limits.{ramLength}
 use Rattle.refusals.specs.declared.Refusal.the-variants.{NotAcknowledged}
 use Rattle.refusals.specs.Refusals.{Reply, refused}
 use Rattle.registers.specs.Registers.{kept}
@@ -165,8 +166,8 @@ pub record Crossing : Type 0 where
   -- a call that the device's function refuses writes no byte of the record ..
   pub silent-start : (xs : List ℕ) (lines : ℕ) → (startFrame (deviceIn xs) lines .reply .refusal ≡ 0 → ⊥) → startOn xs lines .device ≡ xs
   pub silent-draw : (xs ram font line : List ℕ) → (drawLine (deviceIn xs) ram font line .reply .refusal ≡ 0 → ⊥) → drawOn xs ram font line .device ≡ xs
-  pub silent-bus : (xs ram : List ℕ) (kind byte : ℕ) → (kind ≡ 1 → deviceIn xs .bus .state ≡ Slave → length ram ≡ 1024 → ⊥)
+  pub silent-bus : (xs ram : List ℕ) (kind byte : ℕ) → (kind ≡ 1 → deviceIn xs .bus .state ≡ Slave → length ram ≡ ramLength → ⊥)
       → (hearEvent (deviceIn xs) ram (eventOf kind byte) .reply .refusal ≡ 0 → ⊥) → busOn xs ram kind byte .device ≡ xs
   -- .. except deaf after an unknown slave address: byte 0 alone
-  pub deaf : (xs ram : List ℕ) (byte : ℕ) → length xs ≡ recordLength → length ram ≡ 1024 → deviceIn xs .bus .state ≡ Slave → (byte ≡ 0xBA → ⊥) → (byte ≡ 0xBB → ⊥)
+  pub deaf : (xs ram : List ℕ) (byte : ℕ) → length xs ≡ recordLength → length ram ≡ ramLength → deviceIn xs .bus .state ≡ Slave → (byte ≡ 0xBA → ⊥) → (byte ≡ 0xBB → ⊥)
       → busOn xs ram 1 byte ≡ record { device = set xs busAt 1; ram = ram; answer = answerOf (refused NotAcknowledged) }

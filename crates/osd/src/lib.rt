@@ -2,6 +2,7 @@
 ghost use mathlib.Core.Path.{_≡_};
 ghost use Prim.Native.Nat.{_+_, _*_, _<_};
 ghost use lib.ListN.{length, getD};
+ghost use Rattle.limits.specs.Limits.{ramLength};
 ghost use Rattle.refusals.specs.Refusals.{refused};
 ghost use Rattle.bus.specs.declared.Event.the-variants.{Byte, Fetch};
 ghost use Rattle.bus.specs.declared.Effect.the-variants.{Store};
@@ -20,8 +21,6 @@ use refusals::Refusal;
 use registers::Registers;
 
 const DEVICE_LENGTH: usize = 32;
-
-const RAM_LENGTH: usize = 1024;
 
 // Bus states by their numbers.
 const DEAF: u8 = 1;
@@ -78,7 +77,7 @@ pub extern "C" fn osd_reset(device: &mut [u8]) -> u32
 
 // A byte to an address: a RAM cell, a register in its place, or nothing.
 fn store(device: &mut [u8], ram: &mut [u8], address: u16, x: u8)
-    requires { ⌜ (length (now device) ≡ recordLength) × (length (now ram) ≡ 1024) × (address < 0x4000) ⌝ }
+    requires { ⌜ (length (now device) ≡ recordLength) × (length (now ram) ≡ ramLength) × (address < 0x4000) ⌝ }
     ensures registers { λ _. ⌜ now (device .exit) ≡ storedOn address x (now (device .entry)) ⌝ }
     ensures cells { λ _. ⌜ now (ram .exit) ≡ ramWith (Store address x) (now (ram .entry)) ⌝ }
 {
@@ -94,7 +93,7 @@ fn store(device: &mut [u8], ram: &mut [u8], address: u16, x: u8)
 
 // The byte at an address: a RAM cell's, a register's, or 0.
 fn load(device: &[u8], ram: &[u8], address: u16) -> u8
-    requires { ⌜ (length (now device) ≡ recordLength) × (length (now ram) ≡ 1024) × (address < 0x4000) ⌝ }
+    requires { ⌜ (length (now device) ≡ recordLength) × (length (now ram) ≡ ramLength) × (address < 0x4000) ⌝ }
     ensures { λ r. ⌜ r ≡ byteIn address (deviceIn (now (device .entry)) .registers) (now (ram .entry)) ⌝ }
 {
     if address < 0x400 {
@@ -119,7 +118,7 @@ fn ignore(device: &mut [u8], state: State)
 
 // What the bus asks of the cells, done in place.
 fn apply(device: &mut [u8], ram: &mut [u8], step: Step) -> u32
-    requires { ⌜ (length (now device) ≡ recordLength) × (length (now ram) ≡ 1024) × InSpace (step .effect) ⌝ }
+    requires { ⌜ (length (now device) ≡ recordLength) × (length (now ram) ≡ ramLength) × InSpace (step .effect) ⌝ }
     ensures { λ r. ⌜ record { device = now (device .exit); ram = now (ram .exit); answer = r } ≡ stepOn (now (device .entry)) (now (ram .entry)) step ⌝ }
 {
     let next = step.bus;
@@ -149,7 +148,7 @@ fn apply(device: &mut [u8], ram: &mut [u8], step: Step) -> u32
 
 // A data byte: stored at the counter, which goes up.
 fn write_next(device: &mut [u8], ram: &mut [u8], x: u8) -> u32
-    requires { ⌜ (length (now device) ≡ recordLength) × (length (now ram) ≡ 1024) × (getD (now device) busAt 0 ≡ 5) ⌝ }
+    requires { ⌜ (length (now device) ≡ recordLength) × (length (now ram) ≡ ramLength) × (getD (now device) busAt 0 ≡ 5) ⌝ }
     ensures { λ r. ⌜ record { device = now (device .exit); ram = now (ram .exit); answer = r } ≡ eventOn (now (device .entry)) (now (ram .entry)) (Byte x) ⌝ }
 {
     let address = layout::counter_of(device) % 0x4000;
@@ -164,7 +163,7 @@ fn write_next(device: &mut [u8], ram: &mut [u8], x: u8) -> u32
 
 // A fetch: the byte at the counter, which goes up.
 fn read_next(device: &mut [u8], ram: &mut [u8]) -> u32
-    requires { ⌜ (length (now device) ≡ recordLength) × (length (now ram) ≡ 1024) × (getD (now device) busAt 0 ≡ 6) ⌝ }
+    requires { ⌜ (length (now device) ≡ recordLength) × (length (now ram) ≡ ramLength) × (getD (now device) busAt 0 ≡ 6) ⌝ }
     ensures { λ r. ⌜ record { device = now (device .exit); ram = now (ram .exit); answer = r } ≡ eventOn (now (device .entry)) (now (ram .entry)) Fetch ⌝ }
 {
     let address = layout::counter_of(device) % 0x4000;
@@ -188,7 +187,7 @@ pub extern "C" fn osd_bus(device: &mut [u8], ram: &mut [u8], kind: u8, byte: u8)
     if kind > 3 {
         return NOT_TAKEN;
     }
-    if ram.len() != RAM_LENGTH {
+    if ram.len() != limits::RAM_LENGTH {
         return refuse(Refusal::RamLength);
     }
     let state = device[layout::BUS_AT];
