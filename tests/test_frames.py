@@ -904,6 +904,6 @@ def made_up_calls():
             show_sum()
 
 
-assert len(steps) <= 65536
+assert len(steps) <= 131072    # what the program reads
 script.store({'crates/test_frames/stdin': steps, 'crates/test_frames/stdout': ''.join(output)})
 print('%d cases, %d draws' % (totals['cases'], totals['draws']))

@@ -1,11 +1,7 @@
 #!/usr/bin/env python3
 """Makes stdin and stdout of crates/test_pages: its script, and the answers of tests/model.py.
 
-A step has four bytes, a kind and three numbers; n is the first number plus 256 times the second. Kinds 0 to 3: start, host byte,
-fetch and stop. 4: start a frame of n lines. 5: draw into a buffer of n bytes, each of which is the third number. 6: ask about
-cell n. 7: draw n lines. 8: ask about cell 1,020 + the third number, with a RAM of n zeros. 9: reset. 10 and 11: fill RAM and
-font with noise. 12: store the third number in cell n. 13: print the latest answer. 14: print the answers about all cells.
-15: print the digests. 16: a list of as many steps as the first number says, and what shows the state behind it.
+A step goes into the input and to the model at once; crates/test_pages/src/main.rt says what each kind of step does.
 """
 import copy
 import itertools
@@ -385,6 +381,6 @@ for before in ([], [('start',), ('byte', 0xBA), ('byte', 0x01)], [('start',), ('
     do('report')
 
 data = bytes(x for step in steps for x in step)
-assert len(data) <= 32768, len(data)
+assert len(data) <= 65536    # what the program reads
 script.store({'crates/test_pages/stdin': data, 'crates/test_pages/stdout': ''.join(out)})
 print('%d steps, %d quiet lists, %d controls' % (len(steps), lists['quiet'], lists['control']))

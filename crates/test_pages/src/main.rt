@@ -1,43 +1,77 @@
 // Plays a script of calls on one device and prints digests of all answers and bitmaps of the cell question. A list of bus events, draws
 // and cell questions is played twice from the same device, RAM and font: in its own order, and with its draws and questions first.
-// Standard input: four bytes a step, a kind and three numbers (tests/test_pages.py has the kinds and the script). The stored output
-// comes from tests/model.py, which was written from document 01 and not from this code.
+// Standard input: four bytes a step, its kind and a, b, c; n is a + 256 b.
+//
+//  0 start, 1 host byte a, 2 fetch, 3 stop
+//  4 start a frame of n lines
+//  5 draw into a line buffer of n bytes, each of which is c
+//  6 ask about cell n
+//  7 n draws into line buffers of 768 bytes, each of which is 170
+//  8 ask about cell 1,020 + c, with a RAM of n zeros
+//  9 reset
+// 10 noise from seed n in all of RAM; 11 the same of the font
+// 12 RAM cell n becomes c
+// 13 prints the latest answer
+// 14 prints the answers about all cells
+// 15 prints the digests, and begins new ones
+// 16 the next a steps are a list, and the b steps behind them show the state that it leaves: both are played for each order
+//
+// The stored output comes from tests/model.py, which was written from document 01 and not from this code
+// (tests/test_pages.py has the script).
 ghost use Prim.Native.Nat.{_<_};
 use bus::Event;
 use device::Device;
 use registers::Registers;
+use test_script::Call;
+use test_script::Numbers;
+use test_script::Step;
 
-struct Step {
-    kind: u8,
-    a: u8,
-    b: u8,
-    c: u8,
-}
+// What is kept from step to step: digests of the answers, those of draws with their line buffers; and the latest answer.
+const DRAWS: usize = 0;
 
-// Digests of the answers, with the line buffers of the draws.
-struct Sums {
-    draws: u64,
-    asks: u64,
-    events: u64,
-}
+const ASKS: usize = 1;
 
-// The steps of a list, and of what shows the state that it leaves.
-struct Places {
+const EVENTS: usize = 2;
+
+const REFUSAL: usize = 3;
+
+const VALUE: usize = 4;
+
+const NOISE: Numbers = Numbers {
+    factor: 1664525,
+    more: 1013904223,
+    last: 4294967295,
+};
+
+const DIGEST: Numbers = Numbers {
+    factor: 65599,
+    more: 1,
+    last: 4294967290,
+};
+
+// Where a list begins, where it ends, and where what shows its state ends.
+struct List {
     from: usize,
     to: usize,
     end: usize,
 }
 
-struct Host {
-    device: Device,
-    sums: Sums,
-    // the latest answer
-    refusal: u8,
-    value: u16,
+// Which steps of a list are played.
+enum Which {
+    All,
+    DrawsAndQuestions,
+    Events,
+    None,
+}
+
+struct Part {
+    from: usize,
+    to: usize,
+    which: Which,
 }
 
 fn main() {
-    let mut script = [0u8; 32768];
+    let mut script = io::large_buffer();
     let n = io::read_full(0, &mut script);
     let mut ram = bus::fresh_ram();
     let mut font = [0u8; 4608];
@@ -45,34 +79,20 @@ fn main() {
 }
 
 fn run(script: &[u8], ram: &mut [u8], font: &mut [u8]) {
-    let mut host = Host::fresh();
+    let mut device = Device::fresh();
+    let mut kept = [1, 1, 1, 0, 0];
     let steps = script.len() / 4 % 65536;
     let mut i = 0;
     while i < steps {
-        let step = step_at(script, i);
-        host = act(host, step, script, i, ram, font);
-        i += 1 + skipped(step);
+        let step = test_script::step_at(script, i);
+        let next = i + 1 + skipped(step);
+        look(device, step, script, i, ram, font, &mut kept);
+        device = turn(device, step, ram, font, &mut kept);
+        i = next;
     }
 }
 
-fn step_at(script: &[u8], i: usize) -> Step {
-    if i < script.len() / 4 {
-        return Step {
-            kind: script[4 * i],
-            a: script[4 * i + 1],
-            b: script[4 * i + 2],
-            c: script[4 * i + 3],
-        };
-    }
-    Step {
-        kind: 255,
-        a: 0,
-        b: 0,
-        c: 0,
-    }
-}
-
-// A list of calls stands behind its step: this many steps, and then the steps of its end.
+// The steps of a list are played with it.
 fn skipped(step: Step) -> usize
     ensures { λ r. ⌜ r < 512 ⌝ }
 {
@@ -82,362 +102,134 @@ fn skipped(step: Step) -> usize
     0
 }
 
-fn act(host: Host, step: Step, script: &[u8], i: usize, ram: &mut [u8], font: &mut [u8]) -> Host {
-    if step.kind == 16 {
-        return both(host, step, script, i, ram, font);
-    }
-    turn(host, step, ram, font)
-}
-
-// The list in both orders, from the same device and RAM; these are put back at the end.
-fn both(host: Host, step: Step, script: &[u8], i: usize, ram: &mut [u8], font: &mut [u8]) -> Host {
-    let mut saved = [0u8; 1024];
-    let from = i % 65536 + 1;
-    let to = from + step.a as usize;
-    let places = Places {
-        from: from,
-        to: to,
-        end: to + step.b as usize,
-    };
-    orders(host.cleared(), places, script, &mut saved, ram, font);
-    host.cleared()
-}
-
-fn orders(
-    host: Host,
-    places: Places,
+// Steps 8 and 10 to 16: the device stays as it is.
+fn look(
+    device: Device,
+    step: Step,
     script: &[u8],
-    saved: &mut [u8],
+    i: usize,
     ram: &mut [u8],
     font: &mut [u8],
+    kept: &mut [u64; 5],
 ) {
-    copy(ram, saved);
-    own_order(host, places, script, ram, font);
-    copy(saved, ram);
-    draws_first(host, places, script, ram, font);
-    copy(saved, ram);
-}
-
-fn own_order(host: Host, places: Places, script: &[u8], ram: &mut [u8], font: &mut [u8]) {
-    let done = pass(host, script, places.from, places.to, 0, ram, font);
-    finish(done, places, script, ram, font);
-}
-
-fn draws_first(host: Host, places: Places, script: &[u8], ram: &mut [u8], font: &mut [u8]) {
-    let first = pass(host, script, places.from, places.to, 1, ram, font);
-    let second = pass(first, script, places.from, places.to, 2, ram, font);
-    finish(second, places, script, ram, font);
-}
-
-fn finish(host: Host, places: Places, script: &[u8], ram: &mut [u8], font: &mut [u8]) {
-    host.report(ram);
-    let done = pass(host.cleared(), script, places.to, places.end, 0, ram, font);
-    done.report(ram);
-}
-
-// Which: 0 all steps, 1 draws and questions, 2 bus events.
-fn pass(
-    host: Host,
-    script: &[u8],
-    from: usize,
-    to: usize,
-    which: u8,
-    ram: &mut [u8],
-    font: &mut [u8],
-) -> Host {
-    let mut now = host;
-    let mut i = from;
-    while i < to {
-        now = turn_if(now, step_at(script, i), which, ram, font);
-        i += 1;
+    if step.kind == 16 {
+        both(device, list_of(step, i), script, ram, font);
+        clear(kept);
+        return;
     }
-    now
-}
-
-fn turn_if(host: Host, step: Step, which: u8, ram: &mut [u8], font: &mut [u8]) -> Host {
-    if wanted(which, step.kind) {
-        return turn(host, step, ram, font);
-    }
-    host
-}
-
-fn wanted(which: u8, kind: u8) -> bool {
-    match which {
-        0 => true,
-        1 => kind >= 4,
-        _ => kind < 4,
-    }
-}
-
-// Kinds 0 to 3 are bus events, 4 to 9 other calls, and the rest set up and print.
-fn turn(host: Host, step: Step, ram: &mut [u8], font: &mut [u8]) -> Host {
-    if step.kind < 4 {
-        return heard(host, Event::of_kind(step.kind, step.a), ram);
-    }
-    if step.kind < 10 {
-        return called(host, step, ram, font);
-    }
-    if step.kind < 13 {
-        set_up(step, ram, font);
-        return host;
-    }
-    print(host, step.kind, ram)
-}
-
-fn called<'a>(host: Host, step: Step, ram: &'a [u8], font: &'a [u8]) -> Host {
-    let kind = step.kind;
-    match kind {
-        4 => host.started(number(step)),
-        5 => drawn(host, number(step) % 1024, step.c, ram, font),
-        6 => asked(host, number(step), ram),
-        7 => drawn_on(host, number(step), ram, font),
-        8 => asked_with(host, number(step) % 2048, step.c),
-        _ => host.reset(),
-    }
-}
-
-// 10 fills the RAM with noise, 11 the font, 12 stores a byte.
-fn set_up(step: Step, ram: &mut [u8], font: &mut [u8]) {
-    let n = number(step) as usize;
-    let kind = step.kind;
-    match kind {
-        10 => {
-            noise(ram, n as u64);
-        }
-        11 => {
-            noise(font, n as u64);
-        }
-        _ => {
-            if n < ram.len() {
-                ram[n] = step.c;
-            }
-        }
-    }
-}
-
-// 13 prints the latest answer, 14 the bitmap of the cell question, 15 the digests.
-fn print(host: Host, kind: u8, ram: &[u8]) -> Host {
-    match kind {
-        13 => {
-            say(host.refusal, host.value);
-            host
-        }
-        14 => {
-            let device = host.device;
-            bitmap(device, ram);
-            host
-        }
-        15 => {
-            host.report(ram);
-            host.cleared()
-        }
-        _ => host,
-    }
+    set_up(step, ram, font);
+    show(device, step, ram, kept);
 }
 
 fn number(step: Step) -> u32 {
     step.a as u32 + 256 * (step.b as u32)
 }
 
-fn heard(host: Host, event: Event, ram: &mut [u8]) -> Host {
-    let device = host.device;
-    let sums = host.sums;
-    let done = device.hear(ram, event);
-    let answer = done.answer;
-    let next = done.device;
-    let refusal = answer.refusal();
-    let byte = answer.byte();
-    Host {
-        device: next,
-        sums: Sums {
-            draws: sums.draws,
-            asks: sums.asks,
-            events: mix(mix(sums.events, refusal), byte),
-        },
-        refusal: refusal,
-        value: byte as u16,
+// ---- a list in both orders
+
+fn list_of(step: Step, i: usize) -> List {
+    let from = i % 65536 + 1;
+    let to = from + step.a as usize;
+    List {
+        from: from,
+        to: to,
+        end: to + step.b as usize,
     }
 }
 
-// A draw into a line buffer of n bytes, each of which is fill.
-fn drawn<'a>(host: Host, n: u32, fill: u8, ram: &'a [u8], font: &'a [u8]) -> Host {
-    let mut line = [fill; 1024];
-    drawn_part(host, n as usize, &mut line, ram, font)
-}
-
-fn drawn_part<'a>(host: Host, n: usize, line: &mut [u8], ram: &'a [u8], font: &'a [u8]) -> Host {
-    if n <= line.len() {
-        return drawn_in(host, &mut line[..n], ram, font);
-    }
-    host
-}
-
-fn drawn_in<'a>(host: Host, line: &mut [u8], ram: &'a [u8], font: &'a [u8]) -> Host {
-    let device = host.device;
-    let done = device.draw_line(ram, font, line);
-    let answer = done.answer;
-    let next = done.device;
-    let sums = host.sums;
-    let refusal = answer.refusal();
-    let cells = answer.cells();
-    Host {
-        device: next,
-        sums: Sums {
-            draws: mix_line(sums.draws, refusal, cells, line),
-            asks: sums.asks,
-            events: sums.events,
-        },
-        refusal: refusal,
-        value: cells,
+// Each from the same device and RAM; the RAM is put back.
+fn both(device: Device, list: List, script: &[u8], ram: &mut [u8], font: &mut [u8]) {
+    let mut saved = [0u8; 1024];
+    copy(ram, &mut saved);
+    let mut order = 0;
+    while order < 2 {
+        play(device, list, order, script, ram, font);
+        copy(&saved, ram);
+        order += 1;
     }
 }
 
-fn mix_line(sum: u64, refusal: u8, cells: u16, line: &[u8]) -> u64 {
-    let answered = mix(
-        mix(mix(sum, refusal), (cells / 256) as u8),
-        (cells % 256) as u8,
-    );
-    mix_all(answered, line)
+// The list in an order, in two parts, and what shows the state that it leaves; the digests of both.
+fn play(device: Device, list: List, order: u8, script: &[u8], ram: &mut [u8], font: &mut [u8]) {
+    let mut kept = [1, 1, 1, 0, 0];
+    let mut now = device;
+    let mut i = 0;
+    while i < 3 {
+        now = pass(now, part_of(list, order, i), script, ram, font, &mut kept);
+        if i > 0 {
+            report(now.registers, ram, &mut kept);
+        }
+        i += 1;
+    }
 }
 
-fn drawn_on<'a>(host: Host, lines: u32, ram: &'a [u8], font: &'a [u8]) -> Host {
-    let mut now = host;
-    let mut left = lines;
-    while left > 0 {
-        now = drawn(now, 768, 170, ram, font);
-        left -= 1;
+fn part_of(list: List, order: u8, i: u8) -> Part {
+    if i == 2 {
+        return Part {
+            from: list.to,
+            to: list.end,
+            which: Which::All,
+        };
+    }
+    Part {
+        from: list.from,
+        to: list.to,
+        which: which_of(order, i),
+    }
+}
+
+// Its own order: none, then all. The other: draws and questions, then bus events.
+fn which_of(order: u8, i: u8) -> Which {
+    if order == 0 {
+        if i == 0 {
+            return Which::None;
+        }
+        return Which::All;
+    }
+    if i == 0 {
+        return Which::DrawsAndQuestions;
+    }
+    Which::Events
+}
+
+fn pass(
+    device: Device,
+    part: Part,
+    script: &[u8],
+    ram: &mut [u8],
+    font: &mut [u8],
+    kept: &mut [u64; 5],
+) -> Device {
+    let which = part.which;
+    let mut now = device;
+    let mut i = part.from;
+    while i < part.to {
+        let step = test_script::step_at(script, i);
+        i += 1;
+        now = turn(now, wanted(step, which), ram, font, kept);
     }
     now
 }
 
-fn asked(host: Host, cell: u32, ram: &[u8]) -> Host {
-    let device = host.device;
-    let answer = device.ask(ram, cell);
-    let refusal = answer.refusal();
-    let value = answer.value();
-    let sums = host.sums;
-    Host {
-        device: device,
-        sums: Sums {
-            draws: sums.draws,
-            asks: mix(mix(sums.asks, refusal), value),
-            events: sums.events,
-        },
-        refusal: refusal,
-        value: value as u16,
+// The step, or one that does nothing.
+fn wanted(step: Step, which: Which) -> Step {
+    if plays(which, step.kind) {
+        return step;
+    }
+    Step {
+        kind: 255,
+        a: 0,
+        b: 0,
+        c: 0,
     }
 }
 
-// The question about cell 1,020 + more, with a RAM of n zeros.
-fn asked_with(host: Host, n: u32, more: u8) -> Host {
-    let other = [0u8; 1025];
-    asked_part(host, n as usize, more, &other)
-}
-
-fn asked_part(host: Host, n: usize, more: u8, other: &[u8]) -> Host {
-    if n <= other.len() {
-        return asked(host, 1020 + more as u32, &other[..n]);
-    }
-    host
-}
-
-impl Host {
-    fn fresh() -> Host {
-        Host {
-            device: Device::fresh(),
-            sums: Sums::none(),
-            refusal: 0,
-            value: 0,
-        }
-    }
-
-    fn cleared(self) -> Host {
-        let device = self.device;
-        Host {
-            device: device,
-            sums: Sums::none(),
-            refusal: self.refusal,
-            value: self.value,
-        }
-    }
-
-    fn with(self, device: Device, refusal: u8) -> Host {
-        let sums = self.sums;
-        Host {
-            device: device,
-            sums: sums,
-            refusal: refusal,
-            value: 0,
-        }
-    }
-
-    fn reset(self) -> Host {
-        let device = self.device;
-        self.with(device.reset(), 0)
-    }
-
-    fn started(self, lines: u32) -> Host {
-        let device = self.device;
-        let done = device.start_frame(lines);
-        let answer = done.answer;
-        let next = done.device;
-        self.with(next, answer.refusal())
-    }
-
-    // Digests: draws, questions, events, the RAM, the registers.
-    fn report(self, ram: &[u8]) {
-        let sums = self.sums;
-        let device = self.device;
-        let registers = device.registers;
-        hex(sums.draws, b' ');
-        hex(sums.asks, b' ');
-        hex(sums.events, b' ');
-        hex(mix_all(1, ram), b' ');
-        hex(mix_registers(registers), b'\n');
-    }
-}
-
-impl Sums {
-    fn none() -> Sums {
-        Sums {
-            draws: 1,
-            asks: 1,
-            events: 1,
-        }
-    }
-}
-
-fn mix(sum: u64, byte: u8) -> u64 {
-    (sum % 4294967291 * 65599 + byte as u64 + 1) % 4294967291
-}
-
-fn mix_all(sum: u64, bytes: &[u8]) -> u64 {
-    let mut now = sum;
-    let mut i = 0;
-    while i < bytes.len() {
-        now = mix(now, bytes[i]);
-        i += 1;
-    }
-    now
-}
-
-fn mix_registers(registers: Registers) -> u64 {
-    let mut now = 1;
-    let mut i = 0;
-    while i < 16 {
-        now = mix(now, registers.fetch(i));
-        i += 1;
-    }
-    now
-}
-
-fn noise(bytes: &mut [u8], seed: u64) {
-    let mut now = seed;
-    let mut i = 0;
-    while i < bytes.len() {
-        now = (now % 4294967296 * 1664525 + 1013904223) % 4294967296;
-        bytes[i] = (now / 16777216 % 256) as u8;
-        i += 1;
+fn plays(which: Which, kind: u8) -> bool {
+    match which {
+        Which::All => true,
+        Which::DrawsAndQuestions => kind >= 4,
+        Which::Events => kind < 4,
+        Which::None => false,
     }
 }
 
@@ -456,20 +248,204 @@ fn byte_at(bytes: &[u8], i: usize) -> u8 {
     0
 }
 
-// The answers about cells 0 to 1,023: four lines of 64 digits, each digit four cells.
-fn bitmap(device: Device, ram: &[u8]) {
-    let mut row = 0;
-    while row < 4 {
-        bitmap_row(device, ram, 256 * row);
-        row += 1;
+// ---- steps 0 to 7 and 9
+
+fn turn(
+    device: Device,
+    step: Step,
+    ram: &mut [u8],
+    font: &mut [u8],
+    kept: &mut [u64; 5],
+) -> Device {
+    let mut now = device;
+    let mut left = calls_of(step);
+    while left > 0 {
+        now = call(now, step, ram, font, kept);
+        left -= 1;
+    }
+    now
+}
+
+fn calls_of(step: Step) -> u32 {
+    let kind = step.kind;
+    match kind {
+        0..=6 | 9 => 1,
+        7 => number(step),
+        _ => 0,
     }
 }
 
-fn bitmap_row(device: Device, ram: &[u8], first: u32) {
-    let mut text = [b'\n'; 65];
-    let mut i: u8 = 0;
-    while i < 64 {
-        text[i as usize] = digit(four(device, ram, first % 1024 + 4 * (i as u32)));
+fn call(
+    device: Device,
+    step: Step,
+    ram: &mut [u8],
+    font: &mut [u8],
+    kept: &mut [u64; 5],
+) -> Device {
+    if is_draw(step.kind) {
+        return draw(device, step, ram, font, kept);
+    }
+    let done = test_script::make(device, ram, call_of(step));
+    told(kept, step.kind, done.refusal, done.value);
+    done.device
+}
+
+fn is_draw(kind: u8) -> bool {
+    match kind {
+        5 | 7 => true,
+        _ => false,
+    }
+}
+
+fn call_of(step: Step) -> Call {
+    let kind = step.kind;
+    match kind {
+        4 => Call::Start(number(step)),
+        6 => Call::Ask(number(step)),
+        9 => Call::Reset,
+        _ => Call::Hear(Event::of_kind(kind, step.a)),
+    }
+}
+
+fn draw<'a>(device: Device, step: Step, ram: &'a [u8], font: &'a [u8], kept: &mut [u64; 5]) -> Device {
+    let mut line = [fill_of(step); 1024];
+    let room = test_script::first_mut(&mut line, room_of(step));
+    let done = test_script::draw(device, ram, font, room);
+    told_line(kept, done.refusal, done.value, room);
+    done.device
+}
+
+fn fill_of(step: Step) -> u8 {
+    if step.kind == 5 { step.c } else { 170 }
+}
+
+fn room_of(step: Step) -> usize {
+    if step.kind == 5 {
+        return number(step) as usize;
+    }
+    768
+}
+
+// ---- steps 8 and 10 to 15
+
+fn set_up(step: Step, ram: &mut [u8], font: &mut [u8]) {
+    let kind = step.kind;
+    match kind {
+        10 => {
+            noise(ram, step);
+        }
+        11 => {
+            noise(font, step);
+        }
+        12 => {
+            store(ram, step);
+        }
+        _ => {}
+    }
+}
+
+fn show(device: Device, step: Step, ram: &[u8], kept: &mut [u64; 5]) {
+    let kind = step.kind;
+    match kind {
+        8 => {
+            let zeros = [0u8; 1025];
+            ask(device, 1020 + step.c as u32, test_script::first(&zeros, number(step) as usize), kept);
+        }
+        13 => {
+            say(kept);
+        }
+        14 => {
+            bitmap(device, ram);
+        }
+        15 => {
+            report(device.registers, ram, kept);
+        }
+        _ => {}
+    }
+}
+
+fn ask(device: Device, cell: u32, ram: &[u8], kept: &mut [u64; 5]) {
+    let answer = device.ask(ram, cell);
+    told(kept, 6, answer.refusal(), answer.value() as u16);
+}
+
+fn noise(bytes: &mut [u8], step: Step) {
+    test_script::noise(bytes, number(step) as u64, NOISE, 16777216);
+}
+
+fn store(ram: &mut [u8], step: Step) {
+    let n = number(step) as usize;
+    if n < ram.len() {
+        ram[n] = step.c;
+    }
+}
+
+// ---- what is kept and printed
+
+fn mix(sum: u64, value: u16) -> u64 {
+    test_script::mix(sum, value, DIGEST)
+}
+
+fn mix_registers(registers: Registers) -> u64 {
+    let mut now = 1;
+    let mut i = 0;
+    while i < 16 {
+        now = mix(now, registers.fetch(i) as u16);
+        i += 1;
+    }
+    now
+}
+
+fn clear(kept: &mut [u64; 5]) {
+    kept[DRAWS] = 1;
+    kept[ASKS] = 1;
+    kept[EVENTS] = 1;
+}
+
+// An answer to a bus event, a question or another call.
+fn told(kept: &mut [u64; 5], kind: u8, refusal: u8, value: u16) {
+    if kind < 4 {
+        kept[EVENTS] = mix(mix(kept[EVENTS], refusal as u16), value);
+    }
+    if kind == 6 {
+        kept[ASKS] = mix(mix(kept[ASKS], refusal as u16), value);
+    }
+    answered(kept, refusal, value);
+}
+
+fn answered(kept: &mut [u64; 5], refusal: u8, value: u16) {
+    kept[REFUSAL] = refusal as u64;
+    kept[VALUE] = value as u64;
+}
+
+fn told_line(kept: &mut [u64; 5], refusal: u8, cells: u16, line: &[u8]) {
+    let head = mix(mix(mix(kept[DRAWS], refusal as u16), cells / 256), cells % 256);
+    kept[DRAWS] = test_script::mix_all(head, line, DIGEST);
+    answered(kept, refusal, cells);
+}
+
+// The refusal's number, and the byte, the read count or the question's answer.
+fn say(kept: &mut [u64; 5]) {
+    test_script::print_hex(kept[REFUSAL], 1, b' ');
+    test_script::print_hex(kept[VALUE], 3, b'\n');
+}
+
+// Digests: draws, questions, events, the RAM, the registers.
+fn report(registers: Registers, ram: &[u8], kept: &mut [u64; 5]) {
+    test_script::print_hex(kept[DRAWS], 8, b' ');
+    test_script::print_hex(kept[ASKS], 8, b' ');
+    test_script::print_hex(kept[EVENTS], 8, b' ');
+    test_script::print_hex(test_script::mix_all(1, ram, DIGEST), 8, b' ');
+    test_script::print_hex(mix_registers(registers), 8, b'\n');
+    clear(kept);
+}
+
+// The answers about cells 0 to 1,023: four lines of 64 digits, each digit four cells.
+fn bitmap(device: Device, ram: &[u8]) {
+    let mut text = [b'\n'; 260];
+    let mut i = 0;
+    while i < 256 {
+        text[i + i / 64] = test_script::digit(four(device, ram, 4 * i as u32));
         i += 1;
     }
     io::write_all(1, &text);
@@ -486,37 +462,4 @@ fn one(device: Device, ram: &[u8], cell: u32) -> u8
 {
     let answer = device.ask(ram, cell);
     answer.value() % 2
-}
-
-// A number's eight lowest digits, and the byte behind them.
-fn hex(number: u64, behind: u8) {
-    let mut text = [behind; 9];
-    let mut left: u8 = 8;
-    let mut rest = number;
-    while left > 0 {
-        left -= 1;
-        text[left as usize] = digit((rest % 16) as u8);
-        rest = rest / 16;
-    }
-    io::write_all(1, &text);
-}
-
-// The refusal's number, and the byte, the read count or the question's answer.
-fn say(refusal: u8, value: u16) {
-    let text = [
-        digit(refusal % 16),
-        b' ',
-        digit((value / 256 % 16) as u8),
-        digit((value / 16 % 16) as u8),
-        digit((value % 16) as u8),
-        b'\n',
-    ];
-    io::write_all(1, &text);
-}
-
-fn digit(n: u8) -> u8 {
-    if n < 10 {
-        return 48 + n % 10;
-    }
-    55 + n % 16
 }

@@ -1,9 +1,9 @@
--- `fill` stays within the bytes, and keeps their number.
+-- `fill` keeps the length of the bytes.
 -- Assumes nothing.
 use Prim.Native.Nat.{_-_}
 use mathlib.Core.Path.{_≡_}
-use borrow.Author.Needs.{needs}
 use lib.ListN.{length}
+use borrow.Author.Needs.{needs}
 use Rattle.test_frames.proofs.fill.Statement.{statement}
 use Rattle.test_frames.proofs.fill.Tie as tie
 

@@ -1,17 +1,17 @@
--- `run` stays within the script; the lent buffers keep their lengths.
+-- `run` ends, and the RAM and the font keep their lengths.
 -- Assumes nothing.
 use Prim.Native.Nat.{_-_, _/_}
 use mathlib.Core.Path.{_≡_}
-use borrow.Author.Needs.{needs}
 use lib.ListN.{length}
+use borrow.Author.Needs.{needs}
 use Rattle.test_frames.proofs.run.Statement.{statement}
 use Rattle.test_frames.proofs.run.Tie as tie
 
 abbrev Inv-loop : tie.InvT-loop
-Inv-loop script ram₀ font₀ line₀ spare host₀ i₀ ram font line host i = (length ram ≡ length ram₀) × (length font ≡ length font₀) × (length line ≡ length line₀)
+Inv-loop script ram₀ font₀ device₀ kept₀ i₀ ram font device kept i = (length ram ≡ length ram₀) × (length font ≡ length font₀)
 
 abbrev μ-loop : tie.MeasureT-loop
-μ-loop script ram₀ font₀ line₀ spare host₀ i₀ ram font line host i = length script / 4 - i
+μ-loop script ram₀ font₀ device₀ kept₀ i₀ ram font device kept i = length script / 4 - i
 
 fresh-requires : tie.Need-fresh-requires Inv-loop μ-loop
 fresh-requires c κs = search needs
@@ -19,14 +19,14 @@ fresh-requires c κs = search needs
 loop-holds : tie.Need-loop-holds Inv-loop μ-loop
 loop-holds c = search needs
 
-mul-step-at : tie.Need-mul-step-at Inv-loop μ-loop
-mul-step-at c = search needs
-
 step-at-requires : tie.Need-step-at-requires Inv-loop μ-loop
 step-at-requires c κs = search needs
 
 add-i : tie.Need-add-i Inv-loop μ-loop
 add-i c = search needs
+
+set-up-requires : tie.Need-set-up-requires Inv-loop μ-loop
+set-up-requires c κs = search needs
 
 turn-requires : tie.Need-turn-requires Inv-loop μ-loop
 turn-requires c κs = search needs
@@ -43,9 +43,6 @@ same-length c = search needs
 same-length-2 : tie.Need-same-length-2 Inv-loop μ-loop
 same-length-2 c = search needs
 
-same-length-3 : tie.Need-same-length-3 Inv-loop μ-loop
-same-length-3 c = search needs
-
 returns : tie.Need-returns Inv-loop μ-loop
 returns c = search needs
 
@@ -57,13 +54,12 @@ run-spec =
     μ-loop
     fresh-requires
     loop-holds
-    mul-step-at
     step-at-requires
     add-i
+    set-up-requires
     turn-requires
     loop-less
     loop-again
     same-length
     same-length-2
-    same-length-3
     returns)

@@ -1,9 +1,9 @@
--- `spell` stays within the line, and keeps its length.
+-- `spell` keeps the length of the line.
 -- Assumes nothing.
 use Prim.Native.Nat.{_-_}
 use mathlib.Core.Path.{_≡_}
-use borrow.Author.Needs.{needs}
 use lib.ListN.{length}
+use borrow.Author.Needs.{needs}
 use Rattle.test_frames.proofs.spell.Statement.{statement}
 use Rattle.test_frames.proofs.spell.Tie as tie
 

@@ -1,33 +1,53 @@
--- `bitmap` prints four rows.
+-- `bitmap` writes its digits within the text.
 -- Assumes nothing.
 use Prim.Native.Nat.{_-_, _≤_}
+use mathlib.Core.Path.{_≡_}
+use lib.ListN.{length}
 use borrow.Author.Needs.{needs}
 use Rattle.test_pages.proofs.bitmap.Statement.{statement}
 use Rattle.test_pages.proofs.bitmap.Tie as tie
 
 abbrev Inv-loop : tie.InvT-loop
-Inv-loop device ram row₀ row = row ≤ 4
+Inv-loop device ram text₀ i₀ text i = (i ≤ 256) × (length text ≡ 260)
 
 abbrev μ-loop : tie.MeasureT-loop
-μ-loop device ram row₀ row = 4 - row
+μ-loop device ram text₀ i₀ text i = 256 - i
 
 loop-holds : tie.Need-loop-holds Inv-loop μ-loop
 loop-holds c = search needs
 
-mul-bitmap-row : tie.Need-mul-bitmap-row Inv-loop μ-loop
-mul-bitmap-row c = search needs
+cast-four : tie.Need-cast-four Inv-loop μ-loop
+cast-four c = search needs
 
-bitmap-row-requires : tie.Need-bitmap-row-requires Inv-loop μ-loop
-bitmap-row-requires c κs = search needs
+mul-four : tie.Need-mul-four Inv-loop μ-loop
+mul-four c = search needs
 
-add-row : tie.Need-add-row Inv-loop μ-loop
-add-row c = search needs
+four-requires : tie.Need-four-requires Inv-loop μ-loop
+four-requires c κs = search needs
+
+digit-requires : tie.Need-digit-requires Inv-loop μ-loop
+digit-requires c κs = search needs
+
+add-text : tie.Need-add-text Inv-loop μ-loop
+add-text c = search needs
+
+array-write-text : tie.Need-array-write-text Inv-loop μ-loop
+array-write-text c = search needs
+
+add-i : tie.Need-add-i Inv-loop μ-loop
+add-i c = search needs
 
 loop-less : tie.Need-loop-less Inv-loop μ-loop
 loop-less c = search needs
 
 loop-again : tie.Need-loop-again Inv-loop μ-loop
 loop-again c = search needs
+
+slice-aggregate-write-all : tie.Need-slice-aggregate-write-all Inv-loop μ-loop
+slice-aggregate-write-all c = search needs
+
+write-all-requires : tie.Need-write-all-requires Inv-loop μ-loop
+write-all-requires c κs = search needs
 
 returns : tie.Need-returns Inv-loop μ-loop
 returns c = search needs
@@ -39,9 +59,15 @@ bitmap-spec =
     Inv-loop
     μ-loop
     loop-holds
-    mul-bitmap-row
-    bitmap-row-requires
-    add-row
+    cast-four
+    mul-four
+    four-requires
+    digit-requires
+    add-text
+    array-write-text
+    add-i
     loop-less
     loop-again
+    slice-aggregate-write-all
+    write-all-requires
     returns)

@@ -17,6 +17,9 @@ loop-holds c = search needs
 fetch-requires : tie.Need-fetch-requires Inv-loop μ-loop
 fetch-requires c κs = search needs
 
+cast-mix : tie.Need-cast-mix Inv-loop μ-loop
+cast-mix c = search needs
+
 mix-requires : tie.Need-mix-requires Inv-loop μ-loop
 mix-requires c κs = search needs
 
@@ -40,6 +43,7 @@ mix-registers-spec =
     μ-loop
     loop-holds
     fetch-requires
+    cast-mix
     mix-requires
     add-i
     loop-less

@@ -8,10 +8,10 @@ use Rattle.test_pages.proofs.pass.Statement.{statement}
 use Rattle.test_pages.proofs.pass.Tie as tie
 
 abbrev Inv-loop : tie.InvT-loop
-Inv-loop script from to which ram₀ font₀ now₀ i₀ ram font now i = (length ram ≡ length ram₀) × (length font ≡ length font₀)
+Inv-loop part script ram₀ font₀ kept₀ which now₀ i₀ ram font kept now i = (length ram ≡ length ram₀) × (length font ≡ length font₀)
 
 abbrev μ-loop : tie.MeasureT-loop
-μ-loop script from to which ram₀ font₀ now₀ i₀ ram font now i = to - i
+μ-loop part script ram₀ font₀ kept₀ which now₀ i₀ ram font kept now i = part .to - i
 
 loop-holds : tie.Need-loop-holds Inv-loop μ-loop
 loop-holds c = search needs
@@ -19,11 +19,14 @@ loop-holds c = search needs
 step-at-requires : tie.Need-step-at-requires Inv-loop μ-loop
 step-at-requires c κs = search needs
 
-turn-if-requires : tie.Need-turn-if-requires Inv-loop μ-loop
-turn-if-requires c κs = search needs
-
 add-i : tie.Need-add-i Inv-loop μ-loop
 add-i c = search needs
+
+wanted-requires : tie.Need-wanted-requires Inv-loop μ-loop
+wanted-requires c κs = search needs
+
+turn-requires : tie.Need-turn-requires Inv-loop μ-loop
+turn-requires c κs = search needs
 
 loop-less : tie.Need-loop-less Inv-loop μ-loop
 loop-less c = search needs
@@ -48,8 +51,9 @@ pass-spec =
     μ-loop
     loop-holds
     step-at-requires
-    turn-if-requires
     add-i
+    wanted-requires
+    turn-requires
     loop-less
     loop-again
     same-length

@@ -1,0 +1,75 @@
+-- `hex_digits`: the digits that are left and what is written from i on are all the digits.
+-- Assumes nothing.
+use Prim.Native.Nat.{ℕ, _≤_}
+use mathlib.Core.Path.{_≡_, refl, ap, _∙_}
+use mathlib.Core.List.{List, _++_, append-nil}
+use native.Mathlib.Omega.{arith}
+use denote.Ref.{now}
+use lib.ListN.{length, drop, length-set}
+use lib.Seq.{drop-length}
+use Rattle.test_script.specs.Script.{digitsOf}
+use Rattle.test_script.proofs.Laws.{digits-more, digits-whole}
+use borrow.Author.Needs.{needs}
+use Rattle.test_script.proofs.hex_digits.Statement.{statement}
+use Rattle.test_script.proofs.hex_digits.Tie as tie
+use Rattle.test_script.proofs.hex_digits.Reads as reads
+use Rattle.test_script.proofs.hex_digits.Lts as lts
+use Rattle.test_script.proofs.digit.Reads as digit-reads
+
+abbrev Inv-loop : tie.InvT-loop
+Inv-loop number out₀ i₀ rest₀ out i rest =
+    (i ≤ length out₀) × (length out ≡ length out₀) × (digitsOf i rest ++ drop i out ≡ digitsOf (length out₀) number)
+
+abbrev μ-loop : tie.MeasureT-loop
+μ-loop number out₀ i₀ rest₀ out i rest = i
+
+loop-holds : tie.Need-loop-holds Inv-loop μ-loop
+loop-holds c =
+    let a = c .before .args in
+    let out = now (a .out) in
+    (search needs, search needs, ap (λ (l : List ℕ). digitsOf (length out) (a .number) ++ l) (drop-length out) ∙ append-nil _)
+
+sub-i : tie.Need-sub-i Inv-loop μ-loop
+sub-i c = search needs
+
+cast-digit : tie.Need-cast-digit Inv-loop μ-loop
+cast-digit c = search needs
+
+digit-requires : tie.Need-digit-requires Inv-loop μ-loop
+digit-requires c κs = search needs
+
+slice-write-out : tie.Need-slice-write-out Inv-loop μ-loop
+slice-write-out c = search needs
+
+loop-less : tie.Need-loop-less Inv-loop μ-loop
+loop-less c = search needs
+
+loop-again : tie.Need-loop-again Inv-loop μ-loop
+loop-again c =
+    let l = c .before .before .loop in (
+      search needs,
+      length-set (l .out) _ _ ∙ l .inv .1,
+      digits-more _ (l .out) (l .i) (l .rest) _ (omega arith) (omega arith) (c .digit .ensures) (l .inv .2),
+    )
+
+same-length : tie.Need-same-length Inv-loop μ-loop
+same-length c = search needs
+
+returns : tie.Need-returns Inv-loop μ-loop
+returns c = let l = c .before .loop in digits-whole _ _ (l .i) (l .rest) (omega arith) (l .inv .2)
+
+pub hex-digits-spec : {M : Type 1} → statement M
+hex-digits-spec =
+    tie.close
+    (tie.spec
+    Inv-loop
+    μ-loop
+    loop-holds
+    sub-i
+    cast-digit
+    digit-requires
+    slice-write-out
+    loop-less
+    loop-again
+    same-length
+    returns)

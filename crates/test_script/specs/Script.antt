@@ -1,0 +1,48 @@
+-- What the contracts of the test programs' library cite: steps of a script, numbers that look random, digests and digits.
+-- Assumes nothing.
+use Prim.Native.Nat.{ℕ, zero, suc, _+_, _-_, _*_, _/_, _%_}
+use mathlib.Core.Bool.{cond}
+use mathlib.Core.List.{List, [], _∷_, _++_}
+use lib.Dec.{eqb, ltb}
+use lib.ListN.{length, getD}
+use Rattle.test_script.specs.declared.Numbers.{Numbers}
+use Rattle.test_script.specs.declared.Step.{Step}
+
+-- step i of a script of four bytes a step; kind 255 where there is none
+abbrev pub stepAt : List ℕ → ℕ → Step
+stepAt script i =
+    cond (ltb i (length script / 4))
+    (record {
+      kind = getD script (4 * i) 0;
+      a = getD script (4 * i + 1) 0;
+      b = getD script (4 * i + 2) 0;
+      c = getD script (4 * i + 3) 0;
+    })
+    (record { kind = 255; a = 0; b = 0; c = 0 })
+
+-- how much of a buffer is lent, by a choice: all, nothing, one byte less, and else one byte more
+abbrev pub lengthOf : ℕ → ℕ → ℕ
+lengthOf own choice = cond (eqb choice 0) own (cond (eqb choice 1) 0 (cond (eqb choice 2) (own - 1) (own + 1)))
+
+-- the next number: times factor, plus a value and more, modulo last + 1
+unfoldable pub nextOf : ℕ → ℕ → Numbers → ℕ
+nextOf x value by = (x % (by .last + 1) * by .factor + (value + by .more)) % (by .last + 1)
+
+-- n bytes of noise, one of each number after the seed: the byte at a unit, which is 1, 256, 65,536 or 16,777,216
+unfoldable pub noiseOf : ℕ → ℕ → Numbers → ℕ → List ℕ
+noiseOf zero seed by unit = []
+noiseOf (suc n) seed by unit = nextOf seed 0 by / unit % 256 ∷ noiseOf n (nextOf seed 0 by) by unit
+
+-- a digest that takes in the bytes one after the other
+unfoldable pub mixed : ℕ → List ℕ → Numbers → ℕ
+mixed sum [] by = sum
+mixed sum (x ∷ xs) by = mixed (nextOf sum x by) xs by
+
+-- a capital hexadecimal digit: 0 is 48, A is 65
+abbrev pub digitOf : ℕ → ℕ
+digitOf n = cond (ltb (n % 16) 10) (48 + n % 16) (55 + n % 16)
+
+-- the last k hexadecimal digits of a number
+unfoldable pub digitsOf : ℕ → ℕ → List ℕ
+digitsOf zero n = []
+digitsOf (suc k) n = digitsOf k (n / 16) ++ (digitOf (n % 16) ∷ [])
