@@ -1,4 +1,5 @@
 pub mod Choice
 pub mod Lists
 pub mod Pairs
+pub mod Parts
 pub mod Tests

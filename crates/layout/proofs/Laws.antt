@@ -3,12 +3,12 @@
 use Prim.Native.Nat.{ℕ, _+_, _*_, _/_, _%_, _≤_, _<_}
 use mathlib.Core.Path.{_≡_, refl, sym, ap, ap₂, _∙_}
 use mathlib.Core.Bool.{Bool, true, false, cond}
-use mathlib.Core.List.{List, [], _∷_, _++_}
+use mathlib.Core.List.{List, _++_, append-assoc}
 use native.Mathlib.Omega.{arith}
 use borrow.Author.Tests.{eqb-true}
 use lib.Dec.{T, eqb}
 use lib.ListN.{length, take, drop, set, length-append, length-set}
-use lib.Seq.{length-take-le, take-at, drop-at, drop-drop, getD-set-same, getD-set-other, sets, length-sets}
+use lib.Seq.{length-take-le, take-at, drop-at, drop-drop, getD-set-same, getD-set-other, sets, sets-eq, length-sets}
 use Rattle.registers.specs.declared.Registers.{Registers}
 use Rattle.bus.specs.declared.State.{State}
 use Rattle.bus.specs.declared.State.the-variants.{Idle, Deaf, Slave, High, Low, Write, Read}
@@ -17,8 +17,13 @@ use Rattle.walk.specs.declared.Strip.{Strip}
 use Rattle.walk.specs.declared.Strip.the-variants.{Spacing, Characters}
 use Rattle.device.specs.declared.Frame.{Frame}
 use Rattle.device.specs.declared.Device.{Device}
-use Rattle.layout.specs.Layout.{busAt, busLength, registersAt, registersLength, nextAt, nextLength, frameAt, frameLength, recordLength, part, put, stateNumber, heldHigh, stateOf, busBytes, busIn, registersIn, nextBytes, nextIn, packed, stripIn, frameBytes, frameIn, deviceBytes, deviceIn, ReadBack}
-use Rattle.layout.proofs.Parts.{fit, part-put, sets-append, sets-all, set-part}
+use Rattle.layout.specs.Layout.{busAt, busLength, registersAt, registersLength, nextAt, nextLength, frameAt, frameLength, recordLength, part, put, stateNumber, heldHigh, stateOf, busBytes, busIn, registersIn, nextBytes, nextIn, packed, stripIn, frameBytes, frameIn, deviceBytes, deviceIn, PutInPlace, ReadBack}
+use Rattle.facts.proofs.Parts.{fit, part-put, sets-append, sets-all, set-part}
+
+-- ---- a part put in its place
+
+pub put-in-place : PutInPlace
+put-in-place at bytes xs h = sets-eq bytes xs at h ∙ append-assoc (take at xs) bytes (drop (at + length bytes) xs)
 
 -- ---- each part by itself
 
@@ -110,7 +115,7 @@ read-back d l =
     let r : List ℕ = d .registers .bytes in
     let rest : List ℕ = nextBytes (d .next) ++ frameBytes (d .frame) in
     let behind : drop registersLength (r ++ rest) ≡ rest = drop-at r rest registersLength l in
-    let frame : drop 17 (r ++ rest) ≡ frameBytes (d .frame) = sym (drop-drop 1 registersLength (r ++ rest)) ∙ ap (drop 1) behind in
+    let frame : drop (registersLength + nextLength) (r ++ rest) ≡ frameBytes (d .frame) = sym (drop-drop nextLength registersLength (r ++ rest)) ∙ ap (drop nextLength) behind in
     λ i. record {
       bus = bus-back (d .bus) i;
       registers = registersIn (take-at r rest registersLength l i);
@@ -120,39 +125,45 @@ read-back d l =
 
 -- ---- what a call writes
 
--- bus and registers
+-- a device with another part
+abbrev pub withBus : Bus → Device → Device
+withBus b d = record { bus = b; registers = d .registers; frame = d .frame; next = d .next }
+
+abbrev pub withRegisters : Registers → Device → Device
+withRegisters r d = record { bus = d .bus; registers = r; frame = d .frame; next = d .next }
+
+abbrev pub withFrame : Frame → Device → Device
+withFrame f d = record { bus = d .bus; registers = d .registers; frame = f; next = d .next }
+
+abbrev pub withNext : ℕ → Device → Device
+withNext n d = record { bus = d .bus; registers = d .registers; frame = d .frame; next = n }
+
+-- an event: bus and registers
 pub event-back : (b : Bus) (r : Registers) (xs : List ℕ) → length (r .bytes) ≡ registersLength → length xs ≡ recordLength
-    → deviceIn (put busAt (busBytes b) (put registersAt (r .bytes) xs))
-    ≡ record { bus = b; registers = r; frame = deviceIn xs .frame; next = deviceIn xs .next }
+    → deviceIn (put busAt (busBytes b) (put registersAt (r .bytes) xs)) ≡ withBus b (withRegisters r (deviceIn xs))
 event-back b r xs l h =
     put-part busAt busLength (busBytes b) (put registersAt (r .bytes) xs) refl (omega (arith, length-sets xs registersAt (r .bytes))) (tt, tt, tt, tt)
-    ∙ ap₂ (λ (c : Bus) (d : Device). record { bus = c; registers = d .registers; frame = d .frame; next = d .next }) (bus-back b)
-    (put-part registersAt registersLength (r .bytes) xs l (omega arith) (tt, tt, tt, tt))
+    ∙ ap₂ withBus (bus-back b) (put-part registersAt registersLength (r .bytes) xs l (omega arith) (tt, tt, tt, tt))
 
--- the frame
-pub draw-back : (f : Frame) (xs : List ℕ) → length xs ≡ recordLength
-    → deviceIn (put frameAt (frameBytes f) xs)
-    ≡ record { bus = deviceIn xs .bus; registers = deviceIn xs .registers; frame = f; next = deviceIn xs .next }
-draw-back f xs h =
-    put-part frameAt frameLength (frameBytes f) xs refl (omega arith) (tt, tt, tt, tt)
-    ∙ ap (λ (g : Frame). record { bus = deviceIn xs .bus; registers = deviceIn xs .registers; frame = g; next = deviceIn xs .next }) (frame-back f)
-
--- the frame and the next frame number
-pub start-back : (f : Frame) (n : ℕ) (xs : List ℕ) → length xs ≡ recordLength
-    → deviceIn (put frameAt (frameBytes f) (put nextAt (nextBytes n) xs))
-    ≡ record { bus = deviceIn xs .bus; registers = deviceIn xs .registers; frame = f; next = n }
-start-back f n xs h =
-    draw-back f (put nextAt (nextBytes n) xs) (length-sets xs nextAt (nextBytes n) ∙ h)
-    ∙ ap (λ (d : Device). record { bus = d .bus; registers = d .registers; frame = f; next = d .next })
-    (put-part nextAt nextLength (nextBytes n) xs refl (omega arith) (tt, tt, tt, tt))
-
--- the state alone: deaf
+-- one that turns the device deaf: the state alone
 pub deaf-back : (xs : List ℕ) → length xs ≡ recordLength
-    → deviceIn (set xs busAt 1)
-    ≡ record { bus = record { state = Deaf; counter = deviceIn xs .bus .counter }; registers = deviceIn xs .registers; frame = deviceIn xs .frame; next = deviceIn xs .next }
+    → deviceIn (set xs busAt 1) ≡ withBus (record { state = Deaf; counter = deviceIn xs .bus .counter }) (deviceIn xs)
 deaf-back xs h =
     let p : List ℕ = part busAt busLength xs in
     let four : length p ≡ busLength = length-take-le busLength xs (omega arith) in
     ap deviceIn (set-part busAt busLength 0 xs 1 (omega arith))
     ∙ put-part busAt busLength (set p 0 1) xs (length-set p 0 1 ∙ four) (omega arith) (tt, tt, tt, tt)
     ∙ rw (getD-set-same p 0 1 0 (omega arith), getD-set-other p 0 2 1 0 (λ e. omega arith), getD-set-other p 0 3 1 0 (λ e. omega arith))
+
+-- a draw: the frame
+pub draw-back : (f : Frame) (xs : List ℕ) → length xs ≡ recordLength → deviceIn (put frameAt (frameBytes f) xs) ≡ withFrame f (deviceIn xs)
+draw-back f xs h =
+    put-part frameAt frameLength (frameBytes f) xs refl (omega arith) (tt, tt, tt, tt)
+    ∙ ap (λ (g : Frame). withFrame g (deviceIn xs)) (frame-back f)
+
+-- a frame start: the frame and the next frame number
+pub start-back : (f : Frame) (n : ℕ) (xs : List ℕ) → length xs ≡ recordLength
+    → deviceIn (put frameAt (frameBytes f) (put nextAt (nextBytes n) xs)) ≡ withFrame f (withNext n (deviceIn xs))
+start-back f n xs h =
+    draw-back f (put nextAt (nextBytes n) xs) (length-sets xs nextAt (nextBytes n) ∙ h)
+    ∙ ap (withFrame f) (put-part nextAt nextLength (nextBytes n) xs refl (omega arith) (tt, tt, tt, tt))

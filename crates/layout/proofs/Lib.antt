@@ -1,3 +1,2 @@
 pub mod Claims
 pub mod Laws
-pub mod Parts

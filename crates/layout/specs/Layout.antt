@@ -18,7 +18,7 @@
 -- Any 32 bytes are read as some record: another bus state is idle; byte 1 is read in state 4 only, of byte 26 only bits 0 to 2, and
 -- bytes 28 to 31 (like bits 1 and 2 of byte 26) for characters only.
 -- Assumes nothing.
-use Prim.Native.Nat.{ℕ, _+_, _*_, _/_, _%_}
+use Prim.Native.Nat.{ℕ, _+_, _*_, _/_, _%_, _≤_}
 use mathlib.Core.Path.{_≡_}
 use mathlib.Core.Bool.{cond}
 use mathlib.Core.List.{List, [], _∷_, _++_}
@@ -72,6 +72,12 @@ part at n xs = take n (drop at xs)
 -- the record with these bytes put at an offset, one after the other; all other bytes stay
 abbrev pub put : ℕ → List ℕ → List ℕ → List ℕ
 put at bytes xs = sets xs at bytes
+
+-- where they fit, that is: what stands before them, they, and what stands behind them
+abbrev pub PutInPlace : Type 0
+PutInPlace =
+    (at : ℕ) (bytes xs : List ℕ) → at + length bytes ≤ length xs
+    → put at bytes xs ≡ take at xs ++ (bytes ++ drop (at + length bytes) xs)
 
 -- Below, each part has its own bytes, and is read from its own bytes: no part's definitions know where it stands.
 

@@ -14,20 +14,20 @@ use registers::Registers;
 use walk::Strip;
 use walk::Walk;
 
-// Where each part begins, and where it ends.
+// Where each part begins, and its length.
 pub const BUS_AT: usize = 0;
 
-const BUS_END: usize = 4;
+const BUS_LENGTH: usize = 4;
 
 pub const REGISTERS_AT: usize = 4;
 
-const REGISTERS_END: usize = 20;
+const REGISTERS_LENGTH: usize = 16;
 
 const NEXT_AT: usize = 20;
 
 const FRAME_AT: usize = 21;
 
-const FRAME_END: usize = 32;
+const FRAME_LENGTH: usize = 11;
 
 // A strip as its bytes have it.
 pub struct Packed {
@@ -118,14 +118,14 @@ pub fn bus_of(device: &[u8]) -> Bus
     requires { ⌜ length (now device) ≡ recordLength ⌝ }
     ensures { λ r. ⌜ r ≡ deviceIn (now (device .entry)) .bus ⌝ }
 {
-    bus_in(&device[BUS_AT..BUS_END])
+    bus_in(&device[BUS_AT..BUS_AT + BUS_LENGTH])
 }
 
 pub fn counter_of(device: &[u8]) -> u16
     requires { ⌜ length (now device) ≡ recordLength ⌝ }
     ensures { λ r. ⌜ r ≡ deviceIn (now (device .entry)) .bus .counter ⌝ }
 {
-    word_at(&device[BUS_AT..BUS_END], 2)
+    word_at(&device[BUS_AT..BUS_AT + BUS_LENGTH], 2)
 }
 
 // The bus as numbers, put in its place.
@@ -153,7 +153,7 @@ fn registers_in(bytes: &[u8]) -> Registers
     requires { ⌜ length (now bytes) ≡ registersLength ⌝ }
     ensures { λ r. ⌜ r ≡ registersIn (now (bytes .entry)) ⌝ }
 {
-    let mut copy = [0; 16];
+    let mut copy = [0; REGISTERS_LENGTH];
     bytes::copy(bytes, &mut copy);
     Registers { bytes: copy }
 }
@@ -162,7 +162,7 @@ fn registers_of(device: &[u8]) -> Registers
     requires { ⌜ length (now device) ≡ recordLength ⌝ }
     ensures { λ r. ⌜ r ≡ deviceIn (now (device .entry)) .registers ⌝ }
 {
-    registers_in(&device[REGISTERS_AT..REGISTERS_END])
+    registers_in(&device[REGISTERS_AT..REGISTERS_AT + REGISTERS_LENGTH])
 }
 
 fn write_registers(device: &mut [u8], registers: Registers)
@@ -210,7 +210,7 @@ fn frame_of(device: &[u8]) -> Frame
     requires { ⌜ length (now device) ≡ recordLength ⌝ }
     ensures { λ r. ⌜ r ≡ deviceIn (now (device .entry)) .frame ⌝ }
 {
-    frame_in(&device[FRAME_AT..FRAME_END])
+    frame_in(&device[FRAME_AT..FRAME_AT + FRAME_LENGTH])
 }
 
 fn kind_of(zoom: bool, enabled: bool) -> u8
@@ -248,7 +248,7 @@ fn pack(strip: Strip) -> Packed
 }
 
 // With its strip as numbers.
-fn frame_bytes(frame: Frame, strip: Packed) -> [u8; 11]
+fn frame_bytes(frame: Frame, strip: Packed) -> [u8; FRAME_LENGTH]
     ensures { λ r. ⌜ r ≡ frameWith frame strip ⌝ }
 {
     let walk = frame.walk;

@@ -2,7 +2,7 @@
 -- Assumes nothing.
 use Prim.Native.Nat.{ℕ, _+_, _-_, _%_, _≤_, _<_}
 use mathlib.Core.Path.{_≡_, refl, sym, ap, ap₂, _∙_}
-use mathlib.Core.Bool.{Bool, true, false, not, cond, _&&_, true≢false}
+use mathlib.Core.Bool.{Bool, true, false, not, cond, _&&_, and-false, true≢false}
 use mathlib.Core.List.{List, [], _∷_}
 use native.Mathlib.Omega.{arith}
 use borrow.Author.Tests.{eq-eqb, ne-eqb, lt-ltb, le-ltb, eqb-true, ltb-false}
@@ -13,7 +13,7 @@ use lib.Seq.{set-getD}
 use Rattle.refusals.specs.declared.Refusal.{Refusal}
 use Rattle.refusals.specs.declared.Refusal.the-variants.{RamLength, NotAcknowledged}
 use Rattle.refusals.proofs.Laws.{not-zero}
-use Rattle.refusals.specs.Refusals.{numberOf, refused}
+use Rattle.refusals.specs.Refusals.{refused}
 use Rattle.registers.specs.Registers.{kept, stored}
 use Rattle.bus.specs.declared.State.{State}
 use Rattle.bus.specs.declared.State.the-variants.{Idle, Deaf, Slave, High, Low, Write, Read}
@@ -30,10 +30,10 @@ use Rattle.device.specs.declared.StartAnswer.the-variants as start
 use Rattle.device.specs.declared.DrawAnswer.the-variants as draw
 use Rattle.device.specs.Device.{freshDevice, hearEvent, startOutcome, startFrame, drawOutcome, drawLine, askCell}
 use Rattle.layout.specs.Layout.{busAt, busLength, registersAt, registersLength, nextAt, frameAt, recordLength, part, put, stateNumber, busBytes, nextBytes, frameBytes, deviceBytes, deviceIn}
-use Rattle.layout.proofs.Parts.{getD-part, sets-comm, sets-part, set-part}
+use Rattle.facts.proofs.Parts.{getD-part, sets-comm, sets-part, set-part}
 use Rattle.layout.proofs.Laws.{numbered, put-part}
 use Rattle.osd.specs.Interface as osd
-use Rattle.osd.specs.Interface.{answerOf, notTaken, InSpace, freshOn, ignoredOn, heardOn, stepOn, eventOn, busOn, storedOn, startedOn, startOn, drawnOn, drawOn, cellOn}
+use Rattle.osd.specs.Interface.{answerOf, notTaken, isRecord, InSpace, freshOn, ignoredOn, heardOn, stepOn, eventOn, busOn, storedOn, startedOn, startOn, drawnOn, drawOn, cellOn}
 
 -- what holds of a call that the interface's own tests let through, and of one that they do not, holds of the call
 pub if-taken : {A : Type 0} (P : A → Type 0) (t : Bool) (x y : A) → (t ≡ true → P x) → P y → P (cond t x y)
@@ -284,10 +284,10 @@ pub bus-not-record : (xs ram : List ℕ) (kind byte : ℕ) → (length xs ≡ re
 unfolding busOn
 bus-not-record xs ram kind byte h = rw (ne-eqb _ _ h)
 
-pub bus-not-kind : (xs ram : List ℕ) (kind byte : ℕ) → length xs ≡ recordLength → 3 < kind
+pub bus-not-kind : (xs ram : List ℕ) (kind byte : ℕ) → 3 < kind
     → _≡_ {A = osd.BusDone} (record { device = xs; ram = ram; answer = notTaken }) (busOn xs ram kind byte)
 unfolding busOn
-bus-not-kind xs ram kind byte h k = rw (eq-eqb _ _ h, lt-ltb _ _ k)
+bus-not-kind xs ram kind byte k = rw (lt-ltb _ _ k, and-false (isRecord xs))
 
 module _ (xs ram : List ℕ) (kind byte : ℕ) (h : length xs ≡ recordLength) (k : kind ≤ 3) where
   pub bus-is : heardOn xs (busEvent (deviceIn xs .bus) (deviceIn xs .registers) ram (eventOf kind byte)) ≡ busOn xs ram kind byte

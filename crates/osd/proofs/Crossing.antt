@@ -1,11 +1,11 @@
 -- What the bytes hold after a call is read as the record that the device's function leaves.
 -- Assumes nothing.
-use Prim.Native.Nat.{ℕ, _+_, _-_, _≤_, _<_}
+use Prim.Native.Nat.{ℕ, _-_, _≤_}
 use mathlib.Core.Path.{_≡_, refl, sym, ap, _∙_}
 use mathlib.Core.Bool.{Bool, true, false, not, cond, _&&_, _||_}
 use mathlib.Core.List.{List}
 use native.Mathlib.Omega.{arith}
-use borrow.Author.Tests.{eq-eqb, ne-eqb, lt-ltb, le-ltb, eqb-true, ltb-false, not-false}
+use borrow.Author.Tests.{eq-eqb, ne-eqb, le-ltb, eqb-true, not-false}
 use lib.Dec.{T, eqb, ltb}
 use lib.ListN.{length, set, length-append, length-set, length-take, length-drop}
 use lib.Seq.{length-sets}
@@ -32,9 +32,9 @@ use Rattle.device.specs.declared.Device.{Device}
 use Rattle.device.specs.Device.{freshDevice, EventOutcome, hearEvent, StartOutcome, inFrame, startFrame, DrawOutcome, notDrawn, nextScan, pixelsOf, lineOn, lineWidth, lineDrawn, drawLine, askCell}
 use Rattle.device.proofs.OnePage.{by-draw}
 use Rattle.layout.specs.Layout.{busAt, registersAt, registersLength, nextAt, frameAt, recordLength, part, put, stateNumber, busBytes, nextBytes, frameBytes, deviceIn}
-use Rattle.layout.proofs.Laws.{read-back, event-back, start-back, draw-back, deaf-back}
-use Rattle.osd.specs.Interface.{answerOf, notTaken, isRecord, Done, freshOn, BusDone, ignoredOn, heardOn, touched, busOn, startedOn, startOn, DrawDone, drawnOn, drawOn, cellOn, Crossing}
-use Rattle.osd.proofs.Calls.{if-taken, both-tests, ignored-same, fresh-not, bus-not-record, start-not, draw-not, cell-not}
+use Rattle.layout.proofs.Laws.{withBus, withRegisters, read-back, event-back, deaf-back, draw-back, start-back}
+use Rattle.osd.specs.Interface.{answerOf, notTaken, isRecord, Done, freshOn, BusDone, ignoredOn, heardOn, busOn, startedOn, startOn, DrawDone, drawnOn, drawOn, cellOn, Crossing}
+use Rattle.osd.proofs.Calls.{if-taken, ignored-same, fresh-not, bus-is, bus-not-record, bus-not-kind, start-not, draw-not, cell-not}
 
 -- ---- an event that is not acknowledged
 
@@ -101,7 +101,7 @@ byte-kind kind byte = by (eqb kind 0) (eqb kind 1) (eqb kind 2) refl
 
 -- what an event leaves, read back: the bus and the registers are new, the rest stays
 abbrev After : List ℕ → Bus → Registers → Device
-After xs b r = record { bus = b; registers = r; frame = deviceIn xs .frame; next = deviceIn xs .next }
+After xs b r = withBus b (withRegisters r (deviceIn xs))
 
 sixteen : (xs : List ℕ) → length xs ≡ recordLength → length (deviceIn xs .registers .bytes) ≡ registersLength
 sixteen xs h = simp (length-take, length-drop) (omega arith)
@@ -125,10 +125,8 @@ heard-sixteen xs ram e h =
 
 ignored-back : (xs : List ℕ) (e : Event) (next : Bus) → length xs ≡ recordLength → Ignored (deviceIn xs .bus) e next
     → deviceIn (ignoredOn (next .state) xs) ≡ After xs next (deviceIn xs .registers)
-ignored-back xs e next h (stays p) =
-    ap (λ (b : Bus). deviceIn (ignoredOn (b .state) xs)) p ∙ ap deviceIn (ignored-same xs) ∙ ap (λ (b : Bus). After xs b (deviceIn xs .registers)) (sym p)
-ignored-back xs e next h (deafens t q p) =
-    ap (λ (b : Bus). deviceIn (ignoredOn (b .state) xs)) p ∙ deaf-back xs h ∙ ap (λ (b : Bus). After xs b (deviceIn xs .registers)) (sym p)
+ignored-back xs e next h (stays p) = rw p (ap deviceIn (ignored-same xs))
+ignored-back xs e next h (deafens t q p) = rw p (deaf-back xs h)
 
 -- by what the step asks of the cells
 heard-back : (xs ram : List ℕ) (next : Bus) (f : Effect) → length xs ≡ recordLength
@@ -142,18 +140,14 @@ heard-back xs ram next (Load a) h i = event-back next (deviceIn xs .registers) x
 
 cross-bus : (xs ram : List ℕ) (kind byte : ℕ) → length xs ≡ recordLength → kind ≤ 3
     → deviceIn (busOn xs ram kind byte .device) ≡ hearEvent (deviceIn xs) ram (eventOf kind byte) .device
-unfolding busOn heardOn hearEvent busEvent taken
-cross-bus xs ram kind byte h k = rw (eq-eqb _ _ h, le-ltb _ _ k) (by (not (eqb (length ram) 1024)))
-  where
-    s : Step
-    s = step (deviceIn xs .bus) (eventOf kind byte)
-
-    r : BusOutcome
-    r = record { bus = deviceIn xs .bus; registers = deviceIn xs .registers; ram = ram; reply = refused RamLength }
-
-    by : (t : Bool) → let o : BusOutcome = cond t r (taken s (deviceIn xs .registers) ram) in deviceIn (heardOn xs o .device) ≡ After xs (o .bus) (o .registers)
-    by true = ap deviceIn (ignored-same xs)
-    by false = heard-back xs ram (s .bus) (s .effect) h (λ t. ignored-back xs (eventOf kind byte) (s .bus) h (how (deviceIn xs .bus) (eventOf kind byte) t))
+unfolding heardOn hearEvent taken
+cross-bus xs ram kind byte h k =
+    let e : Event = eventOf kind byte in
+    let s : Step = step (deviceIn xs .bus) e in
+    ap (λ (r : BusDone). deviceIn (r .device)) (sym (bus-is xs ram kind byte h k))
+    ∙ by-event (λ (o : BusOutcome). deviceIn (heardOn xs o .device) ≡ After xs (o .bus) (o .registers)) (deviceIn xs .bus) (deviceIn xs .registers) ram e
+    (ap deviceIn (ignored-same xs))
+    (heard-back xs ram (s .bus) (s .effect) h (λ t. ignored-back xs e (s .bus) h (how (deviceIn xs .bus) e t)))
 
 -- ---- the record after a frame start and a draw
 
@@ -221,7 +215,7 @@ silent-by xs ram next (Load a) i n = absurd (n refl)
 
 ignored-silent : (xs : List ℕ) (e : Event) (next : Bus) → (T (isByte e) → deviceIn xs .bus .state ≡ Slave → ⊥) → Ignored (deviceIn xs .bus) e next
     → ignoredOn (next .state) xs ≡ xs
-ignored-silent xs e next u (stays p) = ap (λ (b : Bus). ignoredOn (b .state) xs) p ∙ ignored-same xs
+ignored-silent xs e next u (stays p) = rw p (ignored-same xs)
 ignored-silent xs e next u (deafens t q p) = absurd (u t q)
 
 silence : (xs ram : List ℕ) (kind byte : ℕ) → (kind ≡ 1 → deviceIn xs .bus .state ≡ Slave → length ram ≡ 1024 → ⊥)
@@ -324,17 +318,6 @@ cell-rest : (xs ram : List ℕ) (c : ℕ) → length xs ≡ recordLength → cel
 unfolding cellOn
 cell-rest xs ram c h = rw (eq-eqb _ _ h)
 
-no-kind : (xs ram : List ℕ) (kind byte : ℕ) → 3 < kind → busOn xs ram kind byte ≡ record { device = xs; ram = ram; answer = notTaken }
-unfolding busOn
-no-kind xs ram kind byte k = rw (lt-ltb _ _ k) (by (eqb (length xs) recordLength))
-  where
-    o : BusDone
-    o = record { device = xs; ram = ram; answer = notTaken }
-
-    by : (t : Bool) → cond (t && false) (heardOn xs (touched (hearEvent (deviceIn xs) ram (eventOf kind byte)))) o ≡ o
-    by true = refl
-    by false = refl
-
 fresh-read : (xs : List ℕ) → length xs ≡ recordLength → (deviceIn (freshOn xs .device) ≡ freshDevice) × (freshOn xs .answer ≡ 0)
 unfolding freshOn freshDevice
 fresh-read xs h = rw (eq-eqb _ _ h) (read-back freshDevice refl, refl)
@@ -354,7 +337,7 @@ crossing =
         sym (draw-not xs ram font line h),
         sym (cell-not xs ram c h),
       );
-      no-kind = no-kind;
+      no-kind = λ xs ram kind byte k. sym (bus-not-kind xs ram kind byte k);
       length-fresh = fresh-length;
       length-bus = bus-length;
       length-start = start-length;

@@ -63,16 +63,12 @@ pub extern "C" fn osd_fresh(device: &mut [u8]) -> u32
     0
 }
 
-// RAM is not touched: none is lent.
+// A reset leaves a fresh device. RAM is not touched: none is lent.
 #[no_mangle]
 pub extern "C" fn osd_reset(device: &mut [u8]) -> u32
     ensures { λ r. ⌜ record { device = now (device .exit); answer = r } ≡ freshOn (now (device .entry)) ⌝ }
 {
-    if device.len() != DEVICE_LENGTH {
-        return NOT_TAKEN;
-    }
-    layout::write_device(device, layout::device_in(device).reset());
-    0
+    osd_fresh(device)
 }
 
 // A byte to an address: a RAM cell, a register in its place, or nothing.

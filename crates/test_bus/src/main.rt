@@ -21,7 +21,12 @@ fn run(script: &[u8], ram: &mut [u8]) {
         let kind = script[2 * i];
         let byte = script[2 * i + 1];
         lent = lent_from(lent, kind, byte);
-        device = heard(device, test_script::first_mut(ram, lent as usize), kind, byte);
+        device = heard(
+            device,
+            test_script::first_mut(ram, lent as usize),
+            kind,
+            byte,
+        );
         i += 1;
     }
 }

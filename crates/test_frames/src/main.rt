@@ -181,7 +181,11 @@ fn told(refusal: u8, cells: u16, way: u8, line: &mut [u8], kept: &mut [u64; 4]) 
         show_line(way, line);
         return;
     }
-    let head = test_script::mix(test_script::mix(kept[SUM], refusal as u16, DIGEST), cells, DIGEST);
+    let head = test_script::mix(
+        test_script::mix(kept[SUM], refusal as u16, DIGEST),
+        cells,
+        DIGEST,
+    );
     kept[SUM] = test_script::mix_all(head, line, DIGEST);
 }
 
@@ -276,4 +280,3 @@ fn tell(step: Step, kept: &mut [u64; 4]) {
     let text = [step.a, step.b, step.c];
     io::write_all(1, &text);
 }
-

@@ -307,7 +307,13 @@ fn call_of(step: Step) -> Call {
     }
 }
 
-fn draw<'a>(device: Device, step: Step, ram: &'a [u8], font: &'a [u8], kept: &mut [u64; 5]) -> Device {
+fn draw<'a>(
+    device: Device,
+    step: Step,
+    ram: &'a [u8],
+    font: &'a [u8],
+    kept: &mut [u64; 5],
+) -> Device {
     let mut line = [fill_of(step); 1024];
     let room = test_script::first_mut(&mut line, room_of(step));
     let done = test_script::draw(device, ram, font, room);
@@ -349,7 +355,12 @@ fn show(device: Device, step: Step, ram: &[u8], kept: &mut [u64; 5]) {
     match kind {
         8 => {
             let zeros = [0u8; 1025];
-            ask(device, 1020 + step.c as u32, test_script::first(&zeros, number(step) as usize), kept);
+            ask(
+                device,
+                1020 + step.c as u32,
+                test_script::first(&zeros, number(step) as usize),
+                kept,
+            );
         }
         13 => {
             say(kept);
@@ -419,7 +430,10 @@ fn answered(kept: &mut [u64; 5], refusal: u8, value: u16) {
 }
 
 fn told_line(kept: &mut [u64; 5], refusal: u8, cells: u16, line: &[u8]) {
-    let head = mix(mix(mix(kept[DRAWS], refusal as u16), cells / 256), cells % 256);
+    let head = mix(
+        mix(mix(kept[DRAWS], refusal as u16), cells / 256),
+        cells % 256,
+    );
     kept[DRAWS] = test_script::mix_all(head, line, DIGEST);
     answered(kept, refusal, cells);
 }

@@ -3,7 +3,7 @@
 use denote.Ref.{now}
 use native.Mathlib.Omega.{arith}
 use borrow.Author.Needs.{needs}
-use Rattle.layout.proofs.Parts.{getD-part}
+use Rattle.facts.proofs.Parts.{getD-part}
 use Rattle.layout.proofs.device_in.Statement.{statement}
 use Rattle.layout.proofs.device_in.Tie as tie
 

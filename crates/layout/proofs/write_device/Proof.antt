@@ -1,3 +1,5 @@
+-- `write_device`: the bus part, then the registers, then the rest.
+-- Assumes nothing.
 use Prim.Native.Nat.{ℕ}
 use mathlib.Core.Path.{_≡_, ap, _∙_}
 use mathlib.Core.List.{List}
@@ -8,29 +10,19 @@ use Rattle.layout.specs.Layout.{registersAt, nextAt, frameAt, put, nextB
 use Rattle.layout.proofs.Laws.{whole-put}
 use Rattle.layout.proofs.write_device.Statement.{statement}
 use Rattle.layout.proofs.write_device.Tie as tie
-use Rattle.layout.proofs.write_device.Reads as reads
-use Rattle.layout.proofs.write_device.Lts as lts
-use Rattle.layout.proofs.write_bus.Reads as write-bus-reads
-use Rattle.layout.proofs.write_registers.Reads as write-registers-reads
-use Rattle.layout.proofs.write_start.Reads as write-start-reads
 
--- src/lib.rt:315:5
 write-bus-requires : tie.Need-write-bus-requires
 write-bus-requires c κs = search needs
 
--- src/lib.rt:316:5
 write-registers-requires : tie.Need-write-registers-requires
 write-registers-requires c κs = search needs
 
--- src/lib.rt:317:5
 write-start-requires : tie.Need-write-start-requires
 write-start-requires c κs = search needs
 
--- src/lib.rt:308:1
 same-length : tie.Need-same-length
 same-length c = search needs
 
--- src/lib.rt:308:1
 returns : tie.Need-returns
 returns c =
     let s = c .before .before in

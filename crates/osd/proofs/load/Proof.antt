@@ -7,7 +7,7 @@ use denote.Ref.{now}
 use borrow.Author.Tests.{lt-ltb, le-ltb, le-leb, lt-leb}
 use borrow.Author.Needs.{needs}
 use Rattle.layout.specs.Layout.{registersAt, registersLength}
-use Rattle.layout.proofs.Parts.{getD-part}
+use Rattle.facts.proofs.Parts.{getD-part}
 use Rattle.osd.proofs.load.Statement.{statement}
 use Rattle.osd.proofs.load.Tie as tie
 

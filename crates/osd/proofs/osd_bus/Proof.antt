@@ -15,7 +15,7 @@ returns : tie.Need-returns
 returns c = bus-not-record _ _ _ _ (c .if1 .taken)
 
 returns-2 : tie.Need-returns-2
-returns-2 c = bus-not-kind _ _ _ _ (c .before .if1 .left) (c .if2 .taken)
+returns-2 c = bus-not-kind _ _ _ _ (c .if2 .taken)
 
 refuse-requires : tie.Need-refuse-requires
 refuse-requires c κs = search needs

@@ -1,5 +1,5 @@
--- Parts of a list at offsets. The part of n elements from `at` on is `take n (drop at xs)`; elements that are put in place from `at` on are
--- the kit's `sets xs at vs`, which leaves all others as they are.
+-- Parts of a list at offsets. The part of n elements from `at` on is `take n (drop at xs)`; elements put in place from `at` on are the
+-- kit's `sets xs at vs`, which leaves all others as they are.
 -- Assumes nothing.
 use Prim.Native.Nat.{ℕ, zero, suc, _+_, _-_, _≤_, _<_}
 use mathlib.Core.Path.{_≡_, refl, sym, ap, _∙_}
@@ -54,7 +54,7 @@ module _ {A : Type 0} where
   pub getD-part : (xs : List A) (at n i : ℕ) (d : A) → i < n → getD (take n (drop at xs)) i d ≡ getD xs (at + i) d
   getD-part xs at n i d h = getD-take n (drop at xs) i d h ∙ getD-drop at xs i d
 
-  -- a list that is copied into a part from `at` on, of k elements or more than it has, is put there
+  -- a list that is copied to the front of the k elements from `at` on is put there
   pub copied : (xs vs : List A) (at k : ℕ) (mid : List A) → at + length vs ≤ length xs → length vs ≤ k
       → mid ≡ take (length vs) vs ++ drop (length vs) (take k (drop at xs)) → take at xs ++ (mid ++ drop k (drop at xs)) ≡ sets xs at vs
   copied xs vs at k mid h l e =
