@@ -4,47 +4,27 @@
 // (tests/test_bench.py).
 use device::Device;
 use device::StartAnswer;
-use test_script::Numbers;
-
-const DIGEST: Numbers = Numbers {
-    factor: 31,
-    more: 0,
-    last: 65520,
-};
 
 fn main() {
     let mut input = [0u8; 5651];
     io::read_full(0, &mut input);
-    let mut i = 0;
-    while i < 7 {
-        put_count(&mut input, count(i));
-        run(test_script::first(&input, length(i)));
-        i += 1;
-    }
+    run(&input[..0]);
+    run(&input[..5649]);
+    run(&input);
+    run_count(&mut input, 0x00, 0x00);
+    run_count(&mut input, 0x00, 0x08);
+    run_count(&mut input, 0x01, 0x08);
+    run_count(&mut input, 0xFF, 0xFF);
 }
 
-fn length(i: u8) -> usize {
-    match i {
-        0 => 0,
-        1 => 5649,
-        2 => 5651,
-        _ => 5650,
+// The input with a line count, low byte first.
+fn run_count(input: &mut [u8], low: u8, high: u8) {
+    if input.len() < 5650 {
+        return;
     }
-}
-
-fn count(i: u8) -> u16 {
-    match i {
-        4 => 2048,
-        5 => 2049,
-        6 => 65535,
-        _ => 0,
-    }
-}
-
-// The line count of an input, low byte first.
-fn put_count(input: &mut [u8; 5651], lines: u16) {
-    input[5648] = (lines % 256) as u8;
-    input[5649] = (lines / 256) as u8;
+    input[5648] = low;
+    input[5649] = high;
+    run(&input[..5650]);
 }
 
 fn run(input: &[u8]) {
@@ -55,7 +35,7 @@ fn run(input: &[u8]) {
         StartAnswer::Refused(refusal) => {
             let mut text = [0u8; 16];
             let n = report::refusal_text(refusal.number(), &mut text);
-            io::write_all(1, test_script::first(&text, n));
+            print(&text, n);
         }
         StartAnswer::Started => {
             show(device, report::ram_part(input), report::font_part(input));
@@ -63,40 +43,52 @@ fn run(input: &[u8]) {
     }
 }
 
-// A frame that is started.
+// A frame that is started: the heading, the first and the last line, and the digest.
 fn show<'a>(device: Device, ram: &'a [u8], font: &'a [u8]) {
-    show_heading(device);
-    show_lines(device, ram, font);
-}
-
-fn show_heading(device: Device) {
-    let mut text = [0u8; 32];
-    let frame = device.frame;
-    let n = report::heading(frame.left, report::width_of(device), &mut text);
-    io::write_all(1, test_script::first(&text, n));
-}
-
-// The first and the last line, and the digest.
-fn show_lines<'a>(device: Device, ram: &'a [u8], font: &'a [u8]) {
     let mut text = [0u8; 1024];
     let frame = device.frame;
     let lines = frame.left;
+    let n = report::heading(lines, report::width_of(device), &mut text);
+    print(&text, n);
     let mut next = device;
     let mut left = lines;
-    let mut sum = 0;
+    let mut sum: u64 = 0;
     while left > 0 {
         let done = report::next_line(next, ram, font, &mut text);
-        sum = told(sum, test_script::first(&text, done.length), left, lines);
+        if is_shown(left, lines) {
+            print(&text, done.length);
+        }
+        sum = digest(sum, &text, done.length);
         next = done.device;
         left -= 1;
     }
-    test_script::print_decimal(sum, b'\n');
+    io::print_decimal(1, sum);
+    io::write_all(1, b"\n");
 }
 
-// The digest with a line, which is printed where it is the first or the last.
-fn told(sum: u64, line: &[u8], left: u16, lines: u16) -> u64 {
-    if left == lines || left == 1 {
-        io::write_all(1, line);
+fn is_shown(left: u16, lines: u16) -> bool {
+    if left == lines {
+        return true;
     }
-    test_script::mix_all(sum, line, DIGEST)
+    left == 1
+}
+
+// The first n bytes of a text taken into a digest: times 31, plus the byte, modulo 65,521.
+fn digest(sum: u64, text: &[u8], n: usize) -> u64 {
+    if text.len() < n {
+        return sum;
+    }
+    let mut d = sum;
+    let mut i = 0;
+    while i < n {
+        d = (d % 65521 * 31 + text[i] as u64) % 65521;
+        i += 1;
+    }
+    d
+}
+
+fn print(text: &[u8], n: usize) {
+    if n <= text.len() {
+        io::write_all(1, &text[..n]);
+    }
 }
