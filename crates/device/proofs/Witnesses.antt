@@ -17,7 +17,8 @@ use Rattle.bus.specs.declared.Event.the-variants.{Byte}
 use Rattle.bus.specs.Bus.{step, ramWith, registersWith, answerTo, taken, busEvent}
 use Rattle.walk.specs.Walk.{walkFrom, stripOf, over, begun, advanced, nextLine}
 use Rattle.glyph.specs.Glyph.{glyphOf, inRam, bitsOf}
-use Rattle.line.specs.Line.{codes, rowOf, shownRow, scan, inkOf, columns, character, painted, paint}
+use Rattle.paint.specs.Pixels.{inkOf, columns, twelveColumns}
+use Rattle.line.specs.Line.{codes, rowOf, shownRow, scan, character, painted, paint}
 use Rattle.ahead.specs.Ahead.{remaining}
 use Rattle.device.specs.Device.{freshDevice, hearEvent, startFrame, inFrame, pixelsOf, lineOn, lineDrawn, drawVerdict, drawBy, drawLine, cellsLeft, askCell}
 use Rattle.device.specs.OnePage.{Call, draw, ask, event, State, Answer, drawn, asked, answer, after, isEvent, calls, effectOf, Stores, QuietCall, QuietRun}
@@ -119,7 +120,7 @@ unfolding addressing write font heard started traffic picture buffer turning ref
     runTest pixelOf pixelIn answer after isEvent Stores freshDevice hearEvent startFrame inFrame pixelsOf lineOn lineDrawn drawVerdict drawBy drawLine
     cellsLeft askCell log end select step ramWith registersWith answerTo taken busEvent settingsOf remaining scan nextLine walkFrom
     over begun advanced stripOf rowOf shownRow codes glyphOf inRam bind fmap value cells cellsAs sameRole among beforeFirst following isLast
-    interpolated sliceNumber paint painted character inkOf columns bitsOf
+    interpolated sliceNumber paint painted character twelveColumns inkOf columns bitsOf
 pixelTest i s cs =
     eqb (pixelIn i (select (λ x. not (isEvent (x .call))) (log (calls font) s cs))) (pixelIn i (log (calls font) s (othersOf (calls font) cs)))
 

@@ -3,3 +3,4 @@ pub mod Lists
 pub mod Pairs
 pub mod Parts
 pub mod Tests
+pub mod Written

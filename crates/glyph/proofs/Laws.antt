@@ -14,7 +14,7 @@ use Rattle.cells.specs.Reading.{slice, Reading, done, read, value, cells}
 use Rattle.cells.proofs.Bounds.{Within, AtMost, within-cond, atMost-cond}
 use Rattle.raster.specs.declared.Slice.{Slice}
 use Rattle.raster.specs.Raster.{InCharacter}
-use Rattle.glyph.specs.Glyph.{Glyph, font, user, blank, userCell, fontByte, inRam, glyphOf, twelve, bitsOf, slicePart, Lent, Sliced, shownIn}
+use Rattle.glyph.specs.Glyph.{Glyph, font, user, blank, userCell, fontByte, inRam, glyphOf, twelve, bitsOf, slicePart, Lent, Sliced}
 use Rattle.glyph.specs.Words.{inOrder, wordOf, wordIn}
 
 inRam-within : (number s : ℕ) → s ≤ 18 → Within 1024 (inRam number s)
@@ -56,33 +56,6 @@ slicePart-length ram f high s l h = by (ℕ-discrete (high / 128 % 2) 0)
         → length (cond (eqb (high / 128 % 2) 0) (take 2 (drop (fontByte (high % 128) s) f)) (take 2 (drop (userCell (high % 128) s) ram))) ≡ 2
     by (yes e) = rw (eq-eqb _ _ e) (part-length f (fontByte (high % 128) s) (omega (arith, l .font-length, h .most)))
     by (no n) = rw (ne-eqb _ _ n) (part-length ram (userCell (high % 128) s) (omega (arith, l .ram-length, h .most, h .of-user (omega arith))))
-
--- the bits of a part's two bytes
-unfoldable pub bitsIn : List ℕ → ℕ
-bitsIn part = twelve (getD part 0 0) (getD part 1 0)
-
--- ---- what the lookup shows, case by case
-
-module _ (ram f : List ℕ) (high : ℕ) (s : Slice) where
-  -- slice 0 of a font character
-  pub shown-none : high / 128 % 2 ≡ 0 → s .0 ≡ 0 → record { bits = 0; cells = 0 } ≡ shownIn ram f high s
-  unfolding shownIn glyphOf value cells bitsOf
-  shown-none e z = rw (eq-eqb _ _ e, eq-eqb _ _ z)
-
-  -- a font character
-  pub shown-font : high / 128 % 2 ≡ 0 → (s .0 ≡ 0 → ⊥) → record { bits = bitsIn (slicePart ram f high (s .0)); cells = 0 } ≡ shownIn ram f high s
-  unfolding bitsIn slicePart shownIn glyphOf value cells bitsOf
-  shown-font e z = rw (eq-eqb _ _ e, ne-eqb _ _ z, part-first, part-second)
-
-  -- all background
-  pub shown-blank : (high / 128 % 2 ≡ 0 → ⊥) → 26 ≤ high % 128 → record { bits = 0; cells = 0 } ≡ shownIn ram f high s
-  unfolding shownIn glyphOf inRam value cells bitsOf
-  shown-blank e h = rw (ne-eqb _ _ e, le-ltb _ _ h)
-
-  -- a user character
-  pub shown-user : (high / 128 % 2 ≡ 0 → ⊥) → high % 128 < 26 → record { bits = bitsIn (slicePart ram f high (s .0)); cells = 2 } ≡ shownIn ram f high s
-  unfolding bitsIn slicePart shownIn glyphOf inRam value cells bitsOf
-  shown-user e h = rw (ne-eqb _ _ e, lt-ltb _ _ h, part-first, part-second)
 
 -- ---- a code's word, case by case
 
@@ -133,8 +106,8 @@ either-low false m n e = e
 
 -- a word's low twelve bits are the glyph's
 pub word-low : (ram f : List ℕ) (high : ℕ) (s : Slice) → ((i : ℕ) → getD ram i 0 < 256) → ((i : ℕ) → getD f i 0 < 256)
-    → wordIn ram f high s .bits % 4096 ≡ shownIn ram f high s .bits
-unfolding wordIn shownIn glyphOf inRam value wordOf bitsOf
+    → wordIn ram f high s .bits % 4096 ≡ bitsOf f (value ram (glyphOf high s))
+unfolding wordIn glyphOf inRam value wordOf bitsOf
 word-low ram f high s b d = by (eqb (high / 128 % 2) 0) (ltb (high % 128) 26)
   where
     of-ram : Bool → Reading Glyph

@@ -7,9 +7,8 @@ use mathlib.Core.List.{List}
 use lib.Dec.{eqb, ltb}
 use lib.ListN.{length, getD, take, drop}
 use Rattle.limits.specs.Limits.{ramLength, fontLength}
-use Rattle.cells.specs.Reading.{slice, Reading, done, read, value, cells}
+use Rattle.cells.specs.Reading.{slice, Reading, done, read}
 use Rattle.raster.specs.declared.Slice.{Slice}
-use Rattle.glyph.specs.declared.Shown.{Shown}
 
 -- where the two bytes of a slice come from
 pub data Glyph : Type 0 where
@@ -68,7 +67,3 @@ pub record Sliced (high s : ℕ) : Type 0 where
   pub most : s ≤ 18
   pub of-font : high / 128 % 2 ≡ 0 → 1 ≤ s
   pub of-user : high / 128 % 2 ≡ 1 → high % 128 < 26
-
--- a glyph's bits and how many cells it read
-unfoldable pub shownIn : List ℕ → List ℕ → ℕ → Slice → Shown
-shownIn ram f high s = record { bits = bitsOf f (value ram (glyphOf high s)); cells = length (cells ram (glyphOf high s)) }

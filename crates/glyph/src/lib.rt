@@ -3,17 +3,11 @@ ghost use mathlib.Core.Path.{_≡_};
 ghost use Prim.Native.Nat.{_<_};
 ghost use lib.ListN.{length};
 ghost use Rattle.limits.specs.Limits.{ramLength};
-ghost use Rattle.glyph.specs.Glyph.{twelve, slicePart, Lent, Sliced, shownIn};
+ghost use Rattle.glyph.specs.Glyph.{slicePart, Lent, Sliced};
 ghost use Rattle.raster.specs.Raster.{InCharacter};
 ghost use Rattle.glyph.specs.Words.{inOrder, wordIn};
 ghost use Rattle.glyph.specs.Cells.{ofUser, userHigh, userSlice};
 use raster::Slice;
-
-// The pixels PX11 to PX0 of a code in a slice, a bit each, and how many cells that read.
-pub struct Shown {
-    pub bits: u16,
-    pub cells: u16,
-}
 
 // The two bytes of a slice: a part of the lent RAM or of the lent font, chosen by SET.
 pub fn slice_bytes<'a>(ram: &'a [u8], font: &'a [u8], high: u8, slice: Slice) -> &'a [u8]
@@ -34,40 +28,6 @@ pub fn slice_bytes<'a>(ram: &'a [u8], font: &'a [u8], high: u8, slice: Slice) ->
     &ram[a..e]
 }
 
-fn bits_of(first: u8, second: u8) -> u16
-    ensures number { λ r. ⌜ r ≡ twelve first second ⌝ }
-    ensures bits { λ r. ⌜ r < 4096 ⌝ }
-{
-    (second % 16) as u16 * 256 + first as u16
-}
-
-// What a code's high byte shows in a slice. Slice 0 of a font character and characters 26 to 126 are blank.
-pub fn lookup<'a>(ram: &'a [u8], font: &'a [u8], high: u8, slice: Slice) -> Shown
-    requires { ⌜ Lent (now ram) (now font) ⌝ }
-    requires { ⌜ InCharacter slice ⌝ }
-    ensures shown { λ r. ⌜ r ≡ shownIn (now (ram .entry)) (now (font .entry)) high slice ⌝ }
-    ensures twelve { λ r. ⌜ r .bits < 4096 ⌝ }
-{
-    if high / 128 % 2 == 0 {
-        if slice.0 == 0 {
-            return Shown { bits: 0, cells: 0 };
-        }
-        let part = slice_bytes(ram, font, high, slice);
-        return Shown {
-            bits: bits_of(part[0], part[1]),
-            cells: 0,
-        };
-    }
-    if high % 128 >= 26 {
-        return Shown { bits: 0, cells: 0 };
-    }
-    let part = slice_bytes(ram, font, high, slice);
-    Shown {
-        bits: bits_of(part[0], part[1]),
-        cells: 2,
-    }
-}
-
 // A code's slice as it lies there, two bytes with PX11 to PX0 in the low bits; how many cells that read; is it the end of line?
 pub struct Word {
     pub bits: u32,
@@ -81,8 +41,9 @@ fn two_bytes(first: u8, second: u8) -> u32
     second as u32 * 256 + first as u32
 }
 
-// What lookup tells of a code, and whether it ends the line, for a row: font codes come most often and are tested first.
-pub fn word_shown<'a>(ram: &'a [u8], font: &'a [u8], high: u8, slice: Slice) -> Word
+// What a code's high byte shows in a slice. Slice 0 of a font character and characters 26 to 126 are blank. Font codes come most often
+// and are tested first.
+pub fn lookup<'a>(ram: &'a [u8], font: &'a [u8], high: u8, slice: Slice) -> Word
     requires { ⌜ Lent (now ram) (now font) ⌝ }
     requires { ⌜ InCharacter slice ⌝ }
     ensures { λ r. ⌜ r ≡ wordIn (now (ram .entry)) (now (font .entry)) high slice ⌝ }

@@ -9,7 +9,8 @@ use lib.Seq.{take-all}
 use Rattle.cells.specs.Reading.{code, cells, cellsAs}
 use Rattle.raster.specs.Raster.{sliceNumber, columnsOf, hiddenIn}
 use Rattle.glyph.specs.Glyph.{glyphOf, inRam}
-use Rattle.line.specs.Line.{scan, plainOf, character, painted, paint}
+use Rattle.paint.specs.Pixels.{plainOf}
+use Rattle.line.specs.Line.{scan, character, painted, paint}
 use Rattle.line.specs.Edges.{Holds, mostCodes, secondCut, userCells, table, Each, Edges}
 use Rattle.line.proofs.Laws.{character-length}
 use Rattle.line.proofs.Rules.{scan-codes}

@@ -11,7 +11,8 @@ use Rattle.registers.specs.Registers.{settingsOf}
 use Rattle.raster.specs.Raster.{beforeFirst, following, isLast, interpolated, sliceNumber}
 use Rattle.walk.specs.Walk.{walkFrom, stripOf, over, begun, advanced, nextLine}
 use Rattle.glyph.specs.Glyph.{glyphOf, inRam, bitsOf}
-use Rattle.line.specs.Line.{codes, rowOf, shownRow, scan, inkOf, columns, character, painted, paint}
+use Rattle.paint.specs.Pixels.{inkOf, columns, twelveColumns}
+use Rattle.line.specs.Line.{codes, rowOf, shownRow, scan, character, painted, paint}
 
 example : List ℕ
 example = 0x04 ∷ 0xC0 ∷ 0 ∷ 0 ∷ 0x71 ∷ 0x41 ∷ 0 ∷ 0xFF ∷ []
@@ -28,5 +29,5 @@ example-reads = refl
 
 example-pixels : paint exampleSettings exampleFont 0 (value example (scan exampleSettings (walkFrom 0)) .row)
     ≡ replicate 36 0 ++ 15 ∷ replicate 7 9 ++ replicate 4 15 ++ replicate 12 0
-unfolding example exampleSettings exampleFont settingsOf scan nextLine walkFrom over begun advanced stripOf rowOf shownRow codes glyphOf inRam bind fmap cells value beforeFirst following isLast interpolated sliceNumber paint painted character inkOf columns bitsOf
+unfolding example exampleSettings exampleFont settingsOf scan nextLine walkFrom over begun advanced stripOf rowOf shownRow codes glyphOf inRam bind fmap cells value beforeFirst following isLast interpolated sliceNumber paint painted character twelveColumns inkOf columns bitsOf
 example-pixels = refl

@@ -1,12 +1,12 @@
 -- The laws of a line: it has W pixels, each below 16; it reads at most 246 cells, each below 1,024.
 -- Assumes nothing.
-use Prim.Native.Nat.{ℕ, zero, suc, _+_, _-_, _*_, _/_, _%_, _^_, _≤_, _<_, min}
+use Prim.Native.Nat.{ℕ, zero, suc, _+_, _-_, _*_, _≤_, _<_, min}
 use mathlib.Core.Path.{_≡_, refl, sym, ap, _∙_, subst}
 use mathlib.Core.Bool.{Bool, true, false, cond}
 use mathlib.Core.List.{List, [], _∷_, _++_}
 use native.Mathlib.Omega.{arith}
-use lib.Dec.{eqb}
 use lib.ListN.{length, getD, take, replicate, length-append, length-take, length-replicate}
+use Rattle.facts.proofs.Choice.{either}
 use Rattle.cells.specs.Reading.{Reading, done, read, bind, fmap, value, cells}
 use Rattle.cells.proofs.Bounds.{Gives, Within, AtMost, gives-all, within-done, atMost-done, within-bind, within-fmap, within-cond, atMost-more, atMost-bind, atMost-fmap, atMost-cond}
 use Rattle.registers.specs.declared.Settings.{Settings}
@@ -21,10 +21,11 @@ use Rattle.walk.specs.declared.Strip.the-variants.{Spacing, Characters}
 use Rattle.walk.specs.declared.Walk.{Walk}
 use Rattle.walk.specs.Walk.{even, next, nextLine, OnLine}
 use Rattle.walk.proofs.Laws.{even-bound, nextLine-on, nextLine-within, nextLine-most}
-use Rattle.glyph.specs.Glyph.{Glyph, endsLine, glyphOf}
+use Rattle.glyph.specs.Glyph.{Glyph, endsLine, glyphOf, bitsOf}
 use Rattle.glyph.proofs.Laws.{glyphOf-within, glyphOf-most}
-use Rattle.line.specs.declared.Ink.{Ink}
-use Rattle.line.specs.Line.{Place, codes, rowOf, shownRow, Scanned, scan, plainOf, background, inkOf, columns, character, painted, paint}
+use Rattle.paint.specs.Pixels.{plainOf}
+use Rattle.paint.proofs.Laws.{Pixels, pixels-at, pixels-append, pixels-take, pixels-replicate, twelve-length, twelve-pixels}
+use Rattle.line.specs.Line.{Place, codes, rowOf, shownRow, Scanned, scan, character, painted, paint}
 
 -- ---- the cells that a line reads
 
@@ -94,14 +95,9 @@ line-most r w =
 
 -- ---- the width
 
-columns-length : (n : ℕ) (ink : Ink) (bits left : ℕ) → length (columns n ink bits left) ≡ n
-unfolding columns
-columns-length zero ink bits left = refl
-columns-length (suc n) ink bits left = ap suc (columns-length n ink bits (bits / 2 ^ n % 2))
-
 pub character-length : (font : List ℕ) (plain : ℕ) (hidden : Bool) (p : Place) → length (character font plain hidden p) ≡ 12
 unfolding character
-character-length font plain hidden p = columns-length 12 (inkOf plain (p .low)) _ 0
+character-length font plain hidden p = twelve-length plain hidden (p .low) (bitsOf font (p .glyph))
 
 pub painted-length : (font : List ℕ) (plain : ℕ) (hidden : Bool) (room : ℕ) (ps : List Place) → length (painted font plain hidden room ps) ≡ room
 unfolding painted
@@ -124,72 +120,17 @@ paint-length s font f row = by (s .osd)
 
 -- ---- the pixels
 
--- every number of the list is a pixel
-data Pixels : List ℕ → Type 0 where
-  none : Pixels []
-  more : {x : ℕ} {xs : List ℕ} → x < 16 → Pixels xs → Pixels (x ∷ xs)
-
-pixels-at : {xs : List ℕ} → Pixels xs → (i : ℕ) → getD xs i 0 < 16
-pixels-at none i = omega arith
-pixels-at (more h p) zero = h
-pixels-at (more h p) (suc i) = pixels-at p i
-
-pixels-append : {xs ys : List ℕ} → Pixels xs → Pixels ys → Pixels (xs ++ ys)
-pixels-append none q = q
-pixels-append (more h p) q = more h (pixels-append p q)
-
-pixels-take : (n : ℕ) {xs : List ℕ} → Pixels xs → Pixels (take n xs)
-pixels-take zero p = none
-pixels-take (suc n) none = none
-pixels-take (suc n) (more h p) = more h (pixels-take n p)
-
-pixels-replicate : (n x : ℕ) → x < 16 → Pixels (replicate n x)
-pixels-replicate zero x h = none
-pixels-replicate (suc n) x h = more h (pixels-replicate n x h)
-
--- the pixels that a code draws with are pixels
-record Inks (ink : Ink) : Type 0 where
-  fore : ink .fore < 16
-  cast : ink .cast < 16
-  back : ink .back < 16
-
-either-below : (t : Bool) (x y : ℕ) → x < 16 → y < 16 → cond t x y < 16
-either-below true x y h k = h
-either-below false x y h k = k
-
-background-below : (plain low : ℕ) (beside : Bool) → plain < 16 → background plain low beside < 16
-background-below plain low beside h =
-    either-below (eqb (low / 8 % 2) 0) _ _ (omega arith)
-    (either-below (eqb (low / 2 % 2) 0) _ _ h (either-below beside _ _ (omega arith) h))
-
-ink-below : (plain low : ℕ) → plain < 16 → Inks (inkOf plain low)
-unfolding inkOf
-ink-below plain low h =
-    record { fore = omega arith; cast = background-below plain low true h; back = background-below plain low false h }
-
-columns-pixels : (n : ℕ) (ink : Ink) (bits left : ℕ) → Inks ink → Pixels (columns n ink bits left)
-unfolding columns
-columns-pixels zero ink bits left h = none
-columns-pixels (suc n) ink bits left h =
-    more
-    (either-below (eqb (bits / 2 ^ n % 2) 1) _ _ (h .fore) (either-below (eqb left 1) _ _ (h .cast) (h .back)))
-    (columns-pixels n ink bits (bits / 2 ^ n % 2) h)
-
 painted-pixels : (font : List ℕ) (plain : ℕ) (hidden : Bool) (room : ℕ) (ps : List Place) → plain < 16 → Pixels (painted font plain hidden room ps)
 unfolding painted character
 painted-pixels font plain hidden room [] h = pixels-replicate room plain h
 painted-pixels font plain hidden room (p ∷ ps) h =
-    pixels-append (pixels-take room (columns-pixels 12 (inkOf plain (p .low)) _ 0 (ink-below plain (p .low) h)))
+    pixels-append (pixels-take room (twelve-pixels plain hidden (p .low) (bitsOf font (p .glyph)) h))
     (painted-pixels font plain hidden (room - 12) ps h)
-
-either-pixels : (t : Bool) (xs ys : List ℕ) → Pixels xs → Pixels ys → Pixels (cond t xs ys)
-either-pixels true xs ys p q = p
-either-pixels false xs ys p q = q
 
 paint-pixels : (s : Settings) (font : List ℕ) (f : ℕ) (row : List Place) → s .fbk < 2 → Pixels (paint s font f row)
 unfolding paint
 paint-pixels s font f row h =
-    either-pixels (s .osd) _ _
+    either Pixels (s .osd) _ _
     (pixels-append (pixels-replicate (min (firstPixelOf (s .dd)) (widthOf (s .ld))) (plainOf (s .fbk)) (omega arith))
     (painted-pixels font (plainOf (s .fbk)) (hiddenIn (s .fl) f) (widthOf (s .ld) - firstPixelOf (s .dd)) row (omega arith)))
     (pixels-replicate (widthOf (s .ld)) 0 (omega arith))

@@ -5,4 +5,3 @@ pub mod Laws
 pub mod Rules
 pub mod Strips
 pub mod Turns
-pub mod Spread

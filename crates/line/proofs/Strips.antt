@@ -24,7 +24,8 @@ use Rattle.walk.specs.Walk.{nextLine, OnLine, walked}
 use Rattle.walk.specs.declared.Walked.{Walked}
 use Rattle.walk.proofs.Laws.{nextLine-on}
 use Rattle.line.specs.declared.Pen.{Pen}
-use Rattle.line.specs.Line.{Place, codes, rowOf, shownRow, Scanned, scan, plainOf, painted, paint}
+use Rattle.paint.specs.Pixels.{plainOf}
+use Rattle.line.specs.Line.{Place, codes, rowOf, shownRow, Scanned, scan, painted, paint}
 use Rattle.line.specs.Contracts.{RowDrawn, CharactersDrawn, StripDrawn, LineDrawn}
 use Rattle.line.proofs.Laws.{line-most}
 use Rattle.line.proofs.Turns.{drop-from, no-room, no-reads, painted-none}

@@ -1,6 +1,6 @@
 -- The turns of the line's loops: what one turn adds to the bytes that are written.
 -- Assumes nothing.
-use Prim.Native.Nat.{ℕ, zero, suc, _+_, _-_, _/_, _%_, _^_, _*_, _≤_, _<_, min}
+use Prim.Native.Nat.{ℕ, zero, suc, _+_, _-_, _/_, _%_, _*_, _≤_, _<_, min}
 use mathlib.Core.Path.{_≡_, refl, sym, ap, ap₂, _∙_, subst}
 use mathlib.Core.List.{List, [], _∷_, _++_, append-nil, append-assoc}
 use native.Mathlib.Nat.{not-suc-le-zero}
@@ -11,24 +11,28 @@ use mir.Syntax.{w32}
 use mir.Val.{Fits}
 use lib.ListN.{length, getD, take, drop, set, replicate, length-append, length-take, length-drop, take-append-drop}
 use native.Mathlib.Decide.{decLe}
-use borrow.Rule.Slice.PartMut.{putMid, same-len-mid, take-put, drop-put, put-same, post-is}
+use borrow.Rule.Slice.PartMut.{putMid, same-len-mid, drop-put, post-is}
 use Rattle.raster.proofs.Laws.{columns-more}
-use lib.Seq.{take-all, take-length, take-at, take-suc-set, drop-length, drop-drop}
+use borrow.Author.Tests.{eqb-true}
+use lib.Seq.{take-all, take-at, drop-length, drop-drop}
 use Rattle.cells.specs.Reading.{code, Reading, done, read, bind, fmap, value, cells}
 use Rattle.cells.proofs.Laws.{value-bind, cells-bind, value-fmap, cells-fmap}
 use Rattle.cells.proofs.Bounds.{atMost-length}
 use Rattle.raster.specs.declared.Slice.{Slice}
 use Rattle.walk.specs.Walk.{even, next}
 use Rattle.glyph.specs.declared.Word.{Word}
-use Rattle.glyph.specs.Glyph.{Glyph, endsLine, glyphOf, shownIn}
+use Rattle.glyph.specs.Glyph.{Glyph, endsLine, glyphOf, inRam}
 use Rattle.glyph.specs.Words.{wordIn}
 use Rattle.glyph.proofs.Laws.{glyphOf-most, word-low}
-use Rattle.line.specs.declared.Ink.{Ink}
+use Rattle.paint.specs.declared.Fours.{Fours}
+use Rattle.paint.specs.Pixels.{twelveColumns}
+use Rattle.paint.specs.Tables.{pixelsOf}
+use Rattle.paint.proofs.Spread.{pixels-length}
 use Rattle.line.specs.declared.Pen.{Pen}
 use Rattle.line.proofs.Laws.{codes-most, character-length}
 use Rattle.line.specs.declared.Coded.{Coded}
-use Rattle.line.specs.Contracts.{CodeDrawn, RowDrawn}
-use Rattle.line.specs.Line.{Place, inkOf, pixel, columns, shownBits, character, codes, painted}
+use Rattle.line.specs.Contracts.{CodeShown, RowDrawn}
+use Rattle.line.specs.Line.{Place, character, codes, painted}
 
 -- ---- filling
 
@@ -36,91 +40,33 @@ pub fill-done : (out out₀ : List ℕ) (i v : ℕ) → i ≡ length out₀ → 
 fill-done out out₀ i v e h =
     h ∙ ap (λ (n : ℕ). replicate n v ++ drop n out₀) e ∙ ap (λ (l : List ℕ). replicate (length out₀) v ++ l) (drop-length out₀) ∙ append-nil (replicate (length out₀) v)
 
--- ---- the columns of a character
-
-columns-from : (n : ℕ) (ink : Ink) (bits left : ℕ) → 0 < n
-    → columns n ink bits left ≡ pixel ink (bits / 2 ^ (n - 1) % 2) left ∷ columns (n - 1) ink bits (bits / 2 ^ (n - 1) % 2)
-unfolding columns
-columns-from zero ink bits left h = absurd (not-suc-le-zero h)
-columns-from (suc n) ink bits left h =
-    ap (λ (m : ℕ). pixel ink (bits / 2 ^ m % 2) left ∷ columns m ink bits (bits / 2 ^ m % 2)) (sym (sub-one (suc n)))
-
--- the bit to the left of column i
-abbrev pub beside : ℕ → ℕ → ℕ
-beside bits i = bits / 2 ^ (12 - i) % 2
-
--- nothing stands to the left of the first
-pub beside-first : (bits : ℕ) → bits < 4096 → beside bits 0 ≡ 0
-beside-first bits h = omega arith
-
--- one column more
-pub columns-again : (ink : Ink) (bits : ℕ) (out all : List ℕ) (i v : ℕ) → i < length out → i < 12
-    → take i out ++ columns (12 - i) ink bits (beside bits i) ≡ all → v ≡ pixel ink (bits / 2 ^ (11 - i) % 2) (beside bits i)
-    → take (i + 1) (set out i v) ++ columns (12 - (i + 1)) ink bits (beside bits (i + 1)) ≡ all
-columns-again ink bits out all i v h k e p =
-    let m : 12 - i - 1 ≡ 11 - i = omega arith in
-    let m′ : 12 - (i + 1) ≡ 11 - i = omega arith in
-    rw (m′, add-one, take-suc-set out i v h)
-    (append-assoc (take i out) (v ∷ []) (columns (11 - i) ink bits (bits / 2 ^ (11 - i) % 2))
-    ∙ ap (λ (x : ℕ). take i out ++ (x ∷ columns (11 - i) ink bits (bits / 2 ^ (11 - i) % 2))) p
-    ∙ ap (λ (n : ℕ). take i out ++ (pixel ink (bits / 2 ^ n % 2) (beside bits i) ∷ columns n ink bits (bits / 2 ^ n % 2))) (sym m)
-    ∙ ap (λ (l : List ℕ). take i out ++ l) (sym (columns-from (12 - i) ink bits (beside bits i) (omega arith)))
-    ∙ e)
-
-pub columns-done : (ink : Ink) (bits left : ℕ) (out all : List ℕ) (i : ℕ) → i ≡ length out
-    → take i out ++ columns (12 - i) ink bits left ≡ all → out ≡ take (length out) all
-columns-done ink bits left out all i h e =
-    sym (take-at out (columns (12 - i) ink bits left) (length out) refl)
-    ∙ ap (take (length out)) (ap (λ (l : List ℕ). l ++ columns (12 - i) ink bits left) (sym (take-length out) ∙ ap (λ (n : ℕ). take n out) (sym h)) ∙ e)
-
 -- ---- the codes of a row
 
--- the count of a code's cells fits
-pub code-fits : (n : ℕ) (ram : List ℕ) (high : ℕ) (s : Slice) → n ≡ length (cells ram (glyphOf high s)) → Fits w32 (2 + n)
-code-fits n ram high s e = omega (arith, atMost-length 2 ram (glyphOf high s) (glyphOf-most high s))
-
-either-few : (t : Bool) (g : ℕ) → g ≤ 2 → cond t 0 g ≤ 2
-either-few true g h = omega arith
-either-few false g h = h
-
 -- a code reads at most four cells
-pub code-few : (ram font : List ℕ) (at : ℕ) (pen : Pen) (part : List ℕ) (c : Coded) (part′ : List ℕ) → CodeDrawn ram font at pen part c part′ → c .cells ≤ 4
-code-few ram font at pen part c part′ d =
-    let g = glyphOf (getD ram (at + 1) 0) (pen .slice) in
-    omega (arith, d .reads, either-few (c .ended) (length (cells ram g)) (atMost-length 2 ram g (glyphOf-most (getD ram (at + 1) 0) (pen .slice))))
+pub code-few : (ram font : List ℕ) (at : ℕ) (pen : Pen) (c : Coded) → CodeShown ram font at pen c → c .cells ≤ 4
+code-few ram font at pen c d =
+    omega (arith, d .reads, atMost-length 2 ram (glyphOf (getD ram (at + 1) 0) (pen .slice)) (glyphOf-most (getD ram (at + 1) 0) (pen .slice)))
 
--- ---- a code whose word was looked up
-
--- the count of its cells fits
+-- the count of a word's cells and of its code's fits
 pub word-fits : (ram font : List ℕ) (high : ℕ) (s : Slice) (w : Word) → w ≡ wordIn ram font high s → Fits w32 (2 + w .cells)
 unfolding wordIn
-word-fits ram font high s w h = code-fits (w .cells) ram high s (ap (λ (x : Word). x .cells) h)
+word-fits ram font high s w h = omega (arith, ap (λ (x : Word). x .cells) h, atMost-length 2 ram (glyphOf high s) (glyphOf-most high s))
 
-module _ (ram font : List ℕ) (at : ℕ) (pen : Pen) (part : List ℕ) (w : Word) (h : w ≡ wordIn ram font (getD ram (at + 1) 0) (pen .slice)) where
-  ends-line : w .ends ≡ endsLine (getD ram (at + 1) 0)
-  unfolding wordIn
-  ends-line = ap (λ (x : Word). x .ends) h
-
-  -- the end of line
-  pub whole-ended : w .ends ≡ true → CodeDrawn ram font at pen part (record { ended = true; cells = 2 }) part
-  whole-ended e = record { ends = sym e ∙ ends-line; pixels = refl; reads = refl }
-
-  -- a whole character, of a word's low twelve bits
-  pub whole-drawn : ((i : ℕ) → getD ram i 0 < 256) → ((i : ℕ) → getD font i 0 < 256) → w .ends ≡ false → (part′ : List ℕ) → length part ≡ 12
-      → part′ ≡ columns 12 (inkOf (pen .plain) (getD ram at 0)) (shownBits (pen .hidden) (getD ram at 0) (w .bits % 4096)) 0
-      → CodeDrawn ram font at pen part (record { ended = false; cells = 2 + w .cells }) part′
-  unfolding shownIn wordIn character
-  whole-drawn b f e part′ l d =
-      let p : Place = record { low = getD ram at 0; glyph = value ram (glyphOf (getD ram (at + 1) 0) (pen .slice)) } in
-      record {
-        ends = sym e ∙ ends-line;
-        pixels =
-            d
-            ∙ ap (λ (n : ℕ). columns 12 (inkOf (pen .plain) (getD ram at 0)) (shownBits (pen .hidden) (getD ram at 0) n) 0)
-            (ap (λ (x : Word). x .bits % 4096) h ∙ word-low ram font (getD ram (at + 1) 0) (pen .slice) b f)
-            ∙ sym (take-all (length part) (character font (pen .plain) (pen .hidden) p) (omega (arith, character-length font (pen .plain) (pen .hidden) p)));
-        reads = ap (λ (x : Word). 2 + x .cells) h;
-      }
+-- a code whose word was looked up, and whose columns were made of its low twelve bits
+pub code-shown : (ram font : List ℕ) (at : ℕ) (pen : Pen) → ((i : ℕ) → getD ram i 0 < 256) → ((i : ℕ) → getD font i 0 < 256)
+    → (w : Word) → w ≡ wordIn ram font (getD ram (at + 1) 0) (pen .slice)
+    → (columns : Fours) → pixelsOf columns ≡ twelveColumns (pen .plain) (pen .hidden) (getD ram at 0) (w .bits % 4096)
+    → CodeShown ram font at pen (record { ended = w .ends; cells = 2 + w .cells; columns = columns })
+unfolding wordIn character
+code-shown ram font at pen b f w h columns e =
+    record {
+      ends = ap (λ (x : Word). x .ends) h;
+      pixels =
+          e
+          ∙ ap (twelveColumns (pen .plain) (pen .hidden) (getD ram at 0))
+          (ap (λ (x : Word). x .bits % 4096) h ∙ word-low ram font (getD ram (at + 1) 0) (pen .slice) b f);
+      reads = ap (λ (x : Word). 2 + x .cells) h;
+    }
 
 -- a row from an address is the row from the even address of its two bytes
 pub codes-even : (n : ℕ) (s : Slice) (a : ℕ) → codes n s (even a) ≡ codes n s a
@@ -168,6 +114,11 @@ module _ (ram : List ℕ) (n : ℕ) (s : Slice) (a : ℕ) where
 
 -- ---- a row of characters, one more at a time
 
+-- the end of line has no slice
+no-glyph : (high : ℕ) (s : Slice) (ram : List ℕ) → endsLine high ≡ true → length (cells ram (glyphOf high s)) ≡ 0
+unfolding glyphOf inRam cells
+no-glyph high s ram e = rw (eqb-true high 255 e)
+
 -- the codes that the room from pixel x to w has place for
 abbrev pub rowFrom : Pen → ℕ → ℕ → ℕ → Reading (List Place)
 rowFrom pen w x a = codes ((w - x + 11) / 12) (pen .slice) a
@@ -181,6 +132,10 @@ pub part-twelve : (out : List ℕ) (x cut : ℕ) → x < cut → (cut - x) % 12 
 part-twelve out x cut h k l =
     let m : x + 12 ≤ cut = omega arith in
     simp (length-take, length-drop) (omega arith)
+
+-- all twelve columns, where there is room for twelve
+pub put-is : (n : ℕ) (part : List ℕ) (columns : Fours) → n ≡ 12 → part ≡ pixelsOf columns → part ≡ take n (pixelsOf columns)
+put-is n part columns h e = e ∙ sym (take-all n (pixelsOf columns) (omega (arith, pixels-length columns)))
 
 -- the pixels before x are written, n cells are read, and what is left is the row from the even address a on
 pub record RowInv (ram font : List ℕ) (address : ℕ) (pen : Pen) (first w : ℕ) (out₀ out : List ℕ) (x a n : ℕ) : Type 0 where
@@ -267,8 +222,8 @@ module _ (ram font : List ℕ) (address : ℕ) (pen : Pen) (first w : ℕ) (out�
     one-more = columns-more (w - x) (omega arith)
 
     -- a character is drawn
-    module _ (e : ℕ) (end : e ≡ min (x + 12) w) (part : List ℕ) (c : Coded) (d : CodeDrawn ram font a pen (take (e - x) (drop x out)) c part)
-        (on : c .ended ≡ false) where
+    module _ (e : ℕ) (end : e ≡ min (x + 12) w) (c : Coded) (d : CodeShown ram font a pen c) (on : c .ended ≡ false)
+        (part : List ℕ) (p : part ≡ take (length (take (e - x) (drop x out))) (pixelsOf (c .columns))) where
       shown : List ℕ
       shown = character font (pen .plain) (pen .hidden) place
 
@@ -280,7 +235,7 @@ module _ (ram font : List ℕ) (address : ℕ) (pen : Pen) (first w : ℕ) (out�
 
       part-is : part ≡ take (e - x) shown
       unfolding shown place
-      part-is = (rw on at (d .pixels)) ∙ ap (λ (k : ℕ). take k (character font (pen .plain) (pen .hidden) place)) part-long
+      part-is = p ∙ ap₂ take part-long (d .pixels)
 
       part-length : length part ≡ e - x
       unfolding shown
@@ -304,7 +259,7 @@ module _ (ram font : List ℕ) (address : ℕ) (pen : Pen) (first w : ℕ) (out�
       reads-are =
           ap (λ (k : ℕ). length (cells ram (codes k (pen .slice) a))) one-more
           ∙ on-here ram _ (pen .slice) a (i .paired) ends-not .1
-          ∙ ap₂ (λ (m k : ℕ). m + length (cells ram (codes ((k + 11) / 12) (pen .slice) (even (a + 2))))) (sym (rw on at (d .reads))) (sym left-over)
+          ∙ ap₂ (λ (m k : ℕ). m + length (cells ram (codes ((k + 11) / 12) (pen .slice) (even (a + 2))))) (sym (d .reads)) (sym left-over)
 
       -- the pixels before e
       before-e : take e (putMid x (e - x) out part) ≡ take x out ++ part
@@ -336,32 +291,27 @@ module _ (ram font : List ℕ) (address : ℕ) (pen : Pen) (first w : ℕ) (out�
             count = omega (arith, i .count, reads-are);
           }
 
-    -- the line ends: the part stays, and the room is filled with plain
-    module _ (e : ℕ) (part : List ℕ) (c : Coded) (d : CodeDrawn ram font a pen (take (e - x) (drop x out)) c part) (off : c .ended ≡ true) where
-      same-out : putMid x (e - x) out part ≡ out
-      same-out = ap (putMid x (e - x) out) (rw off at (d .pixels)) ∙ put-same x (e - x) out
-
-      pub row-ended : (fill : List ℕ) → fill ≡ replicate (length (take (w - x) (drop x (putMid x (e - x) out part)))) (pen .plain)
-          → RowDrawn ram font address pen first w out₀ (n + c .cells) (putMid x (w - x) (putMid x (e - x) out part) fill)
-      row-ended fill f =
-          let end-here = ended-here ram ((w - x - 12 + 11) / 12) (pen .slice) a (i .paired) (sym (d .ends) ∙ off) in
-          let room : roomFrom ram font pen w x a ≡ replicate (w - x) (pen .plain) =
-          ap (λ (k : ℕ). painted font (pen .plain) (pen .hidden) (w - x) (value ram (codes k (pen .slice) a))) one-more
-          ∙ ap (painted font (pen .plain) (pen .hidden) (w - x)) (end-here .0)
-          ∙ painted-none font (pen .plain) (pen .hidden) (w - x)
-          in
-          let long : length (take (w - x) (drop x out)) ≡ w - x = simp (length-take, length-drop) (omega (arith, i .long)) in
-          let filled : fill ≡ roomFrom ram font pen w x a =
-          f ∙ ap (λ (l : List ℕ). replicate (length (take (w - x) (drop x l))) (pen .plain)) same-out ∙ ap (λ (k : ℕ). replicate k (pen .plain)) long ∙ sym room
-          in
-          record {
-            pixels =
-                ap₂ (λ (l k : List ℕ). putMid x (w - x) l k) same-out filled
-                ∙ ap (λ (l : List ℕ). take x out ++ (roomFrom ram font pen w x a ++ l)) (post-is x w out (i .upto))
-                ∙ whole-row out x a n i;
-            reads =
-                omega (arith, i .count, ap (λ (k : ℕ). length (cells ram (codes k (pen .slice) a))) one-more, end-here .1, rw off at (d .reads));
-          }
+    -- the line ends: the room is filled with plain
+    pub row-ended : (c : Coded) → CodeShown ram font a pen c → c .ended ≡ true
+        → (fill : List ℕ) → fill ≡ replicate (length (take (w - x) (drop x out))) (pen .plain)
+        → RowDrawn ram font address pen first w out₀ (n + c .cells) (putMid x (w - x) out fill)
+    row-ended c d off fill f =
+        let end-here = ended-here ram ((w - x - 12 + 11) / 12) (pen .slice) a (i .paired) (sym (d .ends) ∙ off) in
+        let room : roomFrom ram font pen w x a ≡ replicate (w - x) (pen .plain) =
+        ap (λ (k : ℕ). painted font (pen .plain) (pen .hidden) (w - x) (value ram (codes k (pen .slice) a))) one-more
+        ∙ ap (painted font (pen .plain) (pen .hidden) (w - x)) (end-here .0)
+        ∙ painted-none font (pen .plain) (pen .hidden) (w - x)
+        in
+        let long : length (take (w - x) (drop x out)) ≡ w - x = simp (length-take, length-drop) (omega (arith, i .long)) in
+        let filled : fill ≡ roomFrom ram font pen w x a = f ∙ ap (λ (k : ℕ). replicate k (pen .plain)) long ∙ sym room in
+        record {
+          pixels =
+              ap (putMid x (w - x) out) filled
+              ∙ ap (λ (l : List ℕ). take x out ++ (roomFrom ram font pen w x a ++ l)) (post-is x w out (i .upto))
+              ∙ whole-row out x a n i;
+          reads =
+              omega (arith, i .count, ap (λ (k : ℕ). length (cells ram (codes k (pen .slice) a))) one-more, end-here .1, d .reads, no-glyph (getD ram (a + 1) 0) (pen .slice) ram (sym (d .ends) ∙ off));
+        }
 
   -- the room is full
   pub row-full : (out : List ℕ) (x a n : ℕ) → RowInv ram font address pen first w out₀ out x a n → w ≤ x

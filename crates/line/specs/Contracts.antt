@@ -3,7 +3,6 @@
 use Prim.Native.Nat.{ℕ, _+_, _-_, _/_, min}
 use mathlib.Core.Path.{_≡_}
 use mathlib.Core.List.{List, _++_}
-use mathlib.Core.Bool.{cond}
 use lib.ListN.{length, getD, take, drop, replicate}
 use Rattle.cells.specs.Reading.{value, cells}
 use Rattle.registers.specs.declared.Registers.{Registers}
@@ -13,23 +12,18 @@ use Rattle.raster.specs.Raster.{widthOf}
 use Rattle.walk.specs.declared.Strip.{Strip}
 use Rattle.walk.specs.declared.Walk.{Walk}
 use Rattle.glyph.specs.Glyph.{endsLine, glyphOf}
+use Rattle.paint.specs.Tables.{pixelsOf}
 use Rattle.line.specs.declared.Pen.{Pen}
 use Rattle.line.specs.declared.Coded.{Coded}
 use Rattle.line.specs.declared.Line.{Line}
 use Rattle.line.specs.Line.{Place, codes, shownRow, scan, character, painted, paint}
 
--- a character fills its part of the line, and its slice read so many cells
-pub record CharacterDrawn (ram font : List ℕ) (low high : ℕ) (pen : Pen) (part : List ℕ) (n : ℕ) (part′ : List ℕ) : Type 0 where
-  pub pixels : part′ ≡ take (length part) (character font (pen .plain) (pen .hidden) (record { low = low; glyph = value ram (glyphOf high (pen .slice)) }))
-  pub reads : n ≡ length (cells ram (glyphOf high (pen .slice)))
-
--- a code at an even address: its character fills its part of the line, or the line ends and the part stays
-pub record CodeDrawn (ram font : List ℕ) (at : ℕ) (pen : Pen) (part : List ℕ) (c : Coded) (part′ : List ℕ) : Type 0 where
+-- the code at an even address: does it end the line, which columns does its character have if not, and how many cells did it read?
+pub record CodeShown (ram font : List ℕ) (at : ℕ) (pen : Pen) (c : Coded) : Type 0 where
   pub ends : c .ended ≡ endsLine (getD ram (at + 1) 0)
-  pub pixels : part′
-      ≡ cond (c .ended) part
-      (take (length part) (character font (pen .plain) (pen .hidden) (record { low = getD ram at 0; glyph = value ram (glyphOf (getD ram (at + 1) 0) (pen .slice)) })))
-  pub reads : c .cells ≡ 2 + cond (c .ended) 0 (length (cells ram (glyphOf (getD ram (at + 1) 0) (pen .slice))))
+  pub pixels : pixelsOf (c .columns)
+      ≡ character font (pen .plain) (pen .hidden) (record { low = getD ram at 0; glyph = value ram (glyphOf (getD ram (at + 1) 0) (pen .slice)) })
+  pub reads : c .cells ≡ 2 + length (cells ram (glyphOf (getD ram (at + 1) 0) (pen .slice)))
 
 -- the room from pixel x to w holds the characters and then plain; the bytes before and after stay
 pub record RowDrawn (ram font : List ℕ) (address : ℕ) (pen : Pen) (x w : ℕ) (out : List ℕ) (n : ℕ) (out′ : List ℕ) : Type 0 where

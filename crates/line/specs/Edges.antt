@@ -10,7 +10,8 @@ use Rattle.registers.specs.declared.Settings.{Settings}
 use Rattle.raster.specs.Raster.{sliceNumber, firstPixelOf, hiddenIn}
 use Rattle.walk.specs.declared.Walk.{Walk}
 use Rattle.glyph.specs.Glyph.{glyphOf}
-use Rattle.line.specs.Line.{Place, scan, plainOf, character, paint}
+use Rattle.paint.specs.Pixels.{plainOf}
+use Rattle.line.specs.Line.{Place, scan, character, paint}
 
 pub data Row : Type 0 where
   -- slice for (CH, n)

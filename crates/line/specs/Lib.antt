@@ -2,4 +2,3 @@ pub mod Contracts
 pub mod Edges
 pub mod Line
 pub mod Rules
-pub mod Tables

@@ -1,11 +1,13 @@
 -- `draw_row`: each turn draws one more character (`RowInv`, `row-drawn`); the row ends at an end of line or where the room is full.
 -- Assumes nothing.
 use Prim.Native.Nat.{ℕ, _-_, _%_, _≤_}
-use mathlib.Core.Path.{_≡_}
-use borrow.Author.Needs.{needs}
+use mathlib.Core.Path.{_≡_, sym, ap, _∙_}
 use native.Mathlib.Omega.{arith}
-use lib.ListN.{length-take, length-drop}
-use Rattle.line.proofs.Turns.{part-twelve, RowInv, row-holds, code-few, row-bound, row-drawn, row-ended, row-full}
+use lib.ListN.{length, take, drop, length-take, length-drop}
+use lib.Seq.{take-all}
+use Rattle.paint.proofs.Spread.{pixels-length}
+use Rattle.line.proofs.Turns.{part-twelve, RowInv, row-holds, code-few, row-bound, row-drawn, row-ended, row-full, put-is}
+use borrow.Author.Needs.{needs}
 use Rattle.line.proofs.draw_row.Statement.{statement}
 use Rattle.line.proofs.draw_row.Tie as tie
 
@@ -42,43 +44,26 @@ loop-holds c =
     let s = c .before .before .before .before .before .before .before in
     (row-holds _ _ _ _ _ _ _ (c .even-address .result) (s .pre .0 .0) (c .even-address .ensures), omega (arith, s .pre .0 .0), omega (arith, s .pre .0 .0))
 
-add-e : tie.Need-add-e Inv-loop μ-loop
-add-e c = search needs
+slice-aggregate-code-at : tie.Need-slice-aggregate-code-at Inv-loop μ-loop
+slice-aggregate-code-at c = search needs
 
-sub-draw-whole : tie.Need-sub-draw-whole Inv-loop μ-loop
-sub-draw-whole c = search needs
+slice-aggregate-code-at-2 : tie.Need-slice-aggregate-code-at-2 Inv-loop μ-loop
+slice-aggregate-code-at-2 c = search needs
 
-part-draw-whole-start : tie.Need-part-draw-whole-start Inv-loop μ-loop
-part-draw-whole-start c = search needs
+slice-aggregate-code-at-3 : tie.Need-slice-aggregate-code-at-3 Inv-loop μ-loop
+slice-aggregate-code-at-3 c = search needs
 
-part-draw-whole-end : tie.Need-part-draw-whole-end Inv-loop μ-loop
-part-draw-whole-end c = search needs
-
-slice-aggregate-draw-whole : tie.Need-slice-aggregate-draw-whole Inv-loop μ-loop
-slice-aggregate-draw-whole c = search needs
-
-slice-aggregate-draw-whole-2 : tie.Need-slice-aggregate-draw-whole-2 Inv-loop μ-loop
-slice-aggregate-draw-whole-2 c = search needs
-
-slice-aggregate-draw-whole-3 : tie.Need-slice-aggregate-draw-whole-3 Inv-loop μ-loop
-slice-aggregate-draw-whole-3 c = search needs
-
-draw-whole-requires : tie.Need-draw-whole-requires Inv-loop μ-loop
-draw-whole-requires c κs =
-    let l = c .before .before .before .before .before .loop in
-    let p = c .before .before .before .before .before .before .before .before .before .before .before .before .before .pre in (
-      part-twelve (l .out) (l .x) _ (c .before .before .before .before .loop-test .taken) (l .inv .2) (omega (arith, l .inv .0 .long, p .0 .1)),
-      (
-        record { of-masks = c .before .before .before .before .before .before .before .before .before .mask-table .ensures; of-backs = c .before .before .before .before .before .before .before .before .backs-of .ensures; of-shows = c .before .before .before .before .before .before .before .shows-of .ensures },
-        (p .1 .0, (p .1 .1, omega (arith, l .inv .0 .paired))),
-      ),
-    )
+code-at-requires : tie.Need-code-at-requires Inv-loop μ-loop
+code-at-requires c κs =
+    let l = c .before .before .before .before .loop in
+    let p = c .before .before .before .before .before .before .before .before .before .before .before .before .pre in
+    (record { of-masks = c .before .before .before .before .before .before .before .before .mask-table .ensures; of-backs = c .before .before .before .before .before .before .before .backs-of .ensures; of-shows = c .before .before .before .before .before .before .shows-of .ensures }, (p .1 .0, (p .1 .1, omega (arith, l .inv .0 .paired))))
 
 add-cells : tie.Need-add-cells Inv-loop μ-loop
 add-cells c =
-    let l = c .before .before .before .before .before .before .before .before .before .loop in
-    let p = c .before .before .before .before .before .before .before .before .before .before .before .before .before .before .before .before .before .pre in
-    omega (arith, row-bound _ _ _ _ _ _ _ (l .out) (l .x) (l .a) (l .cells) (p .0 .2) (l .inv .0), code-few _ _ _ _ _ _ _ (c .before .before .before .draw-whole .ensures))
+    let l = c .before .before .before .before .before .before .loop in
+    let p = c .before .before .before .before .before .before .before .before .before .before .before .before .before .before .pre in
+    omega (arith, row-bound _ _ _ _ _ _ _ (l .out) (l .x) (l .a) (l .cells) (p .0 .2) (l .inv .0), code-few _ _ _ _ _ (c .before .code-at .ensures))
 
 sub-fill : tie.Need-sub-fill Inv-loop μ-loop
 sub-fill c = search needs
@@ -97,11 +82,27 @@ same-length c = search needs
 
 returns : tie.Need-returns Inv-loop μ-loop
 returns c =
-    let d = c .before .before .before .before .before .before .before .before in
-    let l = d .before .before .before .before .before .before .loop in
-    let p = c .before .before .before .before .before .before .before .before .before .before .before .before .before .before .before .before .before .before .before .before .before .before .pre in
-    row-ended _ _ _ _ _ _ _ (l .out) (l .x) (l .a) (l .cells) (l .inv .0) (omega (arith, d .before .before .before .before .before .loop-test .taken)) (p .0 .1) _ _ _ (d .draw-whole .ensures)
+    let l = c .before .before .before .before .before .before .before .before .before .before .before .loop in
+    let p = c .before .before .before .before .before .before .before .before .before .before .before .before .before .before .before .before .before .before .before .pre in
+    row-ended _ _ _ _ _ _ _ (l .out) (l .x) (l .a) (l .cells) (l .inv .0) (omega (arith, c .before .before .before .before .before .before .before .before .before .before .loop-test .taken)) (p .0 .1) _ (c .before .before .before .before .before .before .code-at .ensures)
     (c .before .before .before .before .if1 .taken) _ (c .before .before .fill .ensures)
+
+add-e : tie.Need-add-e Inv-loop μ-loop
+add-e c = search needs
+
+sub-put-whole : tie.Need-sub-put-whole Inv-loop μ-loop
+sub-put-whole c = search needs
+
+part-put-whole-start : tie.Need-part-put-whole-start Inv-loop μ-loop
+part-put-whole-start c = search needs
+
+part-put-whole-end : tie.Need-part-put-whole-end Inv-loop μ-loop
+part-put-whole-end c = search needs
+
+put-whole-requires : tie.Need-put-whole-requires Inv-loop μ-loop
+put-whole-requires c κs =
+    let l = c .before .before .before .before .before .before .before .before .loop in
+    part-twelve (l .out) (l .x) _ (c .before .before .before .before .before .before .before .loop-test .taken) (l .inv .2) (omega (arith, l .inv .0 .long, c .before .before .before .before .before .before .before .before .before .before .before .before .before .before .before .before .pre .0 .1))
 
 add-a : tie.Need-add-a Inv-loop μ-loop
 add-a c = search needs
@@ -114,36 +115,36 @@ loop-less c = search needs
 
 loop-again : tie.Need-loop-again Inv-loop μ-loop
 loop-again c =
-    let d = c .before .before .before .before in
-    let l = d .before .before .before .before .before .before .loop in
-    let p = c .before .before .before .before .before .before .before .before .before .before .before .before .before .before .before .before .before .before .pre in
-    let t = d .before .before .before .before .before .loop-test .taken in (
-      row-drawn _ _ _ _ _ _ _ (l .out) (l .x) (l .a) (l .cells) (l .inv .0) (omega arith) (p .0 .1) _ (omega arith) _ _ (d .draw-whole .ensures)
-          (c .if1 .left),
+    let l = c .before .before .before .before .before .before .before .before .before .before .before .loop in
+    let p = c .before .before .before .before .before .before .before .before .before .before .before .before .before .before .before .before .before .before .before .pre in
+    let t = c .before .before .before .before .before .before .before .before .before .before .loop-test .taken in
+    let k = c .before .before .before .before .before .before .code-at in (
+      row-drawn _ _ _ _ _ _ _ (l .out) (l .x) (l .a) (l .cells) (l .inv .0) (omega arith) (p .0 .1) _ (omega arith) (k .result) (k .ensures) (c .before .before .before .before .if1 .left) _
+          (put-is _ _ _ (part-twelve (l .out) (l .x) _ t (l .inv .2) (omega (arith, l .inv .0 .long, p .0 .1))) (c .before .before .put-whole .ensures)),
       omega (arith, l .inv .1, l .inv .2),
       omega (arith, l .inv .1, l .inv .2),
     )
 
-sub-draw-code : tie.Need-sub-draw-code Inv-loop μ-loop
-sub-draw-code c = search needs
+slice-aggregate-code-at-4 : tie.Need-slice-aggregate-code-at-4 Inv-loop μ-loop
+slice-aggregate-code-at-4 c = search needs
 
-part-draw-code-start : tie.Need-part-draw-code-start Inv-loop μ-loop
-part-draw-code-start c = search needs
+slice-aggregate-code-at-5 : tie.Need-slice-aggregate-code-at-5 Inv-loop μ-loop
+slice-aggregate-code-at-5 c = search needs
 
-part-draw-code-end : tie.Need-part-draw-code-end Inv-loop μ-loop
-part-draw-code-end c = search needs
+slice-aggregate-code-at-6 : tie.Need-slice-aggregate-code-at-6 Inv-loop μ-loop
+slice-aggregate-code-at-6 c = search needs
 
-draw-code-requires : tie.Need-draw-code-requires Inv-loop μ-loop
-draw-code-requires c κs =
-    let l = c .before .before .before .loop in
-    let p = c .before .before .before .before .before .before .before .before .before .before .before .pre in
-    (simp (length-take, length-drop) (omega (arith, l .inv .1)), (p .1 .0, (p .1 .1, omega (arith, l .inv .0 .paired))))
+code-at-requires-2 : tie.Need-code-at-requires-2 Inv-loop μ-loop
+code-at-requires-2 c κs =
+    let l = c .before .before .before .before .before .loop in
+    let p = c .before .before .before .before .before .before .before .before .before .before .before .before .before .pre in
+    (record { of-masks = c .before .before .before .before .before .before .before .before .before .mask-table .ensures; of-backs = c .before .before .before .before .before .before .before .before .backs-of .ensures; of-shows = c .before .before .before .before .before .before .before .shows-of .ensures }, (p .1 .0, (p .1 .1, omega (arith, l .inv .0 .paired))))
 
 add-cells-2 : tie.Need-add-cells-2 Inv-loop μ-loop
 add-cells-2 c =
     let l = c .before .before .before .before .before .before .before .loop in
     let p = c .before .before .before .before .before .before .before .before .before .before .before .before .before .before .before .pre in
-    omega (arith, row-bound _ _ _ _ _ _ _ (l .out) (l .x) (l .a) (l .cells) (p .0 .2) (l .inv .0), code-few _ _ _ _ _ _ _ (c .before .before .before .draw-code .ensures))
+    omega (arith, row-bound _ _ _ _ _ _ _ (l .out) (l .x) (l .a) (l .cells) (p .0 .2) (l .inv .0), code-few _ _ _ _ _ (c .before .code-at2 .ensures))
 
 sub-fill-2 : tie.Need-sub-fill-2 Inv-loop μ-loop
 sub-fill-2 c = search needs
@@ -162,23 +163,35 @@ same-length-2 c = search needs
 
 returns-2 : tie.Need-returns-2 Inv-loop μ-loop
 returns-2 c =
-    let d = c .before .before .before .before .before .before .before .before in
-    let l = d .before .before .before .before .loop in
+    let l = c .before .before .before .before .before .before .before .before .before .before .before .before .loop in
     let p = c .before .before .before .before .before .before .before .before .before .before .before .before .before .before .before .before .before .before .before .before .pre in
-    row-ended _ _ _ _ _ _ _ (l .out) (l .x) (l .a) (l .cells) (l .inv .0) (d .before .before .if2 .taken) (p .0 .1) _ _ _ (d .draw-code .ensures)
+    row-ended _ _ _ _ _ _ _ (l .out) (l .x) (l .a) (l .cells) (l .inv .0) (c .before .before .before .before .before .before .before .before .before .before .if2 .taken) (p .0 .1) _ (c .before .before .before .before .before .before .code-at2 .ensures)
     (c .before .before .before .before .if3 .taken) _ (c .before .before .fill2 .ensures)
+
+sub-put-cut : tie.Need-sub-put-cut Inv-loop μ-loop
+sub-put-cut c = search needs
+
+part-put-cut-start : tie.Need-part-put-cut-start Inv-loop μ-loop
+part-put-cut-start c = search needs
+
+part-put-cut-end : tie.Need-part-put-cut-end Inv-loop μ-loop
+part-put-cut-end c = search needs
+
+put-cut-requires : tie.Need-put-cut-requires Inv-loop μ-loop
+put-cut-requires c κs =
+    let l = c .before .before .before .before .before .before .before .before .before .loop in
+    simp (length-take, length-drop) (omega (arith, l .inv .1))
 
 same-length-3 : tie.Need-same-length-3 Inv-loop μ-loop
 same-length-3 c = search needs
 
 returns-3 : tie.Need-returns-3 Inv-loop μ-loop
 returns-3 c =
-    let d = c .before .before .before .before in
-    let l = d .before .before .before .before .loop in
-    let p = c .before .before .before .before .before .before .before .before .before .before .before .before .before .before .before .before .pre in
+    let l = c .before .before .before .before .before .before .before .before .before .before .before .before .loop in
+    let k = c .before .before .before .before .before .before .code-at2 in
     row-full _ _ _ _ _ _ _ _ _ _ _
-    (row-drawn _ _ _ _ _ _ _ (l .out) (l .x) (l .a) (l .cells) (l .inv .0) (d .before .before .if2 .taken) (p .0 .1) _ (omega arith) _ _
-    (d .draw-code .ensures) (c .if3 .left))
+    (row-drawn _ _ _ _ _ _ _ (l .out) (l .x) (l .a) (l .cells) (l .inv .0) (c .before .before .before .before .before .before .before .before .before .before .if2 .taken) (c .before .before .before .before .before .before .before .before .before .before .before .before .before .before .before .before .before .before .before .before .pre .0 .1) _ (omega arith) (k .result) (k .ensures) (c .before .before .before .before .if3 .left) _
+    (c .before .before .put-cut .ensures))
     (omega arith)
 
 same-length-4 : tie.Need-same-length-4 Inv-loop μ-loop
@@ -203,14 +216,10 @@ draw-row-spec =
     even-address-requires
     cast-a
     loop-holds
-    add-e
-    sub-draw-whole
-    part-draw-whole-start
-    part-draw-whole-end
-    slice-aggregate-draw-whole
-    slice-aggregate-draw-whole-2
-    slice-aggregate-draw-whole-3
-    draw-whole-requires
+    slice-aggregate-code-at
+    slice-aggregate-code-at-2
+    slice-aggregate-code-at-3
+    code-at-requires
     add-cells
     sub-fill
     part-fill-start
@@ -218,14 +227,19 @@ draw-row-spec =
     fill-requires
     same-length
     returns
+    add-e
+    sub-put-whole
+    part-put-whole-start
+    part-put-whole-end
+    put-whole-requires
     add-a
     mul-a
     loop-less
     loop-again
-    sub-draw-code
-    part-draw-code-start
-    part-draw-code-end
-    draw-code-requires
+    slice-aggregate-code-at-4
+    slice-aggregate-code-at-5
+    slice-aggregate-code-at-6
+    code-at-requires-2
     add-cells-2
     sub-fill-2
     part-fill-start-2
@@ -233,6 +247,10 @@ draw-row-spec =
     fill-requires-2
     same-length-2
     returns-2
+    sub-put-cut
+    part-put-cut-start
+    part-put-cut-end
+    put-cut-requires
     same-length-3
     returns-3
     same-length-4

@@ -1,6 +1,6 @@
 -- `draw_strip`: each way through the code is a case of `paint` and `shownRow`.
 -- Assumes nothing.
-use Rattle.line.specs.Line.{plainOf}
+use Rattle.paint.specs.Pixels.{plainOf}
 use native.Mathlib.Omega.{arith}
 use borrow.Author.Tests.{not-true, not-false}
 use Rattle.line.proofs.Strips.{on-strip, on-line, slice-most, strip-off, strip-plain, strip-characters, spacing-none, disabled-none}

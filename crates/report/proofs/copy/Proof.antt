@@ -5,7 +5,7 @@ use mathlib.Core.Path.{_≡_, refl, _∙_}
 use mathlib.Core.List.{_++_}
 use native.Mathlib.Omega.{arith}
 use lib.ListN.{length, take, drop, length-set}
-use Rattle.registers.proofs.Written.{written-more, written-whole}
+use Rattle.facts.proofs.Written.{written-more, written-whole}
 use borrow.Author.Needs.{needs}
 use Rattle.report.proofs.copy.Statement.{statement}
 use Rattle.report.proofs.copy.Tie as tie

@@ -6,7 +6,7 @@ use mathlib.Core.List.{_++_, map}
 use native.Mathlib.Omega.{arith}
 use denote.Ref.{now}
 use lib.ListN.{length, take, drop, length-set}
-use Rattle.registers.proofs.Written.{written-more, written-whole}
+use Rattle.facts.proofs.Written.{written-more, written-whole}
 use Rattle.report.specs.Report.{hexDigit}
 use Rattle.report.proofs.Texts.{map-length, map-at}
 use borrow.Author.Needs.{needs}

@@ -11,7 +11,7 @@ use denote.Ref.{now}
 use Rattle.registers.specs.declared.Registers.{Registers}
 use Rattle.registers.specs.Registers.{kept, loaded}
 use Rattle.registers.proofs.Laws.{zip-length, zip-at}
-use Rattle.registers.proofs.Written.{written-more, written-whole}
+use Rattle.facts.proofs.Written.{written-more, written-whole}
 use Rattle.registers.proofs.Registers.load.Statement.{statement}
 use Rattle.registers.proofs.Registers.load.Tie as tie
 

@@ -1,0 +1,78 @@
+-- The laws of pixels: a character has twelve, each below 16.
+-- Assumes nothing.
+use Prim.Native.Nat.{ℕ, zero, suc, _/_, _%_, _^_, _<_}
+use mathlib.Core.Path.{_≡_, refl, ap}
+use mathlib.Core.Bool.{Bool, true, false}
+use mathlib.Core.List.{List, [], _∷_, _++_}
+use native.Mathlib.Omega.{arith}
+use lib.Dec.{eqb}
+use lib.ListN.{length, getD, take, replicate}
+use Rattle.facts.proofs.Choice.{either}
+use Rattle.paint.specs.Pixels.{Ink, background, inkOf, shownBits, columns, twelveColumns}
+
+-- ---- how many
+
+columns-length : (n : ℕ) (ink : Ink) (bits left : ℕ) → length (columns n ink bits left) ≡ n
+unfolding columns
+columns-length zero ink bits left = refl
+columns-length (suc n) ink bits left = ap suc (columns-length n ink bits (bits / 2 ^ n % 2))
+
+pub twelve-length : (plain : ℕ) (hidden : Bool) (low bits : ℕ) → length (twelveColumns plain hidden low bits) ≡ 12
+unfolding twelveColumns
+twelve-length plain hidden low bits = columns-length 12 (inkOf plain low) (shownBits hidden low bits) 0
+
+-- ---- each below 16
+
+abbrev Pixel : ℕ → Type 0
+Pixel x = x < 16
+
+-- every number of the list is a pixel
+pub data Pixels : List ℕ → Type 0 where
+  none : Pixels []
+  more : {x : ℕ} {xs : List ℕ} → x < 16 → Pixels xs → Pixels (x ∷ xs)
+
+pub pixels-at : {xs : List ℕ} → Pixels xs → (i : ℕ) → getD xs i 0 < 16
+pixels-at none i = omega arith
+pixels-at (more h p) zero = h
+pixels-at (more h p) (suc i) = pixels-at p i
+
+pub pixels-append : {xs ys : List ℕ} → Pixels xs → Pixels ys → Pixels (xs ++ ys)
+pixels-append none q = q
+pixels-append (more h p) q = more h (pixels-append p q)
+
+pub pixels-take : (n : ℕ) {xs : List ℕ} → Pixels xs → Pixels (take n xs)
+pixels-take zero p = none
+pixels-take (suc n) none = none
+pixels-take (suc n) (more h p) = more h (pixels-take n p)
+
+pub pixels-replicate : (n x : ℕ) → x < 16 → Pixels (replicate n x)
+pixels-replicate zero x h = none
+pixels-replicate (suc n) x h = more h (pixels-replicate n x h)
+
+-- the pixels that a code draws with are pixels
+record Inks (ink : Ink) : Type 0 where
+  fore : ink .fore < 16
+  cast : ink .cast < 16
+  back : ink .back < 16
+
+background-below : (plain low : ℕ) (beside : Bool) → plain < 16 → background plain low beside < 16
+background-below plain low beside h =
+    either Pixel (eqb (low / 8 % 2) 0) _ _ (omega arith)
+    (either Pixel (eqb (low / 2 % 2) 0) _ _ h (either Pixel beside _ _ (omega arith) h))
+
+ink-below : (plain low : ℕ) → plain < 16 → Inks (inkOf plain low)
+unfolding inkOf
+ink-below plain low h =
+    record { fore = omega arith; cast = background-below plain low true h; back = background-below plain low false h }
+
+columns-pixels : (n : ℕ) (ink : Ink) (bits left : ℕ) → Inks ink → Pixels (columns n ink bits left)
+unfolding columns
+columns-pixels zero ink bits left h = none
+columns-pixels (suc n) ink bits left h =
+    more
+    (either Pixel (eqb (bits / 2 ^ n % 2) 1) _ _ (h .fore) (either Pixel (eqb left 1) _ _ (h .cast) (h .back)))
+    (columns-pixels n ink bits (bits / 2 ^ n % 2) h)
+
+pub twelve-pixels : (plain : ℕ) (hidden : Bool) (low bits : ℕ) → plain < 16 → Pixels (twelveColumns plain hidden low bits)
+unfolding twelveColumns
+twelve-pixels plain hidden low bits h = columns-pixels 12 (inkOf plain low) (shownBits hidden low bits) 0 (ink-below plain low h)

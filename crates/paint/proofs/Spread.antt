@@ -1,0 +1,465 @@
+-- Four columns at a time: the bytes of the numbers that the tables make are the columns.
+-- Assumes nothing.
+use Prim.Native.Nat.{ℕ, zero, suc, _+_, _-_, _*_, _/_, _%_, _^_, _≤_, _<_}
+use mathlib.Core.Path.{_≡_, refl, sym, ap, ap₂, _∙_, subst}
+use mathlib.Core.Bool.{Bool, true, false, cond, _&&_}
+use mathlib.Core.List.{List, [], _∷_, _++_}
+use native.Mathlib.Nat.{div-div-eq-div-mul, add-zero, add-suc, suc-add, not-suc-le-zero, le-of-suc-le-suc}
+use native.Mathlib.Omega.{arith}
+use lib.Arith.{bin-ind}
+use lib.Bits.{differ, bitAnd, bitXor, xor-step, xor-zero-l, xor-zero-r, xor-lt, and-zero-l, and-zero-r, and-comm, and-mask, and-mod, xor-mod, and-shr, xor-shr}
+use native.Mathlib.Decide.{ℕ-discrete}
+use borrow.Author.Tests.{eq-eqb, ne-eqb, lt-ltb, le-ltb, le-leb, lt-leb}
+use borrow.Rule.Slice.PartMut.{putMid}
+use lib.Dec.{eqb, ltb, leb}
+use lib.ListN.{length, getD, drop, set, length-append, List·getD-append}
+use lib.Seq.{getD-append-add, drop-drop, drop-length}
+use Rattle.paint.specs.declared.Paint.{Paint}
+use Rattle.paint.specs.declared.Fours.{Fours}
+use Rattle.paint.specs.Pixels.{Ink, inkOf, pixel, columns, shownBits, twelveColumns}
+use Rattle.paint.specs.Tables.{inFour, facing, casting, ofPixel, fores, backs, shows, paintOf, castsShadow, solid, shadowed, fourOf, inFours, pixelsOf}
+
+-- ---- exclusive or and masks on bytes
+
+differ-again : (a b : ℕ) → a < 2 → b < 2 → differ a (differ a b) ≡ b
+differ-again zero b h k = refl
+differ-again (suc zero) zero h k = refl
+differ-again (suc zero) (suc zero) h k = refl
+differ-again (suc zero) (suc (suc b)) h k = omega arith
+differ-again (suc (suc a)) b h k = omega arith
+
+pub xor-again : (a b : ℕ) → bitXor a (bitXor a b) ≡ b
+xor-again = bin-ind (λ (a : ℕ). (b : ℕ) → bitXor a (bitXor a b) ≡ b) base step
+  where
+    base : (b : ℕ) → bitXor 0 (bitXor 0 b) ≡ b
+    base b = xor-zero-l (bitXor 0 b) ∙ xor-zero-l b
+
+    small : (a b : ℕ) → a < 2 → b < 2 → differ a b < 2
+    small zero b h k = k
+    small (suc zero) zero h k = h
+    small (suc zero) (suc zero) h k = omega arith
+    small (suc zero) (suc (suc b)) h k = omega arith
+    small (suc (suc a)) b h k = omega arith
+
+    step : (a : ℕ) → ((b : ℕ) → bitXor (a / 2) (bitXor (a / 2) b) ≡ b) → (b : ℕ) → bitXor a (bitXor a b) ≡ b
+    step a ih b =
+        let e = xor-step a b in
+        let d = small (a % 2) (b % 2) (omega arith) (omega arith) in
+        let half : bitXor a b / 2 ≡ bitXor (a / 2) (b / 2) = omega arith in
+        let odd : bitXor a b % 2 ≡ differ (a % 2) (b % 2) = omega arith in
+        xor-step a (bitXor a b)
+        ∙ ap₂ (λ (x y : ℕ). bitXor (a / 2) x * 2 + differ (a % 2) y) half odd
+        ∙ ap₂ (λ (x y : ℕ). x * 2 + y) (ih (b / 2)) (differ-again (a % 2) (b % 2) (omega arith) (omega arith))
+        ∙ omega arith
+
+-- the byte that starts at bit k
+abbrev lane : ℕ → ℕ → ℕ
+lane k n = n / 2 ^ k % 2 ^ 8
+
+lane-xor : (k a b : ℕ) → lane k (bitXor a b) ≡ bitXor (lane k a) (lane k b)
+lane-xor k a b = ap (λ (n : ℕ). n % 2 ^ 8) (xor-shr a b k) ∙ xor-mod (a / 2 ^ k) (b / 2 ^ k) 8
+
+lane-and : (k a b : ℕ) → lane k (bitAnd a b) ≡ bitAnd (lane k a) (lane k b)
+lane-and k a b = ap (λ (n : ℕ). n % 2 ^ 8) (and-shr a b k) ∙ and-mod (a / 2 ^ k) (b / 2 ^ k) 8
+
+-- the bytes of a number that is made of four
+module _ (a b c d : ℕ) (ha : a < 256) (hb : b < 256) (hc : c < 256) (hd : d < 256) where
+  rest : (x q : ℕ) → x < 256 → (x + 256 * q) / 256 ≡ q
+  rest x q h = omega arith
+
+  low : (x q : ℕ) → x < 256 → (x + 256 * q) % 256 ≡ x
+  low x q h = omega arith
+
+  by-bytes : inFour a b c d ≡ a + 256 * (b + 256 * (c + 256 * d))
+  by-bytes = omega arith
+
+  from-1 : inFour a b c d / 256 ≡ b + 256 * (c + 256 * d)
+  from-1 = ap (λ (n : ℕ). n / 256) by-bytes ∙ rest a (b + 256 * (c + 256 * d)) ha
+
+  from-2 : inFour a b c d / 65536 ≡ c + 256 * d
+  from-2 = sym (div-div-eq-div-mul (inFour a b c d) 256 256) ∙ ap (λ (n : ℕ). n / 256) from-1 ∙ rest b (c + 256 * d) hb
+
+  from-3 : inFour a b c d / 16777216 ≡ d
+  from-3 = sym (div-div-eq-div-mul (inFour a b c d) 65536 256) ∙ ap (λ (n : ℕ). n / 256) from-2 ∙ rest c d hc
+
+  byte-0 : lane 0 (inFour a b c d) ≡ a
+  byte-0 = ap (λ (n : ℕ). n / 1 % 256) by-bytes ∙ div-one (a + 256 * (b + 256 * (c + 256 * d))) ∙ low a (b + 256 * (c + 256 * d)) ha
+    where
+      div-one : (n : ℕ) → n / 1 % 256 ≡ n % 256
+      div-one n = omega arith
+
+  byte-1 : lane 8 (inFour a b c d) ≡ b
+  byte-1 = ap (λ (n : ℕ). n % 256) from-1 ∙ low b (c + 256 * d) hb
+
+  byte-2 : lane 16 (inFour a b c d) ≡ c
+  byte-2 = ap (λ (n : ℕ). n % 256) from-2 ∙ low c d hc
+
+  byte-3 : lane 24 (inFour a b c d) ≡ d
+  byte-3 = ap (λ (n : ℕ). n % 256) from-3 ∙ omega arith
+
+-- the same, of a number in each of the four
+of-four : (p : ℕ) → ofPixel p ≡ inFour p p p p
+of-four p = omega arith
+
+times-four : (a b c d : ℕ) → 255 * inFour a b c d ≡ inFour (255 * a) (255 * b) (255 * c) (255 * d)
+times-four a b c d = omega arith
+
+-- a whole mask keeps a byte
+and-whole : (a : ℕ) → a < 256 → bitAnd 255 a ≡ a
+and-whole a h = and-comm 255 a ∙ and-mask a 8 ∙ omega arith
+
+-- a column from the masks of its bit and of the bit to its left
+module _ (fore cast back : ℕ) (hf : fore < 256) (hc : cast < 256) (hb : back < 256) where
+  changed : bitAnd 255 (bitXor back fore) ≡ bitXor back fore
+  changed = and-whole (bitXor back fore) (xor-lt 8 back fore hb hf)
+
+  cast-changed : bitAnd 255 (bitXor back cast) ≡ bitXor back cast
+  cast-changed = and-whole (bitXor back cast) (xor-lt 8 back cast hb hc)
+
+  taken : bitXor back (bitXor (bitAnd 255 (bitXor back fore)) (bitAnd 0 (bitXor back cast))) ≡ fore
+  taken =
+      ap₂ (λ (x y : ℕ). bitXor back (bitXor x y)) changed (and-zero-l (bitXor back cast))
+      ∙ ap (bitXor back) (xor-zero-r (bitXor back fore))
+      ∙ xor-again back fore
+
+  chosen : (bit left : ℕ) → bit < 2 → left < 2
+      → bitXor back (bitXor (bitAnd (255 * bit) (bitXor back fore)) (bitAnd (255 * (left - bit)) (bitXor back cast)))
+      ≡ cond (eqb bit 1) fore (cond (eqb left 1) cast back)
+  chosen zero zero h k =
+      ap₂ (λ (x y : ℕ). bitXor back (bitXor x y)) (and-zero-l (bitXor back fore)) (and-zero-l (bitXor back cast)) ∙ xor-zero-r back
+  chosen zero (suc zero) h k =
+      ap₂ (λ (x y : ℕ). bitXor back (bitXor x y)) (and-zero-l (bitXor back fore)) cast-changed
+      ∙ ap (bitXor back) (xor-zero-l (bitXor back cast))
+      ∙ xor-again back cast
+  chosen (suc zero) zero h k = taken
+  chosen (suc zero) (suc zero) h k = taken
+  chosen zero (suc (suc n)) h k = absurd (omega arith)
+  chosen (suc zero) (suc (suc n)) h k = absurd (omega arith)
+  chosen (suc (suc n)) left h k = absurd (omega arith)
+
+  chosen-solid : (bit left : ℕ) → bit < 2
+      → bitXor back (bitAnd (255 * bit) (bitXor back fore)) ≡ cond (eqb bit 1) fore (cond (eqb left 1) back back)
+  chosen-solid zero left h = ap (bitXor back) (and-zero-l (bitXor back fore)) ∙ xor-zero-r back ∙ same (eqb left 1)
+    where
+      same : (t : Bool) → back ≡ cond t back back
+      same true = refl
+      same false = refl
+  chosen-solid (suc zero) left h = ap (bitXor back) changed ∙ xor-again back fore
+  chosen-solid (suc (suc n)) left h = absurd (omega arith)
+
+-- ---- four columns
+
+-- the columns of an index: the bit to the left, then four
+abbrev fourColumns : Ink → ℕ → List ℕ
+fourColumns ink i =
+    pixel ink (i / 8 % 2) (i / 16 % 2) ∷ pixel ink (i / 4 % 2) (i / 8 % 2) ∷ pixel ink (i / 2 % 2) (i / 4 % 2) ∷ pixel ink (i % 2) (i / 2 % 2) ∷ []
+
+-- a byte that is a column: k is 0, 8, 16 or 24
+record Column (k i bit left : ℕ) : Type 0 where
+  of-pixel : (p : ℕ) → p < 256 → lane k (ofPixel p) ≡ p
+  faces : lane k (facing i) ≡ 255 * bit
+  casts : lane k (casting i) ≡ 255 * (left - bit)
+  one : bit < 2
+  two : left < 2
+
+module _ (i : ℕ) where
+  -- a bit's mask, and that of a bit beside
+  bit-mask : (n : ℕ) → 255 * (n % 2) < 256
+  bit-mask n = omega arith
+
+  beside-mask : (m n : ℕ) → 255 * (m % 2 - n % 2) < 256
+  beside-mask m n = omega arith
+
+  -- the byte that starts at bit k is the one that `at` picks of four
+  column-of : (k bit left : ℕ) (at : ℕ → ℕ → ℕ → ℕ → ℕ)
+      → ((a b c d : ℕ) → a < 256 → b < 256 → c < 256 → d < 256 → lane k (inFour a b c d) ≡ at a b c d) → ((p : ℕ) → at p p p p ≡ p)
+      → at (255 * (i / 8 % 2)) (255 * (i / 4 % 2)) (255 * (i / 2 % 2)) (255 * (i % 2)) ≡ 255 * bit
+      → at (255 * (i / 16 % 2 - i / 8 % 2)) (255 * (i / 8 % 2 - i / 4 % 2)) (255 * (i / 4 % 2 - i / 2 % 2)) (255 * (i / 2 % 2 - i % 2)) ≡ 255 * (left - bit)
+      → bit < 2 → left < 2 → Column k i bit left
+  unfolding facing casting
+  column-of k bit left at byte same f g h j =
+      record {
+        of-pixel = λ p h. ap (lane k) (of-four p) ∙ byte p p p p h h h h ∙ same p;
+        faces =
+            ap (lane k) (times-four (i / 8 % 2) (i / 4 % 2) (i / 2 % 2) (i % 2))
+            ∙ byte _ _ _ _ (bit-mask (i / 8)) (bit-mask (i / 4)) (bit-mask (i / 2)) (bit-mask i)
+            ∙ f;
+        casts =
+            ap (lane k) (times-four (i / 16 % 2 - i / 8 % 2) (i / 8 % 2 - i / 4 % 2) (i / 4 % 2 - i / 2 % 2) (i / 2 % 2 - i % 2))
+            ∙ byte _ _ _ _ (beside-mask (i / 16) (i / 8)) (beside-mask (i / 8) (i / 4)) (beside-mask (i / 4) (i / 2)) (beside-mask (i / 2) i)
+            ∙ g;
+        one = h;
+        two = j;
+      }
+
+  column-0 : Column 0 i (i / 8 % 2) (i / 16 % 2)
+  column-0 = column-of 0 _ _ (λ a b c d. a) byte-0 (λ p. refl) refl refl (omega arith) (omega arith)
+
+  column-1 : Column 8 i (i / 4 % 2) (i / 8 % 2)
+  column-1 = column-of 8 _ _ (λ a b c d. b) byte-1 (λ p. refl) refl refl (omega arith) (omega arith)
+
+  column-2 : Column 16 i (i / 2 % 2) (i / 4 % 2)
+  column-2 = column-of 16 _ _ (λ a b c d. c) byte-2 (λ p. refl) refl refl (omega arith) (omega arith)
+
+  column-3 : Column 24 i (i % 2) (i / 2 % 2)
+  column-3 = column-of 24 _ _ (λ a b c d. d) byte-3 (λ p. refl) refl refl (omega arith) (omega arith)
+
+-- four numbers that are columns in their bytes
+four-columns : (ink : Ink) (i n : ℕ) → ((k bit left : ℕ) → Column k i bit left → lane k n ≡ pixel ink bit left) → fourOf n ≡ fourColumns ink i
+unfolding fourOf
+four-columns ink i n h =
+    let first : n % 256 ≡ lane 0 n = omega arith in
+    ap₂ (λ (x : ℕ) (l : List ℕ). x ∷ l) (first ∙ h 0 _ _ (column-0 i))
+    (ap₂ (λ (x : ℕ) (l : List ℕ). x ∷ l) (h 8 _ _ (column-1 i)) (ap₂ (λ (x y : ℕ). x ∷ y ∷ []) (h 16 _ _ (column-2 i)) (h 24 _ _ (column-3 i))))
+
+-- the paint of an ink, and the bits that are shown
+abbrev painting : Ink → ℕ → Paint
+painting ink kept =
+    record {
+      back = ofPixel (ink .back);
+      fore = bitXor (ofPixel (ink .back)) (ofPixel (ink .fore));
+      cast = bitXor (ofPixel (ink .back)) (ofPixel (ink .cast));
+      kept = kept;
+    }
+
+module _ (ink : Ink) (kept : ℕ) (hf : ink .fore < 256) (hc : ink .cast < 256) (hb : ink .back < 256) where
+  -- a change to a pixel, in a byte
+  lane-change : (k i bit left p : ℕ) → Column k i bit left → p < 256 → lane k (bitXor (ofPixel (ink .back)) (ofPixel p)) ≡ bitXor (ink .back) p
+  lane-change k i bit left p c h =
+      lane-xor k (ofPixel (ink .back)) (ofPixel p) ∙ ap₂ bitXor (c .of-pixel (ink .back) hb) (c .of-pixel p h)
+
+  lane-shadowed : (k i bit left : ℕ) → Column k i bit left → lane k (shadowed (painting ink kept) i) ≡ pixel ink bit left
+  unfolding shadowed
+  lane-shadowed k i bit left c =
+      lane-xor k _ _
+      ∙ ap₂ bitXor (c .of-pixel (ink .back) hb)
+      (lane-xor k _ _
+      ∙ ap₂ bitXor
+      (lane-and k _ _ ∙ ap₂ bitAnd (c .faces) (lane-change k i bit left (ink .fore) c hf))
+      (lane-and k _ _ ∙ ap₂ bitAnd (c .casts) (lane-change k i bit left (ink .cast) c hc)))
+      ∙ chosen (ink .fore) (ink .cast) (ink .back) hf hc hb bit left (c .one) (c .two)
+
+  -- where shadow is no other pixel than background
+  lane-solid : (k i bit left : ℕ) → ink .cast ≡ ink .back → Column k i bit left → lane k (solid (painting ink kept) i) ≡ pixel ink bit left
+  unfolding solid
+  lane-solid k i bit left e c =
+      lane-xor k _ _
+      ∙ ap₂ bitXor (c .of-pixel (ink .back) hb)
+      (lane-and k _ _ ∙ ap₂ bitAnd (c .faces) (lane-change k i bit left (ink .fore) c hf))
+      ∙ chosen-solid (ink .fore) (ink .cast) (ink .back) hf hc hb bit left (c .one)
+      ∙ ap (λ (x : ℕ). cond (eqb bit 1) (ink .fore) (cond (eqb left 1) x (ink .back))) (sym e)
+
+-- ---- twelve columns
+
+-- four pixels of a bit to the left and four bits
+abbrev bitsFour : Ink → ℕ → ℕ → ℕ → ℕ → ℕ → List ℕ
+bitsFour ink a b c d e = pixel ink b a ∷ pixel ink c b ∷ pixel ink d c ∷ pixel ink e d ∷ []
+
+four-same : (ink : Ink) (a b c d e i : ℕ) → a ≡ i / 16 % 2 → b ≡ i / 8 % 2 → c ≡ i / 4 % 2 → d ≡ i / 2 % 2 → e ≡ i % 2
+    → bitsFour ink a b c d e ≡ fourColumns ink i
+four-same ink a b c d e i p q r s t = cc
+
+-- a character's columns are those of three indices
+columns-four : (ink : Ink) (bits : ℕ) → bits < 4096
+    → columns 12 ink bits 0 ≡ fourColumns ink (bits / 256) ++ (fourColumns ink (bits / 16 % 32) ++ fourColumns ink (bits % 32))
+unfolding columns
+columns-four ink bits h =
+    ap₂ (λ (k l : List ℕ). k ++ l)
+    (four-same ink 0 (bits / 2048 % 2) (bits / 1024 % 2) (bits / 512 % 2) (bits / 256 % 2) (bits / 256)
+    (omega arith) (omega arith) (omega arith) (omega arith) refl)
+    (ap₂ (λ (k l : List ℕ). k ++ l)
+    (four-same ink (bits / 256 % 2) (bits / 128 % 2) (bits / 64 % 2) (bits / 32 % 2) (bits / 16 % 2) (bits / 16 % 32)
+    (omega arith) (omega arith) (omega arith) (omega arith) (omega arith))
+    (four-same ink (bits / 16 % 2) (bits / 8 % 2) (bits / 4 % 2) (bits / 2 % 2) (bits / 1 % 2) (bits % 32)
+    (omega arith) (omega arith) (omega arith) (omega arith) (omega arith)))
+
+-- twelve columns made of numbers that are each four of them
+twelve-columns : (ink : Ink) (four : ℕ → ℕ) (bits : ℕ) → bits < 4096 → ((i k bit left : ℕ) → Column k i bit left → lane k (four i) ≡ pixel ink bit left)
+    → pixelsOf (inFours four bits) ≡ columns 12 ink bits 0
+unfolding pixelsOf inFours
+twelve-columns ink four bits h f =
+    let of : (i : ℕ) → fourOf (four i) ≡ fourColumns ink i = λ i. four-columns ink i (four i) (f i) in
+    ap₂ (λ (k l : List ℕ). k ++ l) (of (bits / 256)) (ap₂ (λ (k l : List ℕ). k ++ l) (of (bits / 16 % 32)) (of (bits % 32))) ∙ sym (columns-four ink bits h)
+
+-- ---- what a code draws with
+
+module _ (plain : ℕ) (hidden : Bool) (low : ℕ) where
+  -- the ink with shadow as its cast pixel, whether or not the code casts one
+  shadowInk : Ink
+  shadowInk = record { fore = inkOf plain low .fore; cast = 8; back = inkOf plain low .back }
+
+  back-is : backs plain (low % 16) ≡ ofPixel (inkOf plain low .back)
+  unfolding backs inkOf
+  back-is = ap ofPixel (by (ℕ-discrete (low / 8 % 2) 0))
+    where
+      either : (t : Bool) → plain ≡ cond t plain plain
+      either true = refl
+      either false = refl
+
+      by : Dec (low / 8 % 2 ≡ 0)
+          → cond (ltb (low % 16) 8) (8 + low % 16) plain ≡ cond (eqb (low / 8 % 2) 0) (8 + low % 8) (cond (eqb (low / 2 % 2) 0) plain plain)
+      by (yes e) = let h : low % 16 < 8 = omega arith in rw (lt-ltb _ _ h, eq-eqb _ _ e) (omega arith)
+      by (no e) = let h : 8 ≤ low % 16 = omega arith in rw (le-ltb _ _ h, ne-eqb _ _ e) (either (eqb (low / 2 % 2) 0))
+
+  paint-is : paintOf plain hidden low ≡ painting shadowInk (shows hidden (low / 16))
+  unfolding paintOf fores inkOf shadowInk
+  paint-is = ap (λ (b : ℕ). record { back = b; fore = bitXor b (ofPixel (8 + low / 16 % 8)); cast = bitXor b (ofPixel 8); kept = shows hidden (low / 16) }) back-is
+
+  cast-shadow : castsShadow low ≡ true → 8 ≡ inkOf plain low .cast
+  unfolding inkOf
+  cast-shadow e = by (eqb (low / 8 % 2) 0) (eqb (low / 2 % 2) 0) e
+    where
+      by : (s t : Bool) → cond s false (cond t false true) ≡ true → 8 ≡ cond s (8 + low % 8) (cond t plain 8)
+      by true t q = let z : _≡_ {A = ℕ} 0 1 = cc in absurd (omega arith)
+      by false true q = let z : _≡_ {A = ℕ} 0 1 = cc in absurd (omega arith)
+      by false false q = refl
+
+  cast-back : castsShadow low ≡ false → inkOf plain low .cast ≡ inkOf plain low .back
+  unfolding inkOf
+  cast-back e = by (eqb (low / 8 % 2) 0) (eqb (low / 2 % 2) 0) e
+    where
+      by : (s t : Bool) → cond s false (cond t false true) ≡ false → cond s (8 + low % 8) (cond t plain 8) ≡ cond s (8 + low % 8) (cond t plain plain)
+      by true t q = refl
+      by false true q = refl
+      by false false q = let z : _≡_ {A = ℕ} 0 1 = cc in absurd (omega arith)
+
+  module _ (h : plain < 256) (bits : ℕ) (k : bits < 4096) where
+    small : (s t : Bool) (x : ℕ) → x < 256 → cond s (8 + low % 8) (cond t plain x) < 256
+    small true t x i = omega arith
+    small false true x i = h
+    small false false x i = i
+
+    fore-small : inkOf plain low .fore < 256
+    unfolding inkOf
+    fore-small = omega arith
+
+    cast-small : inkOf plain low .cast < 256
+    unfolding inkOf
+    cast-small = small (eqb (low / 8 % 2) 0) (eqb (low / 2 % 2) 0) 8 (omega arith)
+
+    back-small : inkOf plain low .back < 256
+    unfolding inkOf
+    back-small = small (eqb (low / 8 % 2) 0) (eqb (low / 2 % 2) 0) plain h
+
+    drawn-shadowed : castsShadow low ≡ true → pixelsOf (inFours (shadowed (paintOf plain hidden low)) bits) ≡ columns 12 (inkOf plain low) bits 0
+    unfolding shadowInk
+    drawn-shadowed e =
+        ap (λ (p : Paint). pixelsOf (inFours (shadowed p) bits)) paint-is
+        ∙ twelve-columns shadowInk _ bits k (λ i n bit left. lane-shadowed shadowInk (shows hidden (low / 16)) fore-small (omega arith) back-small n i bit left)
+        ∙ ap (λ (x : ℕ). columns 12 (record { fore = inkOf plain low .fore; cast = x; back = inkOf plain low .back }) bits 0) (cast-shadow e)
+
+    drawn-solid : castsShadow low ≡ false → pixelsOf (inFours (solid (paintOf plain hidden low)) bits) ≡ columns 12 (inkOf plain low) bits 0
+    unfolding shadowInk solid
+    drawn-solid e =
+        ap (λ (p : Paint). pixelsOf (inFours (solid p) bits)) paint-is
+        ∙ twelve-columns (inkOf plain low) _ bits k (λ i n bit left. lane-solid (inkOf plain low) (shows hidden (low / 16)) fore-small cast-small back-small n i bit left (cast-back e))
+
+-- ---- the bits that are shown
+
+module _ (hidden : Bool) (low word : ℕ) (h : low < 256) where
+  -- FL is the low byte's top bit
+  flash-is : leb 8 (low / 16) ≡ eqb (low / 128 % 2) 1
+  flash-is = by (ℕ-discrete (low / 128 % 2) 1)
+    where
+      by : Dec (low / 128 % 2 ≡ 1) → leb 8 (low / 16) ≡ eqb (low / 128 % 2) 1
+      by (yes e) = let k : 8 ≤ low / 16 = omega arith in le-leb _ _ k ∙ sym (eq-eqb _ _ e)
+      by (no e) = let k : low / 16 < 8 = omega arith in lt-leb _ _ k ∙ sym (ne-eqb _ _ e)
+
+  bits-are : (plain : ℕ) (p : Paint) → p ≡ paintOf plain hidden low → bitAnd word (p .kept) ≡ shownBits hidden low (word % 4096)
+  unfolding paintOf shows
+  bits-are plain p e =
+      ap (λ (q : Paint). bitAnd word (q .kept)) e
+      ∙ ap (λ (t : Bool). bitAnd word (cond (t && hidden) 0 4095)) flash-is
+      ∙ by (eqb (low / 128 % 2) 1 && hidden)
+    where
+      by : (t : Bool) → bitAnd word (cond t 0 4095) ≡ cond t 0 (word % 4096)
+      by true = and-zero-r word
+      by false = and-mask word 12
+
+  bits-most : shownBits hidden low (word % 4096) < 4096
+  bits-most = by (eqb (low / 128 % 2) 1 && hidden)
+    where
+      by : (t : Bool) → cond t 0 (word % 4096) < 4096
+      by true = omega arith
+      by false = omega arith
+
+-- ---- a character
+
+module _ (plain : ℕ) (hidden : Bool) (low word : ℕ) (h : plain < 256) (k : low < 256) (p : Paint) (e : p ≡ paintOf plain hidden low) where
+  pub bits-fit : bitAnd word (p .kept) < 4096
+  bits-fit = subst (λ (n : ℕ). n < 4096) (sym (bits-are hidden low word k plain p e)) (bits-most hidden low word k)
+
+  -- the code's paint, and the bits that are shown
+  inked : (four : Paint → ℕ → ℕ) (c : Fours) → c ≡ inFours (four p) (bitAnd word (p .kept))
+      → pixelsOf (inFours (four (paintOf plain hidden low)) (shownBits hidden low (word % 4096))) ≡ twelveColumns plain hidden low (word % 4096)
+      → pixelsOf c ≡ twelveColumns plain hidden low (word % 4096)
+  inked four c q d = ap pixelsOf (q ∙ ap₂ (λ (x : Paint) (b : ℕ). inFours (four x) b) e (bits-are hidden low word k plain p e)) ∙ d
+
+  pub character-shadowed : (c : Fours) → c ≡ inFours (shadowed p) (bitAnd word (p .kept)) → castsShadow low ≡ true
+      → pixelsOf c ≡ twelveColumns plain hidden low (word % 4096)
+  character-shadowed c q s =
+      inked shadowed c q (unfold twelveColumns in drawn-shadowed plain hidden low h _ (bits-most hidden low word k) s)
+
+  pub character-solid : (c : Fours) → c ≡ inFours (solid p) (bitAnd word (p .kept)) → castsShadow low ≡ false
+      → pixelsOf c ≡ twelveColumns plain hidden low (word % 4096)
+  character-solid c q s = inked solid c q (unfold twelveColumns in drawn-solid plain hidden low h _ (bits-most hidden low word k) s)
+
+-- ---- four stores, and three parts of four
+
+set-four : (l : List ℕ) (a b c d : ℕ) → length l ≡ 4 → set (set (set (set l 0 a) 1 b) 2 c) 3 d ≡ a ∷ b ∷ c ∷ d ∷ []
+set-four (x ∷ y ∷ z ∷ w ∷ []) a b c d h = refl
+set-four (x ∷ y ∷ z ∷ w ∷ v ∷ l) a b c d h = absurd (omega arith)
+set-four (x ∷ y ∷ z ∷ []) a b c d h = absurd (omega arith)
+set-four (x ∷ y ∷ []) a b c d h = absurd (omega arith)
+set-four (x ∷ []) a b c d h = absurd (omega arith)
+set-four [] a b c d h = absurd (omega arith)
+
+pub four-put : (l : List ℕ) (n : ℕ) → length l ≡ 4
+    → set (set (set (set l 0 (n % 256)) 1 (n / 256 % 256)) 2 (n / 65536 % 256)) 3 (n / 16777216 % 256) ≡ fourOf n
+unfolding fourOf
+four-put l n h = set-four l _ _ _ _ h
+
+pub twelve-put : (out p q r : List ℕ) (c : Fours) → length out ≡ 12 → p ≡ fourOf (c .left) → q ≡ fourOf (c .middle) → r ≡ fourOf (c .right)
+    → putMid 8 4 (putMid 4 4 (putMid 0 4 out p) q) r ≡ pixelsOf c
+unfolding fourOf pixelsOf
+twelve-put out p q r c h e f g =
+    ap₂ (λ (x y : List ℕ). putMid 8 4 (putMid 4 4 (putMid 0 4 out x) y) r) e f
+    ∙ ap (putMid 8 4 (putMid 4 4 (putMid 0 4 out (fourOf (c .left))) (fourOf (c .middle)))) g
+    ∙ ap (λ (l : List ℕ). fourOf (c .left) ++ (fourOf (c .middle) ++ (fourOf (c .right) ++ l)))
+    (ap (drop 4) (drop-drop 4 4 out) ∙ drop-drop 4 8 out ∙ ap (λ (n : ℕ). drop n out) (sym h) ∙ drop-length out)
+
+-- ---- one column
+
+pub pixels-length : (c : Fours) → length (pixelsOf c) ≡ 12
+unfolding pixelsOf fourOf
+pixels-length c = refl
+
+pub column-at : (n k : ℕ) → k < 4 → n / 2 ^ (8 * k) % 256 ≡ getD (fourOf n) k 0
+unfolding fourOf
+column-at n zero h = omega arith
+column-at n (suc zero) h = refl
+column-at n (suc (suc zero)) h = refl
+column-at n (suc (suc (suc zero))) h = refl
+column-at n (suc (suc (suc (suc k)))) h = absurd (omega arith)
+
+-- a column of the twelve: in the first four, the second or the third
+module _ (c : Fours) (i : ℕ) where
+  pub in-left : i < 4 → getD (fourOf (c .left)) i 0 ≡ getD (pixelsOf c) i 0
+  unfolding pixelsOf fourOf
+  in-left h = sym (List·getD-append (fourOf (c .left)) (fourOf (c .middle) ++ fourOf (c .right)) 0 i h)
+
+  pub in-middle : 4 ≤ i → i < 8 → getD (fourOf (c .middle)) (i - 4) 0 ≡ getD (pixelsOf c) i 0
+  unfolding pixelsOf fourOf
+  in-middle h k =
+      let e : 4 + (i - 4) ≡ i = omega arith in
+      sym (List·getD-append (fourOf (c .middle)) (fourOf (c .right)) 0 (i - 4) (omega arith))
+      ∙ sym (getD-append-add (fourOf (c .left)) (fourOf (c .middle) ++ fourOf (c .right)) (i - 4) 0)
+      ∙ ap (λ (n : ℕ). getD (pixelsOf c) n 0) e
+
+  pub in-right : 8 ≤ i → getD (fourOf (c .right)) (i - 8) 0 ≡ getD (pixelsOf c) i 0
+  unfolding pixelsOf fourOf
+  in-right h =
+      let e : 4 + (4 + (i - 8)) ≡ i = omega arith in
+      sym (getD-append-add (fourOf (c .middle)) (fourOf (c .right)) (i - 8) 0)
+      ∙ sym (getD-append-add (fourOf (c .left)) (fourOf (c .middle) ++ fourOf (c .right)) (4 + (i - 8)) 0)
+      ∙ ap (λ (n : ℕ). getD (pixelsOf c) n 0) e

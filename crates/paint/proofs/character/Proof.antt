@@ -1,0 +1,55 @@
+-- `character`: the columns with their shadow or without.
+-- Assumes nothing.
+use mathlib.Core.Path.{sym, _∙_}
+use native.Mathlib.Omega.{arith}
+use Rattle.paint.proofs.Spread.{bits-fit, character-shadowed, character-solid}
+use borrow.Author.Needs.{needs}
+use Rattle.paint.proofs.character.Statement.{statement}
+use Rattle.paint.proofs.character.Tie as tie
+
+paint-of-requires : tie.Need-paint-of-requires
+paint-of-requires c κs = search needs
+
+casts-requires : tie.Need-casts-requires
+casts-requires c κs = search needs
+
+all-shadowed-requires : tie.Need-all-shadowed-requires
+all-shadowed-requires c κs =
+    let s = c .before .before .before .before .before .before .before in
+    let a = s .args in
+    let p = c .before .before .before .paint-of in
+    (s .pre .of-masks, bits-fit (a .plain) (a .hidden) (a .low) (a .word) (omega (arith, s .fits .plain .fits)) (omega (arith, s .fits .low .fits)) (p .result) (p .ensures))
+
+returns : tie.Need-returns
+returns c =
+    let s = c .before .before .before .before .before .before .before .before in
+    let a = s .args in
+    let p = c .before .before .before .before .paint-of in
+    character-shadowed (a .plain) (a .hidden) (a .low) (a .word) (omega (arith, s .fits .plain .fits)) (omega (arith, s .fits .low .fits)) (p .result) (p .ensures) _
+    (c .all-shadowed .ensures) (sym (c .before .before .casts .ensures) ∙ c .before .if1 .taken)
+
+all-solid-requires : tie.Need-all-solid-requires
+all-solid-requires c κs =
+    let s = c .before .before .before .before .before .before .before in
+    let a = s .args in
+    let p = c .before .before .before .paint-of in
+    (s .pre .of-masks, bits-fit (a .plain) (a .hidden) (a .low) (a .word) (omega (arith, s .fits .plain .fits)) (omega (arith, s .fits .low .fits)) (p .result) (p .ensures))
+
+returns-2 : tie.Need-returns-2
+returns-2 c =
+    let s = c .before .before .before .before .before .before .before .before in
+    let a = s .args in
+    let p = c .before .before .before .before .paint-of in
+    character-solid (a .plain) (a .hidden) (a .low) (a .word) (omega (arith, s .fits .plain .fits)) (omega (arith, s .fits .low .fits)) (p .result) (p .ensures) _
+    (c .all-solid .ensures) (sym (c .before .before .casts .ensures) ∙ c .before .if1 .left)
+
+pub character-spec : {M : Type 1} → statement M
+character-spec =
+    tie.close
+    (tie.spec
+    paint-of-requires
+    casts-requires
+    all-shadowed-requires
+    returns
+    all-solid-requires
+    returns-2)
