@@ -25,8 +25,8 @@ use Rattle.walk.specs.declared.Walked.{Walked}
 use Rattle.walk.proofs.Laws.{nextLine-on}
 use Rattle.line.specs.declared.Pen.{Pen}
 use Rattle.paint.specs.Pixels.{plainOf}
-use Rattle.line.specs.Line.{Place, codes, rowOf, shownRow, Scanned, scan, painted, paint}
-use Rattle.line.specs.Contracts.{RowDrawn, CharactersDrawn, StripDrawn, LineDrawn}
+use Rattle.line.specs.Line.{Place, rowOf, shownRow, Scanned, scan, painted, paint}
+use Rattle.line.specs.Contracts.{roomOf, RowDrawn, CharactersDrawn, StripDrawn, LineDrawn}
 use Rattle.line.proofs.Laws.{line-most}
 use Rattle.line.proofs.Turns.{drop-from, no-room, no-reads, painted-none}
 
@@ -49,7 +49,7 @@ module _ (ram font : List ℕ) (address : ℕ) (pen : Pen) (x w : ℕ) (out : Li
       record {
         pixels =
             d .pixels
-            ∙ ap₂ (λ (k l : List ℕ). k ++ (painted font (pen .plain) (pen .hidden) (w - x) (value ram (codes ((w - x + 11) / 12) (pen .slice) address)) ++ l)) front back;
+            ∙ ap₂ (λ (k l : List ℕ). k ++ (roomOf ram font pen (w - x) address ++ l)) front back;
         reads = d .reads;
       }
 
@@ -62,8 +62,8 @@ module _ (ram font : List ℕ) (address : ℕ) (pen : Pen) (x w : ℕ) (out : Li
         pixels =
             e
             ∙ ap₂ (λ (k : ℕ) (l : List ℕ). replicate k (pen .plain) ++ (l ++ drop w out)) (sym m)
-            (sym (ap (λ (k : ℕ). painted font (pen .plain) (pen .hidden) k (value ram (codes ((k + 11) / 12) (pen .slice) address))) none ∙ no-room font pen ram address));
-        reads = sym (ap (λ (k : ℕ). length (cells ram (codes ((k + 11) / 12) (pen .slice) address))) none ∙ no-reads pen ram address);
+            (sym (no-room ram font pen (w - x) address none));
+        reads = sym (no-reads ram pen (w - x) address none);
       }
 
 -- ---- a line of the strip on screen

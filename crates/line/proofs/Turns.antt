@@ -1,17 +1,14 @@
 -- The turns of the line's loops: what one turn adds to the bytes that are written.
 -- Assumes nothing.
-use Prim.Native.Nat.{ℕ, zero, suc, _+_, _-_, _/_, _%_, _*_, _≤_, _<_, min}
-use mathlib.Core.Path.{_≡_, refl, sym, ap, ap₂, _∙_, subst}
+use Prim.Native.Nat.{ℕ, zero, suc, _+_, _-_, _/_, _%_, _*_, _≤_, _<_}
+use mathlib.Core.Path.{_≡_, refl, sym, ap, ap₂, _∙_}
 use mathlib.Core.List.{List, [], _∷_, _++_, append-nil, append-assoc}
-use native.Mathlib.Nat.{not-suc-le-zero}
-use native.Mathlib.Numerals.{add-one, sub-one}
 use native.Mathlib.Omega.{arith}
-use mathlib.Core.Bool.{Bool, true, false, cond}
+use mathlib.Core.Bool.{Bool, true, false, cond, true≢false}
 use mir.Syntax.{w32}
 use mir.Val.{Fits}
-use lib.ListN.{length, getD, take, drop, set, replicate, length-append, length-take, length-drop, take-append-drop}
-use native.Mathlib.Decide.{decLe}
-use borrow.Rule.Slice.PartMut.{putMid, same-len-mid, drop-put, post-is}
+use lib.ListN.{length, getD, take, drop, replicate, length-append, length-take, length-drop, take-append-drop}
+use borrow.Rule.Slice.PartMut.{putMid, same-len-mid, drop-put}
 use Rattle.raster.proofs.Laws.{columns-more}
 use borrow.Author.Tests.{eqb-true}
 use lib.Seq.{take-all, take-at, drop-length, drop-drop}
@@ -27,11 +24,10 @@ use Rattle.glyph.proofs.Laws.{glyphOf-most, word-low}
 use Rattle.paint.specs.declared.Fours.{Fours}
 use Rattle.paint.specs.Pixels.{twelveColumns}
 use Rattle.paint.specs.Tables.{pixelsOf}
-use Rattle.paint.proofs.Spread.{pixels-length}
 use Rattle.line.specs.declared.Pen.{Pen}
-use Rattle.line.proofs.Laws.{codes-most, character-length}
+use Rattle.line.proofs.Laws.{codes-most, character-length, painted-length}
 use Rattle.line.specs.declared.Coded.{Coded}
-use Rattle.line.specs.Contracts.{CodeShown, RowDrawn}
+use Rattle.line.specs.Contracts.{placeAt, CodeShown, RowDrawn, rowIn, roomOf}
 use Rattle.line.specs.Line.{Place, character, codes, painted}
 
 -- ---- filling
@@ -47,26 +43,50 @@ pub code-few : (ram font : List ℕ) (at : ℕ) (pen : Pen) (c : Coded) → Code
 code-few ram font at pen c d =
     omega (arith, d .reads, atMost-length 2 ram (glyphOf (getD ram (at + 1) 0) (pen .slice)) (glyphOf-most (getD ram (at + 1) 0) (pen .slice)))
 
--- the count of a word's cells and of its code's fits
-pub word-fits : (ram font : List ℕ) (high : ℕ) (s : Slice) (w : Word) → w ≡ wordIn ram font high s → Fits w32 (2 + w .cells)
-unfolding wordIn
-word-fits ram font high s w h = omega (arith, ap (λ (x : Word). x .cells) h, atMost-length 2 ram (glyphOf high s) (glyphOf-most high s))
+-- the end of line has no slice
+no-slice : (high : ℕ) (s : Slice) (ram : List ℕ) → endsLine high ≡ true → length (cells ram (glyphOf high s)) ≡ 0
+unfolding glyphOf inRam cells
+no-slice high s ram e = rw (eqb-true high 255 e)
 
--- a code whose word was looked up, and whose columns were made of its low twelve bits
-pub code-shown : (ram font : List ℕ) (at : ℕ) (pen : Pen) → ((i : ℕ) → getD ram i 0 < 256) → ((i : ℕ) → getD font i 0 < 256)
-    → (w : Word) → w ≡ wordIn ram font (getD ram (at + 1) 0) (pen .slice)
-    → (columns : Fours) → pixelsOf columns ≡ twelveColumns (pen .plain) (pen .hidden) (getD ram at 0) (w .bits % 4096)
-    → CodeShown ram font at pen (record { ended = w .ends; cells = 2 + w .cells; columns = columns })
-unfolding wordIn character
-code-shown ram font at pen b f w h columns e =
-    record {
-      ends = ap (λ (x : Word). x .ends) h;
-      pixels =
-          e
-          ∙ ap (twelveColumns (pen .plain) (pen .hidden) (getD ram at 0))
-          (ap (λ (x : Word). x .bits % 4096) h ∙ word-low ram font (getD ram (at + 1) 0) (pen .slice) b f);
-      reads = ap (λ (x : Word). 2 + x .cells) h;
-    }
+-- a code whose word was looked up
+module _ (ram font : List ℕ) (at : ℕ) (pen : Pen) (w : Word) (h : w ≡ wordIn ram font (getD ram (at + 1) 0) (pen .slice)) where
+  ends-line : w .ends ≡ endsLine (getD ram (at + 1) 0)
+  unfolding wordIn
+  ends-line = ap (λ (x : Word). x .ends) h
+
+  word-reads : w .cells ≡ length (cells ram (glyphOf (getD ram (at + 1) 0) (pen .slice)))
+  unfolding wordIn
+  word-reads = ap (λ (x : Word). x .cells) h
+
+  -- the count of its cells fits
+  pub word-fits : Fits w32 (2 + w .cells)
+  word-fits =
+      omega (arith, word-reads, atMost-length 2 ram (glyphOf (getD ram (at + 1) 0) (pen .slice)) (glyphOf-most (getD ram (at + 1) 0) (pen .slice)))
+
+  -- the end of line
+  pub code-ended : (columns : Fours) → w .ends ≡ true → CodeShown ram font at pen (record { ended = true; cells = 2; columns = columns })
+  code-ended columns e =
+      let end : endsLine (getD ram (at + 1) 0) ≡ true = sym ends-line ∙ e in
+      record {
+        ends = sym end;
+        reads = omega (arith, no-slice (getD ram (at + 1) 0) (pen .slice) ram end);
+        pixels = λ n. absurd (true≢false n);
+      }
+
+  -- a character, of the word's low twelve bits
+  pub code-shown : ((i : ℕ) → getD ram i 0 < 256) → ((i : ℕ) → getD font i 0 < 256) → w .ends ≡ false
+      → (columns : Fours) → pixelsOf columns ≡ twelveColumns (pen .plain) (pen .hidden) (getD ram at 0) (w .bits % 4096)
+      → CodeShown ram font at pen (record { ended = false; cells = 2 + w .cells; columns = columns })
+  unfolding wordIn character
+  code-shown b f e columns d =
+      record {
+        ends = sym e ∙ ends-line;
+        reads = ap (λ (n : ℕ). 2 + n) word-reads;
+        pixels = λ n.
+            d
+            ∙ ap (twelveColumns (pen .plain) (pen .hidden) (getD ram at 0))
+            (ap (λ (x : Word). x .bits % 4096) h ∙ word-low ram font (getD ram (at + 1) 0) (pen .slice) b f);
+      }
 
 -- a row from an address is the row from the even address of its two bytes
 pub codes-even : (n : ℕ) (s : Slice) (a : ℕ) → codes n s (even a) ≡ codes n s a
@@ -112,39 +132,7 @@ module _ (ram : List ℕ) (n : ℕ) (s : Slice) (a : ℕ) where
         ∙ simp (cells-fmap, length-append) (omega arith),
   )
 
--- ---- a row of characters, one more at a time
-
--- the end of line has no slice
-no-glyph : (high : ℕ) (s : Slice) (ram : List ℕ) → endsLine high ≡ true → length (cells ram (glyphOf high s)) ≡ 0
-unfolding glyphOf inRam cells
-no-glyph high s ram e = rw (eqb-true high 255 e)
-
--- the codes that the room from pixel x to w has place for
-abbrev pub rowFrom : Pen → ℕ → ℕ → ℕ → Reading (List Place)
-rowFrom pen w x a = codes ((w - x + 11) / 12) (pen .slice) a
-
--- the pixels of that room
-abbrev pub roomFrom : List ℕ → List ℕ → Pen → ℕ → ℕ → ℕ → List ℕ
-roomFrom ram font pen w x a = painted font (pen .plain) (pen .hidden) (w - x) (value ram (rowFrom pen w x a))
-
--- where whole characters are left, the next one's part has twelve bytes
-pub part-twelve : (out : List ℕ) (x cut : ℕ) → x < cut → (cut - x) % 12 ≡ 0 → cut ≤ length out → length (take (x + 12 - x) (drop x out)) ≡ 12
-part-twelve out x cut h k l =
-    let m : x + 12 ≤ cut = omega arith in
-    simp (length-take, length-drop) (omega arith)
-
--- all twelve columns, where there is room for twelve
-pub put-is : (n : ℕ) (part : List ℕ) (columns : Fours) → n ≡ 12 → part ≡ pixelsOf columns → part ≡ take n (pixelsOf columns)
-put-is n part columns h e = e ∙ sym (take-all n (pixelsOf columns) (omega (arith, pixels-length columns)))
-
--- the pixels before x are written, n cells are read, and what is left is the row from the even address a on
-pub record RowInv (ram font : List ℕ) (address : ℕ) (pen : Pen) (first w : ℕ) (out₀ out : List ℕ) (x a n : ℕ) : Type 0 where
-  pub upto : x ≤ w
-  pub long : length out ≡ length out₀
-  pub paired : even a ≡ a
-  pub front : take x out ++ roomFrom ram font pen w x a ≡ take first out₀ ++ roomFrom ram font pen w first address
-  pub back : drop w out ≡ drop w out₀
-  pub count : n + length (cells ram (rowFrom pen w x a)) ≡ length (cells ram (rowFrom pen w first address))
+-- ---- the room of a line
 
 module _ (ram : List ℕ) (n : ℕ) (s : Slice) (a : ℕ) (p : even a ≡ a) where
   -- the same, where the address is even
@@ -158,175 +146,182 @@ module _ (ram : List ℕ) (n : ℕ) (s : Slice) (a : ℕ) (p : even a ≡ a) whe
       ≡ 2 + length (cells ram (glyphOf (getD ram (a + 1) 0) s)) + length (cells ram (codes n s (next a))))
   on-here e = rw p at (codes-on ram n s a (rw p e))
 
--- twelve columns cut to the room, and cut to the room or twelve
-cut-same : (l : List ℕ) (r k : ℕ) → length l ≡ 12 → k ≡ min 12 r → take k l ≡ take r l
-cut-same l r k e q = by (decLe r 12)
-  where
-    by : Dec (r ≤ 12) → take k l ≡ take r l
-    by (yes h) = let f : k ≡ r = omega arith in ap (λ (m : ℕ). take m l) f
-    by (no h) = take-all k l (omega arith) ∙ sym (take-all r l (omega arith))
-
 -- where no character is left, the room is plain
 pub painted-none : (font : List ℕ) (plain : ℕ) (hidden : Bool) (room : ℕ) → painted font plain hidden room [] ≡ replicate room plain
 unfolding painted
 painted-none font plain hidden room = refl
 
 -- where there is no room, nothing is drawn and nothing read
-pub no-room : (font : List ℕ) (pen : Pen) (ram : List ℕ) (a : ℕ)
-    → painted font (pen .plain) (pen .hidden) 0 (value ram (codes ((0 + 11) / 12) (pen .slice) a)) ≡ []
+pub no-room : (ram font : List ℕ) (pen : Pen) (room a : ℕ) → room ≡ 0 → roomOf ram font pen room a ≡ []
 unfolding codes value painted
-no-room font pen ram a = refl
+no-room ram font pen room a e = rw e
 
-pub no-reads : (pen : Pen) (ram : List ℕ) (a : ℕ) → length (cells ram (codes ((0 + 11) / 12) (pen .slice) a)) ≡ 0
+pub no-reads : (ram : List ℕ) (pen : Pen) (room a : ℕ) → room ≡ 0 → length (cells ram (rowIn pen room a)) ≡ 0
 unfolding codes cells
-no-reads pen ram a = refl
+no-reads ram pen room a e = rw e
 
 pub drop-from : (l : List ℕ) (e w : ℕ) → e ≤ w → drop w l ≡ drop (w - e) (drop e l)
 drop-from l e w h =
     let m : e + (w - e) ≡ w = omega arith in
     sym (drop-drop (w - e) e l ∙ ap (λ (k : ℕ). drop k l) m)
 
+-- a whole character's part has twelve bytes
+pub part-twelve : (out : List ℕ) (x : ℕ) → x + 12 ≤ length out → length (take (x + 12 - x) (drop x out)) ≡ 12
+part-twelve out x h = simp (length-take, length-drop) (omega arith)
+
+-- the room that begins with an end of line, and with a character
+module _ (ram font : List ℕ) (pen : Pen) (room a : ℕ) (p : even a ≡ a) (some : 0 < room) where
+  -- the row begins with one more code
+  one-more : (room + 11) / 12 ≡ suc ((room - 12 + 11) / 12)
+  one-more = columns-more room some
+
+  room-ended : endsLine (getD ram (a + 1) 0) ≡ true
+      → (roomOf ram font pen room a ≡ replicate room (pen .plain)) × (length (cells ram (rowIn pen room a)) ≡ 2)
+  room-ended e =
+      let end-here = ended-here ram ((room - 12 + 11) / 12) (pen .slice) a p e in (
+        ap (λ (k : ℕ). painted font (pen .plain) (pen .hidden) room (value ram (codes k (pen .slice) a))) one-more
+            ∙ ap (painted font (pen .plain) (pen .hidden) room) (end-here .0)
+            ∙ painted-none font (pen .plain) (pen .hidden) room,
+        ap (λ (k : ℕ). length (cells ram (codes k (pen .slice) a))) one-more ∙ end-here .1,
+      )
+
+  room-on : endsLine (getD ram (a + 1) 0) ≡ false
+      → (roomOf ram font pen room a ≡ take room (character font (pen .plain) (pen .hidden) (placeAt ram pen a)) ++ roomOf ram font pen (room - 12) (even (a + 2)))
+      × (length (cells ram (rowIn pen room a))
+      ≡ 2 + length (cells ram (glyphOf (getD ram (a + 1) 0) (pen .slice))) + length (cells ram (rowIn pen (room - 12) (even (a + 2)))))
+  unfolding painted
+  room-on e =
+      let on = on-here ram ((room - 12 + 11) / 12) (pen .slice) a p e in (
+        ap (λ (k : ℕ). painted font (pen .plain) (pen .hidden) room (value ram (codes k (pen .slice) a))) one-more
+            ∙ ap (painted font (pen .plain) (pen .hidden) room) (on .0),
+        ap (λ (k : ℕ). length (cells ram (codes k (pen .slice) a))) one-more ∙ on .1,
+      )
+
+-- ---- a row of characters, one more at a time
+
+-- a row up to w of which the pixels before x are drawn: what is left is the row from the even address a on
+pub record RowUpTo (ram font : List ℕ) (address : ℕ) (pen : Pen) (first w : ℕ) (out : List ℕ) (x a n : ℕ) (out′ : List ℕ) : Type 0 where
+  pub upto : x ≤ w
+  pub long : length out′ ≡ length out
+  pub paired : even a ≡ a
+  pub front : take x out′ ++ roomOf ram font pen (w - x) a ≡ take first out ++ roomOf ram font pen (w - first) address
+  pub back : drop w out′ ≡ drop w out
+  pub count : n + length (cells ram (rowIn pen (w - x) a)) ≡ length (cells ram (rowIn pen (w - first) address))
+
 module _ (ram font : List ℕ) (address : ℕ) (pen : Pen) (first w : ℕ) (out₀ : List ℕ) where
   -- where the row begins
-  pub row-holds : (a : ℕ) → first ≤ w → a ≡ even address → RowInv ram font address pen first w out₀ out₀ first a 0
+  pub row-holds : (a : ℕ) → first ≤ w → a ≡ even address → RowUpTo ram font address pen first w out₀ first a 0 out₀
   row-holds a h e =
-      record {
-        upto = h;
-        long = refl;
-        paired = omega arith;
-        front = rw (e, codes-even);
-        back = refl;
-        count = rw (e, codes-even) (omega arith);
-      }
+      record { upto = h; long = refl; paired = omega arith; front = rw (e, codes-even); back = refl; count = rw (e, codes-even) (omega arith) }
 
   -- no row reads more than 256 cells
-  pub row-bound : (out : List ℕ) (x a n : ℕ) → w ≤ 768 → RowInv ram font address pen first w out₀ out x a n → n ≤ 256
-  row-bound out x a n h i =
-      omega (arith, i .count, atMost-length (4 * ((w - first + 11) / 12)) ram (rowFrom pen w first address) (codes-most ((w - first + 11) / 12) (pen .slice) address))
-
-  -- what is written, the room that is left and the bytes after it are the whole row
-  whole-row : (out : List ℕ) (x a n : ℕ) → RowInv ram font address pen first w out₀ out x a n
-      → take x out ++ (roomFrom ram font pen w x a ++ drop w out) ≡ take first out₀ ++ (roomFrom ram font pen w first address ++ drop w out₀)
-  whole-row out x a n i =
-      sym (append-assoc (take x out) (roomFrom ram font pen w x a) (drop w out))
-      ∙ ap₂ (λ (k l : List ℕ). k ++ l) (i .front) (i .back)
-      ∙ append-assoc (take first out₀) (roomFrom ram font pen w first address) (drop w out₀)
-
-  module _ (out : List ℕ) (x a n : ℕ) (i : RowInv ram font address pen first w out₀ out x a n) (more : x < w) (fits : w ≤ length out₀) where
-    -- the place of the next character, as the code drew it
-    place : Place
-    place = record { low = getD ram a 0; glyph = value ram (glyphOf (getD ram (a + 1) 0) (pen .slice)) }
-
-    -- the row begins with one more code
-    one-more : (w - x + 11) / 12 ≡ suc ((w - x - 12 + 11) / 12)
-    one-more = columns-more (w - x) (omega arith)
-
-    -- a character is drawn
-    module _ (e : ℕ) (end : e ≡ min (x + 12) w) (c : Coded) (d : CodeShown ram font a pen c) (on : c .ended ≡ false)
-        (part : List ℕ) (p : part ≡ take (length (take (e - x) (drop x out))) (pixelsOf (c .columns))) where
-      shown : List ℕ
-      shown = character font (pen .plain) (pen .hidden) place
-
-      ends-not : endsLine (getD ram (a + 1) 0) ≡ false
-      ends-not = sym (d .ends) ∙ on
-
-      part-long : length (take (e - x) (drop x out)) ≡ e - x
-      part-long = simp (length-take, length-drop) (omega (arith, i .long))
-
-      part-is : part ≡ take (e - x) shown
-      unfolding shown place
-      part-is = p ∙ ap₂ take part-long (d .pixels)
-
-      part-length : length part ≡ e - x
-      unfolding shown
-      part-length =
-          ap length part-is ∙ simp (length-take, character-length font (pen .plain) (pen .hidden) place) (omega arith)
-
-      left-over : w - e ≡ w - x - 12
-      left-over = omega arith
-
-      -- the room that was left is the part and the room that is left now
-      room-is : roomFrom ram font pen w x a ≡ part ++ roomFrom ram font pen w e (even (a + 2))
-      unfolding painted shown place
-      room-is =
-          ap (λ (k : ℕ). painted font (pen .plain) (pen .hidden) (w - x) (value ram (codes k (pen .slice) a))) one-more
-          ∙ ap (painted font (pen .plain) (pen .hidden) (w - x)) (on-here ram _ (pen .slice) a (i .paired) ends-not .0)
-          ∙ ap₂ (λ (l : List ℕ) (k : ℕ). l ++ painted font (pen .plain) (pen .hidden) k (value ram (codes ((k + 11) / 12) (pen .slice) (even (a + 2)))))
-          (sym (cut-same shown (w - x) (e - x) (character-length font (pen .plain) (pen .hidden) place) (omega arith)) ∙ sym part-is)
-          (sym left-over)
-
-      reads-are : length (cells ram (rowFrom pen w x a)) ≡ c .cells + length (cells ram (rowFrom pen w e (even (a + 2))))
-      reads-are =
-          ap (λ (k : ℕ). length (cells ram (codes k (pen .slice) a))) one-more
-          ∙ on-here ram _ (pen .slice) a (i .paired) ends-not .1
-          ∙ ap₂ (λ (m k : ℕ). m + length (cells ram (codes ((k + 11) / 12) (pen .slice) (even (a + 2))))) (sym (d .reads)) (sym left-over)
-
-      -- the pixels before e
-      before-e : take e (putMid x (e - x) out part) ≡ take x out ++ part
-      before-e =
-          let long : length (take x out ++ part) ≡ e =
-          simp (length-append, length-take, part-length) (omega (arith, i .long))
-          in
-          ap (take e) (sym (append-assoc (take x out) part (drop (e - x) (drop x out))))
-          ∙ take-at (take x out ++ part) (drop (e - x) (drop x out)) e long
-
-      after-w : drop w (putMid x (e - x) out part) ≡ drop w out
-      after-w =
-          drop-from (putMid x (e - x) out part) e w (omega arith)
-          ∙ ap (drop (w - e)) (drop-put x e out part (omega arith) (omega (arith, i .long)) part-length)
-          ∙ sym (drop-from out e w (omega arith))
-
-      pub row-drawn : RowInv ram font address pen first w out₀ (putMid x (e - x) out part) e (even (a + 2)) (n + c .cells)
-      row-drawn =
-          record {
-            upto = omega arith;
-            long = same-len-mid x (e - x) out part (part-length ∙ sym part-long) ∙ i .long;
-            paired = omega arith;
-            front =
-                ap (λ (l : List ℕ). l ++ roomFrom ram font pen w e (even (a + 2))) before-e
-                ∙ append-assoc (take x out) part (roomFrom ram font pen w e (even (a + 2)))
-                ∙ ap (λ (l : List ℕ). take x out ++ l) (sym room-is)
-                ∙ i .front;
-            back = after-w ∙ i .back;
-            count = omega (arith, i .count, reads-are);
-          }
-
-    -- the line ends: the room is filled with plain
-    pub row-ended : (c : Coded) → CodeShown ram font a pen c → c .ended ≡ true
-        → (fill : List ℕ) → fill ≡ replicate (length (take (w - x) (drop x out))) (pen .plain)
-        → RowDrawn ram font address pen first w out₀ (n + c .cells) (putMid x (w - x) out fill)
-    row-ended c d off fill f =
-        let end-here = ended-here ram ((w - x - 12 + 11) / 12) (pen .slice) a (i .paired) (sym (d .ends) ∙ off) in
-        let room : roomFrom ram font pen w x a ≡ replicate (w - x) (pen .plain) =
-        ap (λ (k : ℕ). painted font (pen .plain) (pen .hidden) (w - x) (value ram (codes k (pen .slice) a))) one-more
-        ∙ ap (painted font (pen .plain) (pen .hidden) (w - x)) (end-here .0)
-        ∙ painted-none font (pen .plain) (pen .hidden) (w - x)
-        in
-        let long : length (take (w - x) (drop x out)) ≡ w - x = simp (length-take, length-drop) (omega (arith, i .long)) in
-        let filled : fill ≡ roomFrom ram font pen w x a = f ∙ ap (λ (k : ℕ). replicate k (pen .plain)) long ∙ sym room in
-        record {
-          pixels =
-              ap (putMid x (w - x) out) filled
-              ∙ ap (λ (l : List ℕ). take x out ++ (roomFrom ram font pen w x a ++ l)) (post-is x w out (i .upto))
-              ∙ whole-row out x a n i;
-          reads =
-              omega (arith, i .count, ap (λ (k : ℕ). length (cells ram (codes k (pen .slice) a))) one-more, end-here .1, d .reads, no-glyph (getD ram (a + 1) 0) (pen .slice) ram (sym (d .ends) ∙ off));
-        }
+  pub row-bound : (x a n : ℕ) (out : List ℕ) → w ≤ 768 → RowUpTo ram font address pen first w out₀ x a n out → n ≤ 256
+  row-bound x a n out h i =
+      omega (arith, i .count, atMost-length (4 * ((w - first + 11) / 12)) ram (rowIn pen (w - first) address) (codes-most ((w - first + 11) / 12) (pen .slice) address))
 
   -- the room is full
-  pub row-full : (out : List ℕ) (x a n : ℕ) → RowInv ram font address pen first w out₀ out x a n → w ≤ x
-      → RowDrawn ram font address pen first w out₀ n out
-  row-full out x a n i h =
+  pub row-full : (x a n : ℕ) (out : List ℕ) → RowUpTo ram font address pen first w out₀ x a n out → w ≤ x → RowDrawn ram font address pen first w out₀ n out
+  row-full x a n out i h =
       let none : w - x ≡ 0 = omega (arith, i .upto) in
       let at : x ≡ w = omega (arith, i .upto) in
-      let room : roomFrom ram font pen w x a ≡ [] =
-      ap (λ (k : ℕ). painted font (pen .plain) (pen .hidden) k (value ram (codes ((k + 11) / 12) (pen .slice) a))) none ∙ no-room font pen ram a
-      in
       record {
         pixels =
-            sym (take-append-drop w out)
-            ∙ ap₂ (λ (k : ℕ) (l : List ℕ). take k out ++ (l ++ drop w out)) (sym at) (sym room)
-            ∙ whole-row out x a n i;
-        reads =
-            omega (arith, i .count, ap (λ (k : ℕ). length (cells ram (codes ((k + 11) / 12) (pen .slice) a))) none, no-reads pen ram a);
+            sym (take-append-drop x out)
+            ∙ ap₂ (λ (y z : List ℕ). y ++ z)
+            (sym (append-nil (take x out)) ∙ ap (λ (y : List ℕ). take x out ++ y) (sym (no-room ram font pen (w - x) a none)) ∙ i .front)
+            (ap (λ (k : ℕ). drop k out) at ∙ i .back)
+            ∙ append-assoc (take first out₀) (roomOf ram font pen (w - first) address) (drop w out₀);
+        reads = omega (arith, i .count, no-reads ram pen (w - x) a none);
       }
+
+  module _ (x a n : ℕ) (out : List ℕ) (i : RowUpTo ram font address pen first w out₀ x a n out) (fits : w ≤ length out₀) where
+    -- the room that was left is written: a part up to e, and what is left then
+    written : (e b m : ℕ) (part : List ℕ) → x ≤ e → e ≤ w → length part ≡ e - x → even b ≡ b
+        → roomOf ram font pen (w - x) a ≡ part ++ roomOf ram font pen (w - e) b
+        → length (cells ram (rowIn pen (w - x) a)) ≡ m + length (cells ram (rowIn pen (w - e) b))
+        → RowUpTo ram font address pen first w out₀ e b (n + m) (putMid x (e - x) out part)
+    written e b m part h k l p room reads =
+        let long : length (take x out ++ part) ≡ e = simp (length-append, length-take, l) (omega (arith, i .long)) in
+        let before : take e (putMid x (e - x) out part) ≡ take x out ++ part =
+        ap (take e) (sym (append-assoc (take x out) part (drop (e - x) (drop x out)))) ∙ take-at (take x out ++ part) (drop (e - x) (drop x out)) e long
+        in
+        record {
+          upto = k;
+          long = same-len-mid x (e - x) out part (l ∙ sym (simp (length-take, length-drop) (omega (arith, i .long)))) ∙ i .long;
+          paired = p;
+          front =
+              ap (λ (y : List ℕ). y ++ roomOf ram font pen (w - e) b) before
+              ∙ append-assoc (take x out) part (roomOf ram font pen (w - e) b)
+              ∙ ap (λ (y : List ℕ). take x out ++ y) (sym room)
+              ∙ i .front;
+          back =
+              drop-from (putMid x (e - x) out part) e w k
+              ∙ ap (drop (w - e)) (drop-put x e out part h (omega (arith, i .long)) l)
+              ∙ sym (drop-from out e w k)
+              ∙ i .back;
+          count = omega (arith, i .count, reads);
+        }
+
+    -- all that was left is written
+    last : (m : ℕ) (part : List ℕ) → part ≡ roomOf ram font pen (w - x) a → m ≡ length (cells ram (rowIn pen (w - x) a))
+        → RowDrawn ram font address pen first w out₀ (n + m) (putMid x (w - x) out part)
+    last m part p q =
+        let none : w - w ≡ 0 = omega arith in
+        row-full w a (n + m) (putMid x (w - x) out part)
+        (written w a m part (i .upto) (omega arith) (ap length p ∙ painted-length font (pen .plain) (pen .hidden) (w - x) (value ram (rowIn pen (w - x) a))) (i .paired)
+        (sym p ∙ sym (append-nil part) ∙ ap (λ (y : List ℕ). part ++ y) (sym (no-room ram font pen (w - w) a none)))
+        (omega (arith, q, no-reads ram pen (w - w) a none)))
+        (omega arith)
+
+    -- the part from x to w has that length
+    room-long : length (take (w - x) (drop x out)) ≡ w - x
+    room-long = simp (length-take, length-drop) (omega (arith, i .long))
+
+    module _ (more : x < w) (c : Coded) (d : CodeShown ram font a pen c) where
+      -- the line ends: the room is filled with plain
+      pub row-ended : c .ended ≡ true → (fill : List ℕ) → fill ≡ replicate (length (take (w - x) (drop x out))) (pen .plain)
+          → RowDrawn ram font address pen first w out₀ (n + c .cells) (putMid x (w - x) out fill)
+      row-ended off fill f =
+          let end = sym (d .ends) ∙ off in
+          let here = room-ended ram font pen (w - x) a (i .paired) (omega arith) end in
+          last (c .cells) fill (f ∙ ap (λ (k : ℕ). replicate k (pen .plain)) room-long ∙ sym (here .0))
+          (omega (arith, here .1, d .reads, no-slice (getD ram (a + 1) 0) (pen .slice) ram end))
+
+      module _ (on : c .ended ≡ false) where
+        shown : List ℕ
+        shown = character font (pen .plain) (pen .hidden) (placeAt ram pen a)
+
+        here : (roomOf ram font pen (w - x) a ≡ take (w - x) shown ++ roomOf ram font pen (w - x - 12) (even (a + 2)))
+            × (length (cells ram (rowIn pen (w - x) a)) ≡ c .cells + length (cells ram (rowIn pen (w - x - 12) (even (a + 2)))))
+        unfolding shown
+        here =
+            let r = room-on ram font pen (w - x) a (i .paired) (omega arith) (sym (d .ends) ∙ on) in
+            (r .0, r .1 ∙ ap (λ (m : ℕ). m + length (cells ram (rowIn pen (w - x - 12) (even (a + 2))))) (sym (d .reads)))
+
+        twelve : length shown ≡ 12
+        unfolding shown
+        twelve = character-length font (pen .plain) (pen .hidden) (placeAt ram pen a)
+
+        is-shown : pixelsOf (c .columns) ≡ shown
+        unfolding shown
+        is-shown = d .pixels on
+
+        -- a whole character is drawn
+        pub row-drawn : x + 12 ≤ w → (part : List ℕ) → part ≡ pixelsOf (c .columns)
+            → RowUpTo ram font address pen first w out₀ (x + 12) (even (a + 2)) (n + c .cells) (putMid x (x + 12 - x) out part)
+        row-drawn fit part p =
+            let left : w - x - 12 ≡ w - (x + 12) = omega arith in
+            written (x + 12) (even (a + 2)) (c .cells) part (omega arith) fit (omega (arith, ap length (p ∙ is-shown), twelve)) (omega arith)
+            (here .0
+            ∙ ap₂ (λ (y : List ℕ) (k : ℕ). y ++ roomOf ram font pen k (even (a + 2))) (take-all (w - x) shown (omega (arith, twelve)) ∙ sym (p ∙ is-shown)) left)
+            (here .1 ∙ ap (λ (k : ℕ). c .cells + length (cells ram (rowIn pen k (even (a + 2))))) left)
+
+        -- the last character is cut
+        pub row-cut : w < x + 12 → (part : List ℕ) → part ≡ take (length (take (w - x) (drop x out))) (pixelsOf (c .columns))
+            → RowDrawn ram font address pen first w out₀ (n + c .cells) (putMid x (w - x) out part)
+        row-cut cut part p =
+            let none : w - x - 12 ≡ 0 = omega arith in
+            last (c .cells) part
+            (p ∙ ap₂ take room-long is-shown
+            ∙ sym (here .0 ∙ ap (λ (y : List ℕ). take (w - x) shown ++ y) (no-room ram font pen (w - x - 12) (even (a + 2)) none) ∙ append-nil (take (w - x) shown)))
+            (omega (arith, here .1, no-reads ram pen (w - x - 12) (even (a + 2)) none))

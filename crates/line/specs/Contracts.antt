@@ -3,8 +3,9 @@
 use Prim.Native.Nat.{ℕ, _+_, _-_, _/_, min}
 use mathlib.Core.Path.{_≡_}
 use mathlib.Core.List.{List, _++_}
+use mathlib.Core.Bool.{false}
 use lib.ListN.{length, getD, take, drop, replicate}
-use Rattle.cells.specs.Reading.{value, cells}
+use Rattle.cells.specs.Reading.{Reading, value, cells}
 use Rattle.registers.specs.declared.Registers.{Registers}
 use Rattle.registers.specs.declared.Settings.{Settings}
 use Rattle.registers.specs.Registers.{settingsOf}
@@ -18,26 +19,32 @@ use Rattle.line.specs.declared.Coded.{Coded}
 use Rattle.line.specs.declared.Line.{Line}
 use Rattle.line.specs.Line.{Place, codes, shownRow, scan, character, painted, paint}
 
--- the code at an even address: does it end the line, which columns does its character have if not, and how many cells did it read?
+-- what stands at the code of an even address
+abbrev pub placeAt : List ℕ → Pen → ℕ → Place
+placeAt ram pen a = record { low = getD ram a 0; glyph = value ram (glyphOf (getD ram (a + 1) 0) (pen .slice)) }
+
+-- the code at an even address: does it end the line, how many cells did it read, and which columns does its character have?
 pub record CodeShown (ram font : List ℕ) (at : ℕ) (pen : Pen) (c : Coded) : Type 0 where
   pub ends : c .ended ≡ endsLine (getD ram (at + 1) 0)
-  pub pixels : pixelsOf (c .columns)
-      ≡ character font (pen .plain) (pen .hidden) (record { low = getD ram at 0; glyph = value ram (glyphOf (getD ram (at + 1) 0) (pen .slice)) })
   pub reads : c .cells ≡ 2 + length (cells ram (glyphOf (getD ram (at + 1) 0) (pen .slice)))
+  pub pixels : c .ended ≡ false → pixelsOf (c .columns) ≡ character font (pen .plain) (pen .hidden) (placeAt ram pen at)
+
+-- the codes that there is room for, and the pixels of that room
+abbrev pub rowIn : Pen → ℕ → ℕ → Reading (List Place)
+rowIn pen room a = codes ((room + 11) / 12) (pen .slice) a
+
+abbrev pub roomOf : List ℕ → List ℕ → Pen → ℕ → ℕ → List ℕ
+roomOf ram font pen room a = painted font (pen .plain) (pen .hidden) room (value ram (rowIn pen room a))
 
 -- the room from pixel x to w holds the characters and then plain; the bytes before and after stay
 pub record RowDrawn (ram font : List ℕ) (address : ℕ) (pen : Pen) (x w : ℕ) (out : List ℕ) (n : ℕ) (out′ : List ℕ) : Type 0 where
-  pub pixels : out′
-      ≡ take x out
-      ++ (painted font (pen .plain) (pen .hidden) (w - x) (value ram (codes ((w - x + 11) / 12) (pen .slice) address)) ++ drop w out)
-  pub reads : n ≡ length (cells ram (codes ((w - x + 11) / 12) (pen .slice) address))
+  pub pixels : out′ ≡ take x out ++ (roomOf ram font pen (w - x) address ++ drop w out)
+  pub reads : n ≡ length (cells ram (rowIn pen (w - x) address))
 
 -- plain up to the first character, or to w, then the row
 pub record CharactersDrawn (ram font : List ℕ) (address : ℕ) (pen : Pen) (x w : ℕ) (out : List ℕ) (n : ℕ) (out′ : List ℕ) : Type 0 where
-  pub pixels : out′
-      ≡ replicate (min x w) (pen .plain)
-      ++ (painted font (pen .plain) (pen .hidden) (w - x) (value ram (codes ((w - x + 11) / 12) (pen .slice) address)) ++ drop w out)
-  pub reads : n ≡ length (cells ram (codes ((w - x + 11) / 12) (pen .slice) address))
+  pub pixels : out′ ≡ replicate (min x w) (pen .plain) ++ (roomOf ram font pen (w - x) address ++ drop w out)
+  pub reads : n ≡ length (cells ram (rowIn pen (w - x) address))
 
 -- a line of the strip on screen; later bytes stay
 pub record StripDrawn (ram font : List ℕ) (s : Settings) (strip : Strip) (f : ℕ) (out : List ℕ) (n : ℕ) (out′ : List ℕ) : Type 0 where

@@ -7,7 +7,7 @@ ghost use Rattle.registers.specs.Registers.{settingsOf};
 ghost use Rattle.raster.specs.Raster.{InCharacter, widthOf};
 ghost use Rattle.walk.specs.Walk.{OnLine};
 ghost use Rattle.glyph.specs.Glyph.{Lent};
-ghost use Rattle.paint.specs.Tables.{RowTables};
+ghost use Rattle.paint.specs.Tables.{rowTable};
 ghost use Rattle.line.specs.Contracts.{CodeShown, RowDrawn, CharactersDrawn, StripDrawn, LineDrawn};
 use paint::Fours;
 use raster::Slice;
@@ -49,16 +49,8 @@ fn fill(out: &mut [u8], pixel: u8)
 }
 
 // The code at an even address.
-fn code_at<'a>(
-    ram: &'a [u8],
-    font: &'a [u8],
-    masks: &[u32],
-    backs: &[u32],
-    shows: &[u32],
-    at: usize,
-    pen: Pen,
-) -> Coded
-    requires { ⌜ RowTables (pen .plain) (pen .hidden) (now masks) (now backs) (now shows) ⌝ }
+fn code_at<'a>(ram: &'a [u8], font: &'a [u8], table: &[u32], at: usize, pen: Pen) -> Coded
+    requires { ⌜ now table ≡ rowTable (pen .plain) (pen .hidden) ⌝ }
     requires { ⌜ Lent (now ram) (now font) ⌝ }
     requires { ⌜ InCharacter (pen .slice) ⌝ }
     requires { ⌜ at + 1 < 1024 ⌝ }
@@ -67,10 +59,17 @@ fn code_at<'a>(
     let low = ram[at];
     let slice = pen.slice;
     let word = glyph::lookup(ram, font, ram[at + 1], slice);
+    if word.ends {
+        return Coded {
+            ended: true,
+            cells: 2,
+            columns: paint::NONE,
+        };
+    }
     Coded {
-        ended: word.ends,
+        ended: false,
         cells: 2 + word.cells,
-        columns: paint::character(masks, backs, shows, pen.plain, pen.hidden, low, word.bits),
+        columns: paint::character(table, pen.plain, pen.hidden, low, word.bits),
     }
 }
 
@@ -89,34 +88,27 @@ fn draw_row<'a>(
     requires { ⌜ InCharacter (pen .slice) ⌝ }
     ensures { λ r. ⌜ RowDrawn (now (ram .entry)) (now (font .entry)) address pen first w (now (out .entry)) r (now (out .exit)) ⌝ }
 {
-    let masks = paint::mask_table();
-    let backs = paint::backs_of(pen.plain);
-    let shows = paint::shows_of(pen.hidden);
+    let table = paint::row_table(pen.plain, pen.hidden);
     // characters that start before here are whole; at most one, here, is cut
     let cut = w - (w - first) % 12;
     let mut x = first;
     let mut a = walk::even_address(address) as usize;
     let mut cells: u32 = 0;
-    while x < cut {
-        let code = code_at(ram, font, &masks, &backs, &shows, a, pen);
+    while x < w {
+        let code = code_at(ram, font, &table, a, pen);
         cells += code.cells;
         if code.ended {
             fill(&mut out[x..w], pen.plain);
+            return cells;
+        }
+        if cut <= x {
+            paint::put_cut(&mut out[x..w], code.columns);
             return cells;
         }
         let e = x + 12;
-        paint::put_whole(&mut out[x..e], code.columns);
+        paint::put_twelve(&mut out[x..e], code.columns);
         a = (a + 2) / 2 % 512 * 2;
         x = e;
-    }
-    if x < w {
-        let code = code_at(ram, font, &masks, &backs, &shows, a, pen);
-        cells += code.cells;
-        if code.ended {
-            fill(&mut out[x..w], pen.plain);
-            return cells;
-        }
-        paint::put_cut(&mut out[x..w], code.columns);
     }
     cells
 }

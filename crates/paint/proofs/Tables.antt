@@ -1,14 +1,14 @@
 -- What the tables hold at an index.
 -- Assumes nothing.
-use Prim.Native.Nat.{ℕ, zero, suc, _+_, _<_}
+use Prim.Native.Nat.{ℕ, zero, suc, _+_, _≤_, _<_}
 use mathlib.Core.Path.{_≡_, refl, sym, ap, _∙_, subst}
 use mathlib.Core.Bool.{Bool}
 use mathlib.Core.List.{List, [], _∷_, _++_}
 use native.Mathlib.Nat.{add-zero, add-suc, suc-add, not-suc-le-zero, le-of-suc-le-suc}
 use native.Mathlib.Omega.{arith}
-use lib.ListN.{length, getD, length-append, List·getD-append}
-use lib.Seq.{getD-append-add}
-use Rattle.paint.specs.Tables.{tabulate, facing, casting, maskTable, fores, backs, backTable, shows, showTable}
+use lib.ListN.{length, getD, take, length-append, length-take, List·getD-append}
+use lib.Seq.{getD-append-add, getD-take, take-at}
+use Rattle.paint.specs.Tables.{tabulate, facing, casting, maskTable, HasMasks, fores, backs, shows, rowTable}
 
 tabulate-length : (f : ℕ → ℕ) (i n : ℕ) → length (tabulate f i n) ≡ n
 unfolding tabulate
@@ -33,38 +33,56 @@ past-at : (f : ℕ → ℕ) (n : ℕ) (l : List ℕ) (k : ℕ) → getD (tabulat
 past-at f n l k =
     ap (λ (m : ℕ). getD (tabulate f 0 n ++ l) (m + k) 0) (sym (tabulate-length f 0 n)) ∙ getD-append-add (tabulate f 0 n) l k 0
 
-pub facing-at : (i : ℕ) → i < 32 → getD maskTable i 0 ≡ facing i
-unfolding maskTable
-facing-at i h = first-at facing 32 _ i h
+-- ---- a row's table
 
-pub casting-at : (i : ℕ) → i < 32 → getD maskTable (32 + i) 0 ≡ casting i
-unfolding maskTable
-casting-at i h = past-at facing 32 _ i ∙ first-at casting 32 _ i h
+-- the masks of a table that begins with them
+module _ (table : List ℕ) (h : HasMasks table) (i : ℕ) (k : i < 32) where
+  mask-at : (n : ℕ) → n < 64 → getD table n 0 ≡ getD maskTable n 0
+  mask-at n l = sym (getD-take 64 table n 0 l) ∙ ap (λ (m : List ℕ). getD m n 0) h
 
-pub fore-at : (i : ℕ) → i < 16 → getD maskTable (64 + i) 0 ≡ fores i
-unfolding maskTable
-fore-at i h =
-    ap (λ (n : ℕ). getD (tabulate facing 0 32 ++ (tabulate casting 0 32 ++ tabulate fores 0 16)) n 0) (omega arith)
-    ∙ past-at facing 32 _ (32 + i)
-    ∙ past-at casting 32 _ i
-    ∙ tabulate-at fores 16 i h
+  pub facing-at : getD table i 0 ≡ facing i
+  unfolding maskTable
+  facing-at = mask-at i (omega arith) ∙ first-at facing 32 _ i k
 
-pub masks-length : length maskTable ≡ 80
+  pub casting-at : getD table (32 + i) 0 ≡ casting i
+  unfolding maskTable
+  casting-at = mask-at (32 + i) (omega arith) ∙ past-at facing 32 _ i ∙ tabulate-at casting 32 i k
+
+masks-length : length maskTable ≡ 64
 unfolding maskTable
 masks-length = simp (length-append, tabulate-length)
 
-pub back-at : (plain i : ℕ) → i < 16 → getD (backTable plain) i 0 ≡ backs plain i
-unfolding backTable
-back-at plain i h = tabulate-at (backs plain) 16 i h
+-- there are as many
+pub masks-fit : (table : List ℕ) → HasMasks table → 64 ≤ length table
+masks-fit table h = omega (arith, sym (length-take 64 table) ∙ ap length h ∙ masks-length)
 
-pub backs-length : (plain : ℕ) → length (backTable plain) ≡ 16
-unfolding backTable
-backs-length plain = tabulate-length (backs plain) 0 16
+module _ (plain : ℕ) (hidden : Bool) where
+  pub table-length : length (rowTable plain hidden) ≡ 112
+  unfolding rowTable
+  table-length = simp (length-append, masks-length, tabulate-length)
 
-pub show-at : (hidden : Bool) (i : ℕ) → i < 16 → getD (showTable hidden) i 0 ≡ shows hidden i
-unfolding showTable
-show-at hidden i h = tabulate-at (shows hidden) 16 i h
+  pub has-masks : HasMasks (rowTable plain hidden)
+  unfolding rowTable
+  has-masks = take-at maskTable _ 64 masks-length
 
-pub shows-length : (hidden : Bool) → length (showTable hidden) ≡ 16
-unfolding showTable
-shows-length hidden = tabulate-length (shows hidden) 0 16
+  -- the entries behind the masks
+  behind : (l : List ℕ) (k : ℕ) → getD (maskTable ++ l) (64 + k) 0 ≡ getD l k 0
+  behind l k = ap (λ (m : ℕ). getD (maskTable ++ l) (m + k) 0) (sym masks-length) ∙ getD-append-add maskTable l k 0
+
+  pub fore-at : (i : ℕ) → i < 16 → getD (rowTable plain hidden) (64 + i) 0 ≡ fores i
+  unfolding rowTable
+  fore-at i h = behind _ i ∙ first-at fores 16 _ i h
+
+  pub back-at : (i : ℕ) → i < 16 → getD (rowTable plain hidden) (80 + i) 0 ≡ backs plain i
+  unfolding rowTable
+  back-at i h =
+      ap (λ (n : ℕ). getD (rowTable plain hidden) n 0) (omega arith) ∙ behind _ (16 + i) ∙ past-at fores 16 _ i ∙ first-at (backs plain) 16 _ i h
+
+  pub show-at : (i : ℕ) → i < 16 → getD (rowTable plain hidden) (96 + i) 0 ≡ shows hidden i
+  unfolding rowTable
+  show-at i h =
+      ap (λ (n : ℕ). getD (rowTable plain hidden) n 0) (omega arith)
+      ∙ behind _ (16 + (16 + i))
+      ∙ past-at fores 16 _ (16 + i)
+      ∙ past-at (backs plain) 16 _ i
+      ∙ tabulate-at (shows hidden) 16 i h

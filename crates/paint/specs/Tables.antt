@@ -6,6 +6,7 @@ use mathlib.Core.Bool.{Bool, true, false, cond, _&&_}
 use mathlib.Core.List.{List, [], _∷_, _++_}
 use lib.Bits.{bitAnd, bitXor}
 use lib.Dec.{eqb, ltb, leb}
+use lib.ListN.{take}
 use Rattle.paint.specs.declared.Paint.{Paint}
 use Rattle.paint.specs.declared.Fours.{Fours}
 
@@ -35,28 +36,24 @@ ofPixel pixel = pixel * 16843009
 unfoldable pub fores : ℕ → ℕ
 fores i = ofPixel (8 + i % 8)
 
-unfoldable pub maskTable : List ℕ
-maskTable = tabulate facing 0 32 ++ (tabulate casting 0 32 ++ tabulate fores 0 16)
-
 -- background for each BK
 unfoldable pub backs : ℕ → ℕ → ℕ
 backs plain i = ofPixel (cond (ltb i 8) (8 + i) plain)
-
-unfoldable pub backTable : ℕ → List ℕ
-backTable plain = tabulate (backs plain) 0 16
 
 -- the bits that are shown for each FL, RF, GF, BF
 unfoldable pub shows : Bool → ℕ → ℕ
 shows hidden i = cond (leb 8 i && hidden) 0 4095
 
-unfoldable pub showTable : Bool → List ℕ
-showTable hidden = tabulate (shows hidden) 0 16
+unfoldable pub maskTable : List ℕ
+maskTable = tabulate facing 0 32 ++ tabulate casting 0 32
 
--- what a row makes once
-pub record RowTables (plain : ℕ) (hidden : Bool) (masks back show : List ℕ) : Type 0 where
-  pub of-masks : masks ≡ maskTable
-  pub of-backs : back ≡ backTable plain
-  pub of-shows : show ≡ showTable hidden
+-- a table begins with the masks
+abbrev pub HasMasks : List ℕ → Type 0
+HasMasks table = take 64 table ≡ maskTable
+
+-- what a row makes once and lends to its characters
+unfoldable pub rowTable : ℕ → Bool → List ℕ
+rowTable plain hidden = maskTable ++ (tabulate fores 0 16 ++ (tabulate (backs plain) 0 16 ++ tabulate (shows hidden) 0 16))
 
 -- what a code's low byte draws with
 unfoldable pub paintOf : ℕ → Bool → ℕ → Paint

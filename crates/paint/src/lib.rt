@@ -2,9 +2,9 @@
 ghost use mathlib.Core.Path.{_≡_};
 ghost use mathlib.Core.Bool.{cond};
 ghost use Prim.Native.Nat.{_%_, _≤_, _<_};
-ghost use lib.ListN.{length, take, getD};
+ghost use lib.ListN.{length, take};
 ghost use Rattle.paint.specs.Pixels.{twelveColumns};
-ghost use Rattle.paint.specs.Tables.{RowTables, maskTable, backTable, showTable, ofPixel, paintOf, castsShadow, solid, shadowed, fourOf, inFours, pixelsOf};
+ghost use Rattle.paint.specs.Tables.{HasMasks, rowTable, ofPixel, paintOf, castsShadow, solid, shadowed, fourOf, inFours, pixelsOf};
 
 // What a code draws four columns with: a byte for a column.
 pub struct Paint {
@@ -25,6 +25,13 @@ pub struct Fours {
     pub right: u32,
 }
 
+// No columns.
+pub const NONE: Fours = Fours {
+    left: 0,
+    middle: 0,
+    right: 0,
+};
+
 // Four pixels of a colour, FBLK 1.
 const BLACK: u32 = 0x08080808;
 
@@ -42,90 +49,14 @@ const YELLOW: u32 = 0x0E0E0E0E;
 
 const WHITE: u32 = 0x0F0F0F0F;
 
-// Masks of four columns for an index of five bits (the column to the left, then the four): foreground, then shadow. Behind them,
-// foreground for each FL, RF, GF, BF. A row lends them to its characters: a table used in place would be made again for each.
-const MASKS: [u32; 80] = [
-    0x00000000,
-    0xFF000000,
-    0x00FF0000,
-    0xFFFF0000,
-    0x0000FF00,
-    0xFF00FF00,
-    0x00FFFF00,
-    0xFFFFFF00,
-    0x000000FF,
-    0xFF0000FF,
-    0x00FF00FF,
-    0xFFFF00FF,
-    0x0000FFFF,
-    0xFF00FFFF,
-    0x00FFFFFF,
-    0xFFFFFFFF,
-    0x00000000,
-    0xFF000000,
-    0x00FF0000,
-    0xFFFF0000,
-    0x0000FF00,
-    0xFF00FF00,
-    0x00FFFF00,
-    0xFFFFFF00,
-    0x000000FF,
-    0xFF0000FF,
-    0x00FF00FF,
-    0xFFFF00FF,
-    0x0000FFFF,
-    0xFF00FFFF,
-    0x00FFFFFF,
-    0xFFFFFFFF,
-    0x00000000,
-    0x00000000,
-    0xFF000000,
-    0x00000000,
-    0x00FF0000,
-    0x00FF0000,
-    0xFF000000,
-    0x00000000,
-    0x0000FF00,
-    0x0000FF00,
-    0xFF00FF00,
-    0x0000FF00,
-    0x00FF0000,
-    0x00FF0000,
-    0xFF000000,
-    0x00000000,
-    0x000000FF,
-    0x000000FF,
-    0xFF0000FF,
-    0x000000FF,
-    0x00FF00FF,
-    0x00FF00FF,
-    0xFF0000FF,
-    0x000000FF,
-    0x0000FF00,
-    0x0000FF00,
-    0xFF00FF00,
-    0x0000FF00,
-    0x00FF0000,
-    0x00FF0000,
-    0xFF000000,
-    0x00000000,
-    BLACK,
-    BLUE,
-    GREEN,
-    CYAN,
-    RED,
-    MAGENTA,
-    YELLOW,
-    WHITE,
-    BLACK,
-    BLUE,
-    GREEN,
-    CYAN,
-    RED,
-    MAGENTA,
-    YELLOW,
-    WHITE,
-];
+// Where the parts of a row's table begin: masks of foreground and of shadow, foreground and background colours, the bits that are shown.
+const CASTING: usize = 32;
+
+const FORES: usize = 64;
+
+const BACKS: usize = 80;
+
+const SHOWS: usize = 96;
 
 fn four_of(pixel: u8) -> u32
     ensures { λ r. ⌜ r ≡ ofPixel pixel ⌝ }
@@ -133,19 +64,102 @@ fn four_of(pixel: u8) -> u32
     pixel as u32 * 0x01010101
 }
 
-// A row's own copy of the masks, to lend.
-pub fn mask_table() -> [u32; 80]
-    ensures { λ r. ⌜ r ≡ maskTable ⌝ }
+fn bits_kept(hidden: bool) -> u32
+    ensures { λ r. ⌜ r ≡ cond hidden 0 4095 ⌝ }
 {
-    MASKS
+    if hidden { 0 } else { 4095 }
 }
 
-// Background for each BK, four pixels each.
-pub fn backs_of(plain: u8) -> [u32; 16]
-    ensures { λ r. ⌜ r ≡ backTable plain ⌝ }
+// What a row makes once and lends to its characters: a table used in place would be made again for each.
+// Masks of four columns for an index of five bits (the column to the left, then the four): foreground, then shadow. Behind them, four
+// pixels each, foreground for each FL, RF, GF, BF and background for each BK; then the bits that are shown for each FL, RF, GF, BF.
+pub fn row_table(plain: u8, hidden: bool) -> [u32; 112]
+    ensures { λ r. ⌜ r ≡ rowTable plain hidden ⌝ }
 {
     let p = four_of(plain);
+    let a = bits_kept(false);
+    let h = bits_kept(hidden);
     [
+        0x00000000,
+        0xFF000000,
+        0x00FF0000,
+        0xFFFF0000,
+        0x0000FF00,
+        0xFF00FF00,
+        0x00FFFF00,
+        0xFFFFFF00,
+        0x000000FF,
+        0xFF0000FF,
+        0x00FF00FF,
+        0xFFFF00FF,
+        0x0000FFFF,
+        0xFF00FFFF,
+        0x00FFFFFF,
+        0xFFFFFFFF,
+        0x00000000,
+        0xFF000000,
+        0x00FF0000,
+        0xFFFF0000,
+        0x0000FF00,
+        0xFF00FF00,
+        0x00FFFF00,
+        0xFFFFFF00,
+        0x000000FF,
+        0xFF0000FF,
+        0x00FF00FF,
+        0xFFFF00FF,
+        0x0000FFFF,
+        0xFF00FFFF,
+        0x00FFFFFF,
+        0xFFFFFFFF,
+        0x00000000,
+        0x00000000,
+        0xFF000000,
+        0x00000000,
+        0x00FF0000,
+        0x00FF0000,
+        0xFF000000,
+        0x00000000,
+        0x0000FF00,
+        0x0000FF00,
+        0xFF00FF00,
+        0x0000FF00,
+        0x00FF0000,
+        0x00FF0000,
+        0xFF000000,
+        0x00000000,
+        0x000000FF,
+        0x000000FF,
+        0xFF0000FF,
+        0x000000FF,
+        0x00FF00FF,
+        0x00FF00FF,
+        0xFF0000FF,
+        0x000000FF,
+        0x0000FF00,
+        0x0000FF00,
+        0xFF00FF00,
+        0x0000FF00,
+        0x00FF0000,
+        0x00FF0000,
+        0xFF000000,
+        0x00000000,
+        BLACK,
+        BLUE,
+        GREEN,
+        CYAN,
+        RED,
+        MAGENTA,
+        YELLOW,
+        WHITE,
+        BLACK,
+        BLUE,
+        GREEN,
+        CYAN,
+        RED,
+        MAGENTA,
+        YELLOW,
+        WHITE,
         BLACK,
         BLUE,
         GREEN,
@@ -162,76 +176,77 @@ pub fn backs_of(plain: u8) -> [u32; 16]
         p,
         p,
         p,
+        a,
+        a,
+        a,
+        a,
+        a,
+        a,
+        a,
+        a,
+        h,
+        h,
+        h,
+        h,
+        h,
+        h,
+        h,
+        h,
     ]
 }
 
-fn bits_kept(hidden: bool) -> u32
-    ensures { λ r. ⌜ r ≡ cond hidden 0 4095 ⌝ }
-{
-    if hidden { 0 } else { 4095 }
-}
-
-// The bits that are shown, for each FL, RF, GF, BF.
-pub fn shows_of(hidden: bool) -> [u32; 16]
-    ensures { λ r. ⌜ r ≡ showTable hidden ⌝ }
-{
-    let a = bits_kept(false);
-    let h = bits_kept(hidden);
-    [a, a, a, a, a, a, a, a, h, h, h, h, h, h, h, h]
-}
-
 // What a code's low byte draws with.
-fn paint_of(masks: &[u32], backs: &[u32], shows: &[u32], plain: u8, hidden: bool, low: u8) -> Paint
-    requires { ⌜ RowTables plain hidden (now masks) (now backs) (now shows) ⌝ }
+fn paint_of(table: &[u32], plain: u8, hidden: bool, low: u8) -> Paint
+    requires { ⌜ now table ≡ rowTable plain hidden ⌝ }
     ensures { λ r. ⌜ r ≡ paintOf plain hidden low ⌝ }
 {
-    let back = backs[(low % 16) as usize];
+    let back = table[BACKS + (low % 16) as usize];
     let high = (low / 16) as usize;
     Paint {
         back: back,
-        fore: back ^ masks[64 + high],
+        fore: back ^ table[FORES + high],
         cast: back ^ BLACK,
-        kept: shows[high],
+        kept: table[SHOWS + high],
     }
 }
 
 // Four columns of an index, with no shadow.
-fn four_solid(masks: &[u32], i: usize, paint: Paint) -> u32
-    requires { ⌜ (now masks ≡ maskTable) × (i < 32) ⌝ }
+fn four_solid(table: &[u32], i: usize, paint: Paint) -> u32
+    requires { ⌜ HasMasks (now table) × (i < 32) ⌝ }
     ensures { λ r. ⌜ r ≡ solid paint i ⌝ }
 {
-    paint.back ^ (masks[i] & paint.fore)
+    paint.back ^ (table[i] & paint.fore)
 }
 
 // Four columns of an index, with their shadow.
-fn four_shadowed(masks: &[u32], i: usize, paint: Paint) -> u32
-    requires { ⌜ (now masks ≡ maskTable) × (i < 32) ⌝ }
+fn four_shadowed(table: &[u32], i: usize, paint: Paint) -> u32
+    requires { ⌜ HasMasks (now table) × (i < 32) ⌝ }
     ensures { λ r. ⌜ r ≡ shadowed paint i ⌝ }
 {
-    paint.back ^ ((masks[i] & paint.fore) ^ (masks[32 + i] & paint.cast))
+    paint.back ^ ((table[i] & paint.fore) ^ (table[CASTING + i] & paint.cast))
 }
 
 // Twelve columns; an index overlaps the one before by a bit.
-fn all_solid(masks: &[u32], paint: Paint, bits: u32) -> Fours
-    requires { ⌜ (now masks ≡ maskTable) × (bits < 4096) ⌝ }
+fn all_solid(table: &[u32], paint: Paint, bits: u32) -> Fours
+    requires { ⌜ HasMasks (now table) × (bits < 4096) ⌝ }
     ensures { λ r. ⌜ r ≡ inFours (solid paint) bits ⌝ }
 {
     Fours {
-        left: four_solid(masks, (bits / 256) as usize, paint),
-        middle: four_solid(masks, (bits / 16 % 32) as usize, paint),
-        right: four_solid(masks, (bits % 32) as usize, paint),
+        left: four_solid(table, (bits / 256) as usize, paint),
+        middle: four_solid(table, (bits / 16 % 32) as usize, paint),
+        right: four_solid(table, (bits % 32) as usize, paint),
     }
 }
 
 // The same with their shadow.
-fn all_shadowed(masks: &[u32], paint: Paint, bits: u32) -> Fours
-    requires { ⌜ (now masks ≡ maskTable) × (bits < 4096) ⌝ }
+fn all_shadowed(table: &[u32], paint: Paint, bits: u32) -> Fours
+    requires { ⌜ HasMasks (now table) × (bits < 4096) ⌝ }
     ensures { λ r. ⌜ r ≡ inFours (shadowed paint) bits ⌝ }
 {
     Fours {
-        left: four_shadowed(masks, (bits / 256) as usize, paint),
-        middle: four_shadowed(masks, (bits / 16 % 32) as usize, paint),
-        right: four_shadowed(masks, (bits % 32) as usize, paint),
+        left: four_shadowed(table, (bits / 256) as usize, paint),
+        middle: four_shadowed(table, (bits / 16 % 32) as usize, paint),
+        right: four_shadowed(table, (bits % 32) as usize, paint),
     }
 }
 
@@ -249,24 +264,16 @@ fn casts(low: u8) -> bool
 }
 
 // The twelve columns of a code's low byte and of the low twelve bits of its glyph's word.
-pub fn character(
-    masks: &[u32],
-    backs: &[u32],
-    shows: &[u32],
-    plain: u8,
-    hidden: bool,
-    low: u8,
-    word: u32,
-) -> Fours
-    requires { ⌜ RowTables plain hidden (now masks) (now backs) (now shows) ⌝ }
+pub fn character(table: &[u32], plain: u8, hidden: bool, low: u8, word: u32) -> Fours
+    requires { ⌜ now table ≡ rowTable plain hidden ⌝ }
     ensures { λ r. ⌜ pixelsOf r ≡ twelveColumns plain hidden low (word % 4096) ⌝ }
 {
-    let paint = paint_of(masks, backs, shows, plain, hidden, low);
+    let paint = paint_of(table, plain, hidden, low);
     let bits = word & paint.kept;
-    if casts(low) {
-        return all_shadowed(masks, paint, bits);
+    if !casts(low) {
+        return all_solid(table, paint, bits);
     }
-    all_solid(masks, paint, bits)
+    all_shadowed(table, paint, bits)
 }
 
 // Four pixels: stores of consecutive bytes of one number, which the compiler makes one store.
@@ -281,7 +288,7 @@ fn put_four(out: &mut [u8], pixels: u32)
 }
 
 // All twelve columns.
-pub fn put_whole(out: &mut [u8], columns: Fours)
+pub fn put_twelve(out: &mut [u8], columns: Fours)
     requires { ⌜ length (now out) ≡ 12 ⌝ }
     ensures { λ _. ⌜ now (out .exit) ≡ pixelsOf columns ⌝ }
 {
@@ -290,26 +297,16 @@ pub fn put_whole(out: &mut [u8], columns: Fours)
     put_four(&mut out[8..12], columns.right);
 }
 
-// Column k of four.
-fn column_of(four: u32, k: usize) -> u8
-    requires { ⌜ k < 4 ⌝ }
-    ensures { λ r. ⌜ r ≡ getD (fourOf four) k 0 ⌝ }
+// As many bytes of twelve as there is room for. The remainder changes no index: it keeps the compiler from calling memcpy.
+fn copy_cut(out: &mut [u8], whole: &[u8])
+    requires { ⌜ (length (now out) ≤ 12) × (length (now whole) ≡ 12) ⌝ }
+    ensures { λ _. ⌜ now (out .exit) ≡ take (length (now (out .entry))) (now (whole .entry)) ⌝ }
 {
-    ((four >> (8 * k)) % 256) as u8
-}
-
-// Column i of the twelve.
-fn column(columns: Fours, i: usize) -> u8
-    requires { ⌜ i < 12 ⌝ }
-    ensures { λ r. ⌜ r ≡ getD (pixelsOf columns) i 0 ⌝ }
-{
-    if i < 4 {
-        return column_of(columns.left, i);
+    let mut i = 0;
+    while i < out.len() {
+        out[i] = whole[i % 12];
+        i += 1;
     }
-    if i < 8 {
-        return column_of(columns.middle, i - 4);
-    }
-    column_of(columns.right, i - 8)
 }
 
 // The columns that there is room for.
@@ -317,9 +314,7 @@ pub fn put_cut(out: &mut [u8], columns: Fours)
     requires { ⌜ length (now out) ≤ 12 ⌝ }
     ensures { λ _. ⌜ now (out .exit) ≡ take (length (now (out .entry))) (pixelsOf columns) ⌝ }
 {
-    let mut i = 0;
-    while i < out.len() {
-        out[i] = column(columns, i);
-        i += 1;
-    }
+    let mut whole = [0u8; 12];
+    put_twelve(&mut whole, columns);
+    copy_cut(out, &whole);
 }

@@ -1,13 +1,12 @@
 -- `four_shadowed`: the two masks at the index.
 -- Assumes nothing.
-use Prim.Native.Nat.{ℕ, _+_}
-use mathlib.Core.Path.{_≡_, ap, ap₂, _∙_}
-use mathlib.Core.List.{List}
+use denote.Ref.{now}
+use Prim.Native.Nat.{ℕ}
+use mathlib.Core.Path.{ap₂}
 use native.Mathlib.Omega.{arith}
 use lib.Bits.{bitAnd, bitXor}
-use lib.ListN.{length, getD}
 use Rattle.paint.specs.Tables.{shadowed}
-use Rattle.paint.proofs.Tables.{facing-at, casting-at, masks-length}
+use Rattle.paint.proofs.Tables.{facing-at, casting-at, masks-fit}
 use borrow.Author.Needs.{needs}
 use Rattle.paint.proofs.four_shadowed.Statement.{statement}
 use Rattle.paint.proofs.four_shadowed.Tie as tie
@@ -16,7 +15,7 @@ mul-result : tie.Need-mul-result
 mul-result c = search needs
 
 shared-slice-read-result : tie.Need-shared-slice-read-result
-shared-slice-read-result c = omega (arith, ap length (c .before .pre .0), masks-length, c .before .pre .1)
+shared-slice-read-result c = let s = c .before in omega (arith, masks-fit (now (s .args .table)) (s .pre .0), s .pre .1)
 
 add-result : tie.Need-add-result
 add-result c = search needs
@@ -26,17 +25,14 @@ mul-result-2 c = search needs
 
 shared-slice-read-result-2 : tie.Need-shared-slice-read-result-2
 shared-slice-read-result-2 c =
-    let p = c .before .before .before .pre in
-    omega (arith, ap length (p .0), masks-length, p .1)
+    let s = c .before .before .before in omega (arith, masks-fit (now (s .args .table)) (s .pre .0), s .pre .1)
 
 returns : tie.Need-returns
 unfolding shadowed
 returns c =
-    let a = c .before .before .before .before .before .args in
-    let p = c .before .before .before .before .before .pre in
-    ap₂ (λ (m n : ℕ). bitXor (a .paint .back) (bitXor (bitAnd m (a .paint .fore)) (bitAnd n (a .paint .cast))))
-    (ap (λ (l : List ℕ). getD l (a .i) 0) (p .0) ∙ facing-at (a .i) (p .1))
-    (ap (λ (l : List ℕ). getD l (32 + a .i) 0) (p .0) ∙ casting-at (a .i) (p .1))
+    let s = c .before .before .before .before .before in
+    ap₂ (λ (m n : ℕ). bitXor (s .args .paint .back) (bitXor (bitAnd m (s .args .paint .fore)) (bitAnd n (s .args .paint .cast))))
+    (facing-at (now (s .args .table)) (s .pre .0) (s .args .i) (s .pre .1)) (casting-at (now (s .args .table)) (s .pre .0) (s .args .i) (s .pre .1))
 
 pub four-shadowed-spec : {M : Type 1} → statement M
 four-shadowed-spec =

@@ -1,13 +1,12 @@
 -- `four_solid`: the mask at the index.
 -- Assumes nothing.
+use denote.Ref.{now}
 use Prim.Native.Nat.{ℕ}
-use mathlib.Core.Path.{_≡_, ap, _∙_}
-use mathlib.Core.List.{List}
+use mathlib.Core.Path.{ap}
 use native.Mathlib.Omega.{arith}
 use lib.Bits.{bitAnd, bitXor}
-use lib.ListN.{length, getD}
 use Rattle.paint.specs.Tables.{solid}
-use Rattle.paint.proofs.Tables.{facing-at, masks-length}
+use Rattle.paint.proofs.Tables.{facing-at, masks-fit}
 use borrow.Author.Needs.{needs}
 use Rattle.paint.proofs.four_solid.Statement.{statement}
 use Rattle.paint.proofs.four_solid.Tie as tie
@@ -16,15 +15,13 @@ mul-result : tie.Need-mul-result
 mul-result c = search needs
 
 shared-slice-read-result : tie.Need-shared-slice-read-result
-shared-slice-read-result c = omega (arith, ap length (c .before .pre .0), masks-length, c .before .pre .1)
+shared-slice-read-result c = let s = c .before in omega (arith, masks-fit (now (s .args .table)) (s .pre .0), s .pre .1)
 
 returns : tie.Need-returns
 unfolding solid
 returns c =
-    let a = c .before .before .before .args in
-    let p = c .before .before .before .pre in
-    ap (λ (m : ℕ). bitXor (a .paint .back) (bitAnd m (a .paint .fore)))
-    (ap (λ (l : List ℕ). getD l (a .i) 0) (p .0) ∙ facing-at (a .i) (p .1))
+    let s = c .before .before .before in
+    ap (λ (m : ℕ). bitXor (s .args .paint .back) (bitAnd m (s .args .paint .fore))) (facing-at (now (s .args .table)) (s .pre .0) (s .args .i) (s .pre .1))
 
 pub four-solid-spec : {M : Type 1} → statement M
 four-solid-spec = tie.close (tie.spec mul-result shared-slice-read-result returns)

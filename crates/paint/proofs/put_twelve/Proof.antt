@@ -1,10 +1,10 @@
--- `put_whole`: three parts of four columns.
+-- `put_twelve`: three parts of four columns.
 -- Assumes nothing.
 use denote.Ref.{now}
 use Rattle.paint.proofs.Spread.{twelve-put}
 use borrow.Author.Needs.{needs}
-use Rattle.paint.proofs.put_whole.Statement.{statement}
-use Rattle.paint.proofs.put_whole.Tie as tie
+use Rattle.paint.proofs.put_twelve.Statement.{statement}
+use Rattle.paint.proofs.put_twelve.Tie as tie
 
 sub-put-four : tie.Need-sub-put-four
 sub-put-four c = search needs
@@ -52,8 +52,8 @@ returns c =
     let s = a .before .before .before in
     twelve-put (now (s .args .out)) _ _ _ (s .args .columns) (s .pre) (a .put-four .ensures) (b .put-four2 .ensures) (c .before .before .put-four3 .ensures)
 
-pub put-whole-spec : {M : Type 1} → statement M
-put-whole-spec =
+pub put-twelve-spec : {M : Type 1} → statement M
+put-twelve-spec =
     tie.close
     (tie.spec
     sub-put-four

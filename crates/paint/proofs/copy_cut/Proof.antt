@@ -1,0 +1,65 @@
+-- `copy_cut`: what is written and the columns that are left are all twelve.
+-- Assumes nothing.
+use Prim.Native.Nat.{ℕ, _-_, _≤_}
+use mathlib.Core.Path.{_≡_, refl, ap, _∙_}
+use mathlib.Core.List.{_++_}
+use native.Mathlib.Omega.{arith}
+use lib.ListN.{length, getD, take, drop, length-set}
+use denote.Ref.{now}
+use Rattle.facts.proofs.Written.{written-more, written-part}
+use borrow.Author.Needs.{needs}
+use Rattle.paint.proofs.copy_cut.Statement.{statement}
+use Rattle.paint.proofs.copy_cut.Tie as tie
+
+abbrev Inv-loop : tie.InvT-loop
+Inv-loop out₀ whole i₀ out i = (i ≤ length out₀) × (length out ≡ length out₀) × (take i out ++ drop i whole ≡ whole)
+
+abbrev μ-loop : tie.MeasureT-loop
+μ-loop out₀ whole i₀ out i = length out₀ - i
+
+loop-holds : tie.Need-loop-holds Inv-loop μ-loop
+loop-holds c = (search needs, search needs, refl)
+
+shared-slice-read-out : tie.Need-shared-slice-read-out Inv-loop μ-loop
+shared-slice-read-out c = search needs
+
+slice-write-out : tie.Need-slice-write-out Inv-loop μ-loop
+slice-write-out c = search needs
+
+add-i : tie.Need-add-i Inv-loop μ-loop
+add-i c = search needs
+
+loop-less : tie.Need-loop-less Inv-loop μ-loop
+loop-less c = search needs
+
+loop-again : tie.Need-loop-again Inv-loop μ-loop
+loop-again c =
+    let l = c .before .before .loop in
+    let s = c .before .before .before in (
+      search needs,
+      length-set (l .out) _ _ ∙ l .inv .1,
+      written-more _ (l .out) (l .i) _ (omega arith) (omega arith) (l .inv .2) (ap (λ (n : ℕ). getD (now (s .args .whole)) n 0) (omega arith)),
+    )
+
+same-length : tie.Need-same-length Inv-loop μ-loop
+same-length c = search needs
+
+returns : tie.Need-returns Inv-loop μ-loop
+returns c =
+    let l = c .before .loop in
+    written-part _ (l .out) (l .i) (omega arith) (l .inv .2) ∙ ap (λ (n : ℕ). take n (now (c .before .before .args .whole))) (l .inv .1)
+
+pub copy-cut-spec : {M : Type 1} → statement M
+copy-cut-spec =
+    tie.close
+    (tie.spec
+    Inv-loop
+    μ-loop
+    loop-holds
+    shared-slice-read-out
+    slice-write-out
+    add-i
+    loop-less
+    loop-again
+    same-length
+    returns)
