@@ -4,27 +4,31 @@
 // (tests/test_bench.py).
 use device::Device;
 use device::StartAnswer;
+use test_script::Numbers;
+
+const DIGEST: Numbers = Numbers {
+    factor: 31,
+    more: 0,
+    last: 65520,
+};
 
 fn main() {
     let mut input = [0u8; 5651];
     io::read_full(0, &mut input);
-    run(&input[..0]);
-    run(&input[..5649]);
+    run(test_script::first(&input, 0));
+    run(test_script::first(&input, 5649));
     run(&input);
-    run_count(&mut input, 0x00, 0x00);
-    run_count(&mut input, 0x00, 0x08);
-    run_count(&mut input, 0x01, 0x08);
-    run_count(&mut input, 0xFF, 0xFF);
+    run_count(&mut input, 0);
+    run_count(&mut input, 2048);
+    run_count(&mut input, 2049);
+    run_count(&mut input, 65535);
 }
 
 // The input with a line count, low byte first.
-fn run_count(input: &mut [u8], low: u8, high: u8) {
-    if input.len() < 5650 {
-        return;
-    }
-    input[5648] = low;
-    input[5649] = high;
-    run(&input[..5650]);
+fn run_count(input: &mut [u8; 5651], lines: u16) {
+    input[5648] = (lines % 256) as u8;
+    input[5649] = (lines / 256) as u8;
+    run(test_script::first(input, 5650));
 }
 
 fn run(input: &[u8]) {
@@ -35,7 +39,7 @@ fn run(input: &[u8]) {
         StartAnswer::Refused(refusal) => {
             let mut text = [0u8; 16];
             let n = report::refusal_text(refusal.number(), &mut text);
-            print(&text, n);
+            io::write_all(1, test_script::first(&text, n));
         }
         StartAnswer::Started => {
             show(device, report::ram_part(input), report::font_part(input));
@@ -43,52 +47,40 @@ fn run(input: &[u8]) {
     }
 }
 
-// A frame that is started: the heading, the first and the last line, and the digest.
+// A frame that is started.
 fn show<'a>(device: Device, ram: &'a [u8], font: &'a [u8]) {
+    show_heading(device);
+    show_lines(device, ram, font);
+}
+
+fn show_heading(device: Device) {
+    let mut text = [0u8; 32];
+    let frame = device.frame;
+    let n = report::heading(frame.left, report::width_of(device), &mut text);
+    io::write_all(1, test_script::first(&text, n));
+}
+
+// The first and the last line, and the digest.
+fn show_lines<'a>(device: Device, ram: &'a [u8], font: &'a [u8]) {
     let mut text = [0u8; 1024];
     let frame = device.frame;
     let lines = frame.left;
-    let n = report::heading(lines, report::width_of(device), &mut text);
-    print(&text, n);
     let mut next = device;
     let mut left = lines;
-    let mut sum: u64 = 0;
+    let mut sum = 0;
     while left > 0 {
         let done = report::next_line(next, ram, font, &mut text);
-        if is_shown(left, lines) {
-            print(&text, done.length);
-        }
-        sum = digest(sum, &text, done.length);
+        sum = told(sum, test_script::first(&text, done.length), left, lines);
         next = done.device;
         left -= 1;
     }
-    io::print_decimal(1, sum);
-    io::write_all(1, b"\n");
+    test_script::print_decimal(sum, b'\n');
 }
 
-fn is_shown(left: u16, lines: u16) -> bool {
-    if left == lines {
-        return true;
+// The digest with a line, which is printed where it is the first or the last.
+fn told(sum: u64, line: &[u8], left: u16, lines: u16) -> u64 {
+    if left == lines || left == 1 {
+        io::write_all(1, line);
     }
-    left == 1
-}
-
-// The first n bytes of a text taken into a digest: times 31, plus the byte, modulo 65,521.
-fn digest(sum: u64, text: &[u8], n: usize) -> u64 {
-    if text.len() < n {
-        return sum;
-    }
-    let mut d = sum;
-    let mut i = 0;
-    while i < n {
-        d = (d % 65521 * 31 + text[i] as u64) % 65521;
-        i += 1;
-    }
-    d
-}
-
-fn print(text: &[u8], n: usize) {
-    if n <= text.len() {
-        io::write_all(1, &text[..n]);
-    }
+    test_script::mix_all(sum, line, DIGEST)
 }
