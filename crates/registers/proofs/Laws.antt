@@ -11,7 +11,7 @@ use lib.ListN.{getD, length}
 use lib.Bits.{bitAnd, and-step, and-zero-l}
 use Rattle.facts.proofs.Lists.{set-at}
 use Rattle.registers.specs.declared.Registers.{Registers}
-use Rattle.registers.specs.Registers.{kept, freshRegisters, loaded, stored, fetched, settingsOf, pageOf}
+use Rattle.registers.specs.Registers.{kept, freshRegisters, loaded, stored, fetched, settingsOf}
 
 -- ---- ranges
 
@@ -19,20 +19,9 @@ pub ld-bound : (r : Registers) → settingsOf r .ld < 64
 unfolding settingsOf
 ld-bound r = omega arith
 
-pub ch-bound : (r : Registers) → settingsOf r .ch < 64
-unfolding settingsOf
-ch-bound r = omega arith
-
 pub fbk-bound : (r : Registers) → settingsOf r .fbk < 2
 unfolding settingsOf
 fbk-bound r = omega arith
-
-pub fl-bound : (r : Registers) → settingsOf r .fl < 4
-unfolding settingsOf
-fl-bound r = omega arith
-
-pub page-bound : (r : Registers) → pageOf r < 8
-page-bound r = omega arith
 
 -- ---- unused bits read 0
 

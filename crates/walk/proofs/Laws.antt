@@ -1,7 +1,7 @@
--- The laws of the walk: addresses are even and below 1,024, a line of the walk reads at most one descriptor, and the strip on
+-- The laws of the walk: addresses lie below 1,024, a line of the walk reads at most one descriptor, and the strip on
 -- screen is at one of its lines.
 -- Assumes nothing.
-use Prim.Native.Nat.{ℕ, _+_, _-_, _%_, _≤_, _<_}
+use Prim.Native.Nat.{ℕ, _+_, _-_, _≤_, _<_}
 use mathlib.Core.Path.{_≡_, refl, sym, ap, _∙_}
 use mathlib.Core.Bool.{Bool, true, false, cond, false≢true}
 use native.Mathlib.Omega.{arith}
@@ -10,7 +10,7 @@ use mathlib.Core.List.{List}
 use lib.Dec.{eqb}
 use lib.ListN.{getD}
 use Rattle.facts.proofs.Choice.{either}
-use Rattle.cells.specs.Reading.{descriptor, Reading, done, read, fmap, value, cells}
+use Rattle.cells.specs.Reading.{descriptor, done, read, fmap, value, cells}
 use Rattle.cells.proofs.Bounds.{Gives, Within, AtMost, gives-fmap, within-fmap, within-cond, atMost-fmap, atMost-cond}
 use Rattle.raster.specs.declared.ScanLine.{ScanLine}
 use Rattle.raster.specs.Raster.{beforeFirst}
@@ -18,26 +18,13 @@ use Rattle.raster.proofs.Laws.{some-after, one-less, last-none, following-in}
 use Rattle.walk.specs.declared.Strip.{Strip}
 use Rattle.walk.specs.declared.Strip.the-variants.{Spacing, Characters}
 use Rattle.walk.specs.declared.Walk.{Walk}
-use Rattle.walk.specs.declared.Walked.{Walked}
-use Rattle.walk.specs.Walk.{even, next, walkFrom, atLeastOne, isSpacing, enabledBy, zoomedBy, codesAt, showsCodes, stripOf, over, linesLeft, begun, advanced, nextLine, OnLine, walked}
+use Rattle.walk.specs.Walk.{even, next, atLeastOne, isSpacing, enabledBy, zoomedBy, codesAt, showsCodes, stripOf, over, linesLeft, begun, advanced, nextLine, OnLine, walked}
 
 -- ---- addresses
-
-pub even-even : (a : ℕ) → even a % 2 ≡ 0
-even-even a = omega arith
 
 -- both bytes at an even address lie below 1,024
 pub even-bound : (a : ℕ) → even a + 1 < 1024
 even-bound a = omega arith
-
--- an even address below 1,024 is itself
-pub even-same : (a : ℕ) → a % 2 ≡ 0 → a < 1024 → even a ≡ a
-even-same a h k = omega arith
-
--- the first descriptor of each page
-pub page-even : (p : ℕ) → p < 8 → even (walkFrom p .descriptor) ≡ walkFrom p .descriptor
-unfolding walkFrom
-page-even p h = omega arith
 
 -- ---- the descriptor of a line
 

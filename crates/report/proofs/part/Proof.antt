@@ -5,9 +5,6 @@ use Rattle.report.proofs.Texts.{part-is}
 use borrow.Author.Needs.{needs}
 use Rattle.report.proofs.part.Statement.{statement}
 use Rattle.report.proofs.part.Tie as tie
-use Rattle.report.proofs.part.Reads as reads
-use Rattle.report.proofs.part.Lts as lts
-use Rattle.report.proofs.least.Reads as least-reads
 
 least-requires : tie.Need-least-requires
 least-requires c κs = search needs

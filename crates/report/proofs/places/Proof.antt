@@ -3,8 +3,6 @@
 use borrow.Author.Tests.{lt-ltb, le-ltb}
 use Rattle.report.proofs.places.Statement.{statement}
 use Rattle.report.proofs.places.Tie as tie
-use Rattle.report.proofs.places.Reads as reads
-use Rattle.report.proofs.places.Lts as lts
 
 returns : tie.Need-returns
 returns c = rw (lt-ltb _ _ (c .if1 .taken))

@@ -4,8 +4,6 @@ use borrow.Author.Tests.{lt-ltb, le-ltb}
 use borrow.Author.Needs.{needs}
 use Rattle.test_script.proofs.digit.Statement.{statement}
 use Rattle.test_script.proofs.digit.Tie as tie
-use Rattle.test_script.proofs.digit.Reads as reads
-use Rattle.test_script.proofs.digit.Lts as lts
 
 add-result : tie.Need-add-result
 add-result c = search needs

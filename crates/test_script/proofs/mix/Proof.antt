@@ -7,8 +7,6 @@ use Rattle.test_script.proofs.Laws.{product-small}
 use borrow.Author.Needs.{needs}
 use Rattle.test_script.proofs.mix.Statement.{statement}
 use Rattle.test_script.proofs.mix.Tie as tie
-use Rattle.test_script.proofs.mix.Reads as reads
-use Rattle.test_script.proofs.mix.Lts as lts
 
 cast-modulus : tie.Need-cast-modulus
 cast-modulus c = search needs

@@ -9,10 +9,6 @@ use Rattle.test_script.proofs.Laws.{mixed-more, mixed-end}
 use borrow.Author.Needs.{needs}
 use Rattle.test_script.proofs.mix_all.Statement.{statement}
 use Rattle.test_script.proofs.mix_all.Tie as tie
-use Rattle.test_script.proofs.mix_all.Reads as reads
-use Rattle.test_script.proofs.mix_all.Lts as lts
-use Rattle.test_script.proofs.mix.Reads as mix-reads
-use Rattle.test_script.proofs.wide.Reads as wide-reads
 
 abbrev Inv-loop : tie.InvT-loop
 Inv-loop sum bytes by now₀ i₀ now i =

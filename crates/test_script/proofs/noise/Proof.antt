@@ -11,9 +11,6 @@ use Rattle.test_script.proofs.Laws.{noise-more, noise-whole}
 use borrow.Author.Needs.{needs}
 use Rattle.test_script.proofs.noise.Statement.{statement}
 use Rattle.test_script.proofs.noise.Tie as tie
-use Rattle.test_script.proofs.noise.Reads as reads
-use Rattle.test_script.proofs.noise.Lts as lts
-use Rattle.test_script.proofs.mix.Reads as mix-reads
 
 abbrev Inv-loop : tie.InvT-loop
 Inv-loop bytes₀ seed by unit now₀ i₀ bytes now i =

@@ -4,8 +4,6 @@ use borrow.Author.Tests.{lt-ltb, le-ltb}
 use borrow.Author.Needs.{needs}
 use Rattle.test_script.proofs.step_at.Statement.{statement}
 use Rattle.test_script.proofs.step_at.Tie as tie
-use Rattle.test_script.proofs.step_at.Reads as reads
-use Rattle.test_script.proofs.step_at.Lts as lts
 
 mul-t6 : tie.Need-mul-t6
 mul-t6 c = search needs
