@@ -2,11 +2,9 @@
 -- Assumes nothing.
 use Prim.Native.Nat.{ℕ, zero, suc, _+_, _*_, _/_, _%_, _≤_, _<_, min}
 use mathlib.Core.Path.{_≡_, refl, sym, ap, _∙_, subst}
-use mathlib.Core.Bool.{Bool, true, false, _&&_}
 use mathlib.Core.List.{List, [], _∷_, zipWith}
 use native.Mathlib.Nat.{le-refl, not-suc-le-zero, le-of-suc-le-suc}
 use native.Mathlib.Omega.{arith}
-use lib.Dec.{T, eqb, eqb→eq}
 use lib.ListN.{getD, length}
 use lib.Bits.{bitAnd, and-step, and-zero-l}
 use Rattle.facts.proofs.Lists.{set-at}
@@ -25,12 +23,6 @@ fbk-bound r = omega arith
 
 -- ---- unused bits read 0
 
-half : (x y a m : ℕ) → x ≡ y * 2 + min (a % 2) (m % 2) → x / 2 ≡ y
-half x y a m e = omega arith
-
-whole : (x y y′ a m : ℕ) → x ≡ y * 2 + min (a % 2) (m % 2) → y′ ≡ y → y′ * 2 + min (x % 2) (m % 2) ≡ x
-whole x y y′ a m e q = omega arith
-
 -- a mask twice is a mask once
 and-twice : (k a m : ℕ) → a ≤ k → bitAnd (bitAnd a m) m ≡ bitAnd a m
 and-twice zero a m h =
@@ -38,9 +30,8 @@ and-twice zero a m h =
     subst (λ (n : ℕ). bitAnd (bitAnd n m) m ≡ bitAnd n m) (sym z) (ap (λ (n : ℕ). bitAnd n m) (and-zero-l m))
 and-twice (suc k) a m h =
     let e : bitAnd a m ≡ bitAnd (a / 2) (m / 2) * 2 + min (a % 2) (m % 2) = and-step a m in
-    and-step (bitAnd a m) m
-    ∙ ap (λ (q : ℕ). bitAnd q (m / 2) * 2 + min (bitAnd a m % 2) (m % 2)) (half (bitAnd a m) (bitAnd (a / 2) (m / 2)) a m e)
-    ∙ whole (bitAnd a m) (bitAnd (a / 2) (m / 2)) (bitAnd (bitAnd (a / 2) (m / 2)) (m / 2)) a m e (and-twice k (a / 2) (m / 2) (omega arith))
+    let p : bitAnd a m / 2 ≡ bitAnd (a / 2) (m / 2) = omega arith in
+    omega (arith, rw p at (and-step (bitAnd a m) m), and-twice k (a / 2) (m / 2) (omega arith))
 
 -- each register holds kept bits only, so its unused bits read 0
 unfoldable pub Masked : Registers → Type 0
@@ -51,27 +42,6 @@ unfolding Masked
 stored-masked r n b h i =
     set-at (λ k v. bitAnd v (getD kept k 0) ≡ v) (r .bytes) (n % 16) (bitAnd b (getD kept (n % 16) 0)) (i % 16)
     (and-twice b b (getD kept (n % 16) 0) (le-refl b)) (h i)
-
--- a test over two lists, computed, and what it says at each index
-within : List ℕ → List ℕ → Bool
-within [] ks = true
-within (x ∷ xs) [] = false
-within (x ∷ xs) (k ∷ ks) = eqb (bitAnd x k) x && within xs ks
-
-both : (a b : Bool) → T (a && b) → T a × T b
-both true b t = (tt, t)
-both false b t = absurd t
-
-within-at : (xs ks : List ℕ) → T (within xs ks) → (i : ℕ) → bitAnd (getD xs i 0) (getD ks i 0) ≡ getD xs i 0
-unfolding within
-within-at [] ks t i = and-zero-l (getD ks i 0)
-within-at (x ∷ xs) [] t i = absurd t
-within-at (x ∷ xs) (k ∷ ks) t zero = eqb→eq (bitAnd x k) x (both (eqb (bitAnd x k) x) (within xs ks) t .0)
-within-at (x ∷ xs) (k ∷ ks) t (suc i) = within-at xs ks (both (eqb (bitAnd x k) x) (within xs ks) t .1) i
-
-pub fresh-masked : Masked freshRegisters
-unfolding Masked within
-fresh-masked i = within-at (freshRegisters .bytes) kept tt (i % 16)
 
 -- ---- all sixteen from their bytes
 
@@ -98,3 +68,8 @@ zip-within (b ∷ bs) (k ∷ ks) (suc i) = zip-within bs ks i
 pub loaded-masked : (bytes : List ℕ) → Masked (loaded bytes)
 unfolding Masked loaded
 loaded-masked bytes i = zip-within bytes kept (i % 16)
+
+-- the reset values are kept bits only, by computation
+pub fresh-masked : Masked freshRegisters
+unfolding loaded zipWith
+fresh-masked = loaded-masked (freshRegisters .bytes)
