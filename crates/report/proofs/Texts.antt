@@ -12,7 +12,8 @@ use lib.Dec.{ltb}
 use borrow.Author.Tests.{eq-eqb, ne-eqb, lt-ltb, le-ltb}
 use borrow.Rule.Slice.PartMut.{putMid, post-is, mid-len}
 use lib.ListN.{length, getD, take, drop, set, replicate, length-append, length-drop, length-set, drop-of-length-le}
-use lib.Seq.{take-all, take-nil, take-at, drop-at, drop-cons, drop-drop, drop-set-lt, getD-set-same}
+use lib.Seq.{take-all, take-nil, take-at, drop-at, drop-cons, drop-drop, drop-set-lt, getD-set-same, sets-eq}
+use Rattle.facts.proofs.Parts.{copied}
 use Rattle.registers.proofs.Laws.{ld-bound}
 use Rattle.device.specs.declared.Device.{Device}
 use Rattle.device.specs.Device.{DrawOutcome, lineWidth}
@@ -105,6 +106,12 @@ put-is next part out at e p q =
           ap₂ (λ (k l : List ℕ). take at out ++ (k ++ l)) p
           (post-is at e out (omega arith) ∙ ap (λ (n : ℕ). drop n out) q);
     }
+
+pub put-copied : (next part out : List ℕ) (at : ℕ) → at + length next ≤ length out
+    → part ≡ take (length next) next ++ drop (length next) (take (at + length next - at) (drop at out))
+    → Put next at out (at + length next) (putMid at (at + length next - at) out part)
+put-copied next part out at h p =
+    record { next = refl; written = copied out next at (at + length next - at) part h (omega arith) p ∙ sets-eq next out at h ∙ append-assoc (take at out) next _ }
 
 pub put-decimal : (n : ℕ) (part out : List ℕ) (at e : ℕ) → e ≡ at + placesOf n → e ≤ length out
     → part ≡ digits (length (take (e - at) (drop at out))) n → Put (decimal n) at out e (putMid at (e - at) out part)

@@ -106,17 +106,6 @@ fn places(number: u16) -> usize
     5
 }
 
-fn copy(out: &mut [u8], word: &[u8])
-    requires { ⌜ length (now word) ≡ length (now out) ⌝ }
-    ensures { λ _. ⌜ now (out .exit) ≡ now (word .entry) ⌝ }
-{
-    let mut i = 0;
-    while i < out.len() {
-        out[i] = word[i];
-        i += 1;
-    }
-}
-
 fn copy_pixels(out: &mut [u8], pixels: &[u8])
     requires { ⌜ length (now pixels) ≡ length (now out) ⌝ }
     ensures { λ _. ⌜ now (out .exit) ≡ map hexDigit (now (pixels .entry)) ⌝ }
@@ -148,7 +137,7 @@ fn put_word(out: &mut [u8], at: usize, word: &[u8]) -> usize
     ensures { λ r. ⌜ Put (now (word .entry)) at (now (out .entry)) r (now (out .exit)) ⌝ }
 {
     let e = at + word.len();
-    copy(&mut out[at..e], word);
+    bytes::copy(word, &mut out[at..e]);
     e
 }
 

@@ -233,19 +233,9 @@ fn plays(which: Which, kind: u8) -> bool {
     }
 }
 
+// As many bytes as there is room for.
 fn copy(from: &[u8], to: &mut [u8]) {
-    let mut i = 0;
-    while i < to.len() {
-        to[i] = byte_at(from, i);
-        i += 1;
-    }
-}
-
-fn byte_at(bytes: &[u8], i: usize) -> u8 {
-    if i < bytes.len() {
-        return bytes[i];
-    }
-    0
+    bytes::copy(test_script::first(from, to.len()), to);
 }
 
 // ---- steps 0 to 7 and 9

@@ -1,8 +1,7 @@
 -- `put_word`: the part is the word.
 -- Assumes nothing.
-use mathlib.Core.Path.{refl}
 use denote.Ref.{now}
-use Rattle.report.proofs.Texts.{put-is}
+use Rattle.report.proofs.Texts.{put-copied}
 use borrow.Author.Needs.{needs}
 use Rattle.report.proofs.put_word.Statement.{statement}
 use Rattle.report.proofs.put_word.Tie as tie
@@ -27,8 +26,8 @@ same-length c = search needs
 
 returns : tie.Need-returns
 returns c =
-    let a = c .before .before .before .before .before .before .args in
-    put-is (now (a .word)) _ (now (a .out)) (a .at) _ (c .before .before .copy .ensures) refl
+    let a = c .before .before .before .before .before .before in
+    put-copied (now (a .args .word)) _ (now (a .args .out)) (a .args .at) (a .pre) (c .before .before .copy .ensures .1)
 
 pub put-word-spec : {M : Type 1} → statement M
 put-word-spec =

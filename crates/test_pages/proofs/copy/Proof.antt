@@ -1,53 +1,23 @@
--- `copy` stays within both slices and keeps the length of the one that it fills.
+-- `copy` stays within the one that it fills.
 -- Assumes nothing.
-use Prim.Native.Nat.{_-_}
-use mathlib.Core.Path.{_≡_}
-use lib.ListN.{length}
+use mathlib.Core.Path.{ap}
+use native.Mathlib.Omega.{arith}
+use lib.ListN.{length, length-take}
 use borrow.Author.Needs.{needs}
 use Rattle.test_pages.proofs.copy.Statement.{statement}
 use Rattle.test_pages.proofs.copy.Tie as tie
 
-abbrev Inv-loop : tie.InvT-loop
-Inv-loop from to₀ i₀ to i = length to ≡ length to₀
+first-requires : tie.Need-first-requires
+first-requires c κs = search needs
 
-abbrev μ-loop : tie.MeasureT-loop
-μ-loop from to₀ i₀ to i = length to₀ - i
+copy-requires : tie.Need-copy-requires
+copy-requires c κs = omega (arith, simp length-take at (ap length (c .before .first .ensures)))
 
-loop-holds : tie.Need-loop-holds Inv-loop μ-loop
-loop-holds c = search needs
-
-byte-at-requires : tie.Need-byte-at-requires Inv-loop μ-loop
-byte-at-requires c κs = search needs
-
-slice-write-to : tie.Need-slice-write-to Inv-loop μ-loop
-slice-write-to c = search needs
-
-add-i : tie.Need-add-i Inv-loop μ-loop
-add-i c = search needs
-
-loop-less : tie.Need-loop-less Inv-loop μ-loop
-loop-less c = search needs
-
-loop-again : tie.Need-loop-again Inv-loop μ-loop
-loop-again c = search needs
-
-same-length : tie.Need-same-length Inv-loop μ-loop
+same-length : tie.Need-same-length
 same-length c = search needs
 
-returns : tie.Need-returns Inv-loop μ-loop
+returns : tie.Need-returns
 returns c = search needs
 
 pub copy-spec : {M : Type 1} → statement M
-copy-spec =
-    tie.close
-    (tie.spec
-    Inv-loop
-    μ-loop
-    loop-holds
-    byte-at-requires
-    slice-write-to
-    add-i
-    loop-less
-    loop-again
-    same-length
-    returns)
+copy-spec = tie.close (tie.spec first-requires copy-requires same-length returns)
