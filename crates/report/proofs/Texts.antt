@@ -2,22 +2,22 @@
 -- Assumes nothing.
 use Prim.Native.Nat.{ℕ, zero, suc, _+_, _-_, _/_, _%_, _≤_, _<_, min}
 use mathlib.Core.Path.{_≡_, refl, sym, ap, ap₂, _∙_}
-use mathlib.Core.Bool.{Bool, true, false, cond}
-use mathlib.Core.List.{List, [], _∷_, _++_, map, append-assoc}
+use mathlib.Core.List.{List, [], _∷_, _++_, append-assoc}
 use native.Mathlib.Nat.{not-suc-le-zero, le-of-suc-le-suc}
-use native.Mathlib.Numerals.{sub-one}
 use native.Mathlib.Decide.{decLe}
 use native.Mathlib.Omega.{arith}
 use lib.Dec.{ltb}
 use borrow.Author.Tests.{eq-eqb, ne-eqb, lt-ltb, le-ltb}
 use borrow.Rule.Slice.PartMut.{putMid, post-is, mid-len}
-use lib.ListN.{length, getD, take, drop, set, replicate, length-append, length-drop, length-set, drop-of-length-le}
-use lib.Seq.{take-all, take-nil, take-at, drop-at, drop-cons, drop-drop, drop-set-lt, getD-set-same, sets-eq}
+use lib.ListN.{length, take, drop, set, replicate, length-append, length-drop, length-map, drop-of-length-le}
+use lib.Seq.{take-all, take-nil, take-at, drop-at, drop-drop, sets-eq}
+use Rattle.facts.proofs.Choice.{either}
 use Rattle.facts.proofs.Parts.{copied}
+use Rattle.facts.proofs.Written.{back-more}
 use Rattle.registers.proofs.Laws.{ld-bound}
 use Rattle.device.specs.declared.Device.{Device}
 use Rattle.device.specs.Device.{DrawOutcome, lineWidth}
-use Rattle.report.specs.Report.{hexDigit, placesOf, digits, decimal, Put, refusalText, headingText, lineText, TextOutcome, writeText, textOutcome, LineOutcome, textOf}
+use Rattle.report.specs.Report.{placesOf, digits, decimal, Put, refusalText, headingText, lineText, TextOutcome, writeText, textOutcome, LineOutcome, textOf}
 
 -- ---- parts of the input
 
@@ -43,15 +43,6 @@ part-is l start end s e h p q = by (decLe start e) (decLe end (length l))
 
 -- ---- digits
 
-pub map-length : (l : List ℕ) → length (map hexDigit l) ≡ length l
-map-length [] = refl
-map-length (x ∷ l) = ap suc (map-length l)
-
-pub map-at : (l : List ℕ) (i : ℕ) → i < length l → getD (map hexDigit l) i 0 ≡ hexDigit (getD l i 0)
-map-at [] i h = absurd (not-suc-le-zero h)
-map-at (x ∷ l) zero h = refl
-map-at (x ∷ l) (suc i) h = map-at l i (le-of-suc-le-suc h)
-
 digits-length : (k n : ℕ) → length (digits k n) ≡ k
 unfolding digits
 digits-length zero n = refl
@@ -60,41 +51,21 @@ digits-length (suc k) n = simp (length-append, digits-length k (n / 10)) (omega 
 pub decimal-length : (n : ℕ) → length (decimal n) ≡ placesOf n
 decimal-length n = digits-length (placesOf n) n
 
-digits-none : (n : ℕ) → digits 0 n ≡ []
-unfolding digits
-digits-none n = refl
-
-digits-last : (i n : ℕ) → 0 < i → digits i n ≡ digits (i - 1) (n / 10) ++ (48 + n % 10) ∷ []
-unfolding digits
-digits-last zero n h = absurd (not-suc-le-zero h)
-digits-last (suc i) n h = ap (λ (m : ℕ). digits m (n / 10) ++ (48 + n % 10) ∷ []) (sym (sub-one (suc i)))
-
 -- one digit more, from the last on
 pub digits-more : (all out : List ℕ) (i n v : ℕ) → 0 < i → i ≤ length out → v ≡ 48 + n % 10 → digits i n ++ drop i out ≡ all
     → digits (i - 1) (n / 10) ++ drop (i - 1) (set out (i - 1) v) ≡ all
-digits-more all out i n v h k p e =
-    let j : suc (i - 1) ≡ i = omega arith in
-    ap (λ (l : List ℕ). digits (i - 1) (n / 10) ++ l)
-    (drop-cons (set out (i - 1) v) (i - 1) 0 (omega (arith, length-set out (i - 1) v))
-    ∙ ap₂ (λ (x : ℕ) (l : List ℕ). x ∷ l) (getD-set-same out (i - 1) v 0 (omega arith) ∙ p)
-    (drop-set-lt (suc (i - 1)) out (i - 1) v (omega arith) ∙ ap (λ (m : ℕ). drop m out) j))
-    ∙ sym (append-assoc (digits (i - 1) (n / 10)) ((48 + n % 10) ∷ []) (drop i out))
-    ∙ ap (λ (l : List ℕ). l ++ drop i out) (sym (digits-last i n h))
-    ∙ e
+unfolding digits
+digits-more = back-more digits 10 (λ n. 48 + n % 10) (λ k n. refl)
 
 pub digits-whole : (all out : List ℕ) (i n : ℕ) → i ≡ 0 → digits i n ++ drop i out ≡ all → out ≡ all
-digits-whole all out i n h e =
-    ap (λ (l : List ℕ). l ++ out) (sym (digits-none n)) ∙ ap (λ (m : ℕ). digits m n ++ drop m out) (sym h) ∙ e
-
-either-few : (t : Bool) (m n : ℕ) → m ≤ 5 → n ≤ 5 → cond t m n ≤ 5
-either-few true m n h k = h
-either-few false m n h k = k
+unfolding digits
+digits-whole all out i n h e = rw h at e
 
 -- a number has at most five digits
 pub places-few : (n : ℕ) → placesOf n ≤ 5
 places-few n =
-    either-few (ltb n 10) 1 _ (omega arith)
-    (either-few (ltb n 100) 2 _ (omega arith) (either-few (ltb n 1000) 3 _ (omega arith) (either-few (ltb n 10000) 4 5 (omega arith) (omega arith))))
+    let few = either (λ (k : ℕ). k ≤ 5) in
+    few (ltb n 10) 1 _ (omega arith) (few (ltb n 100) 2 _ (omega arith) (few (ltb n 1000) 3 _ (omega arith) (few (ltb n 10000) 4 5 (omega arith) (omega arith))))
 
 -- ---- a part of a text at a place
 
@@ -178,14 +149,11 @@ text-drawn o out t h e = rw (eq-eqb (o .reply .refusal) 0 h, e)
 pub width-most : (d : Device) → lineWidth d ≤ 768
 width-most d = omega (arith, ld-bound (d .registers))
 
-blank-more : (n k : ℕ) → n ≤ k → take {A = ℕ} n (replicate k 0) ≡ replicate n 0
-blank-more zero k h = refl
-blank-more (suc n) zero h = absurd (not-suc-le-zero h)
-blank-more (suc n) (suc k) h = ap (λ (l : List ℕ). 0 ∷ l) (blank-more n k (le-of-suc-le-suc h))
-
 -- the part of it that a line takes
-pub blank : (n : ℕ) → n ≤ 768 → take {A = ℕ} n (replicate 768 0) ≡ replicate n 0
-blank n h = blank-more n 768 h
+pub blank : (n k : ℕ) → n ≤ k → take {A = ℕ} n (replicate k 0) ≡ replicate n 0
+blank zero k h = refl
+blank (suc n) zero h = absurd (not-suc-le-zero h)
+blank (suc n) (suc k) h = ap (λ (l : List ℕ). 0 ∷ l) (blank n k (le-of-suc-le-suc h))
 
 -- ---- how long the texts are
 
@@ -196,4 +164,4 @@ pub heading-long : (lines width : ℕ) → length (headingText lines width) ≡ 
 heading-long lines width = simp (length-append, digits-length) (omega arith)
 
 pub line-long : (pixels : List ℕ) (cells : ℕ) → length (lineText pixels cells) ≡ length pixels + 2 + placesOf cells
-line-long pixels cells = simp (length-append, map-length, digits-length) (omega arith)
+line-long pixels cells = simp (length-append, length-map, digits-length) (omega arith)

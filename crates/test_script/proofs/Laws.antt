@@ -1,13 +1,14 @@
 -- The laws of digits and digests.
 -- Assumes nothing.
 use Prim.Native.Nat.{ℕ, zero, suc, _+_, _-_, _*_, _/_, _%_, _≤_, _<_}
-use mathlib.Core.Path.{_≡_, refl, sym, ap, ap₂, _∙_}
-use mathlib.Core.List.{List, [], _∷_, _++_, append-assoc, append-nil}
+use mathlib.Core.Path.{_≡_, refl, sym, ap, _∙_}
+use mathlib.Core.List.{List, _∷_, _++_}
 use native.Mathlib.Nat.{not-suc-le-zero, mul-le-mul, mod-lt}
 use native.Mathlib.Numerals.{sub-one, add-one}
 use native.Mathlib.Omega.{arith}
-use lib.ListN.{length, getD, take, drop, set, length-set}
-use lib.Seq.{take-all, take-suc-set, drop-cons, drop-set-lt, getD-set-same, drop-length}
+use lib.ListN.{length, getD, take, drop, set}
+use lib.Seq.{drop-cons, drop-length}
+use Rattle.facts.proofs.Written.{front-more, front-whole, back-more}
 use Rattle.test_script.specs.declared.Numbers.{Numbers}
 use Rattle.test_script.specs.Script.{nextOf, noiseOf, mixed, digitOf, digitsOf}
 
@@ -28,17 +29,15 @@ pub noise-more : (by : Numbers) (unit n : ℕ) (all bytes : List ℕ) (i seed ne
     → next ≡ nextOf seed 0 by → v ≡ next / unit % 256 → take i bytes ++ noiseOf (n - i) seed by unit ≡ all
     → take (i + 1) (set bytes i v) ++ noiseOf (n - (i + 1)) next by unit ≡ all
 noise-more by unit n all bytes i seed next v h k p q e =
-    ap (λ (l : List ℕ). l ++ noiseOf (n - (i + 1)) next by unit) (ap (λ (m : ℕ). take m (set bytes i v)) (add-one i) ∙ take-suc-set bytes i v (omega arith))
-    ∙ append-assoc (take i bytes) (v ∷ []) (noiseOf (n - (i + 1)) next by unit)
-    ∙ ap (λ (l : List ℕ). take i bytes ++ l) (sym (noise-first by unit (n - i) seed next v (omega arith) p q ∙ ap (λ (m : ℕ). v ∷ noiseOf m next by unit) (omega arith)))
-    ∙ e
+    let less : n - (i + 1) ≡ n - i - 1 = omega arith in
+    front-more all bytes _ i (i + 1) v (omega arith) (omega arith) (rw (less, ← noise-first by unit (n - i) seed next v (omega arith) p q) e)
 
 pub noise-whole : (by : Numbers) (unit n : ℕ) (all bytes : List ℕ) (i seed : ℕ) → i ≡ n → length bytes ≡ n
     → take i bytes ++ noiseOf (n - i) seed by unit ≡ all → bytes ≡ all
 unfolding noiseOf
 noise-whole by unit n all bytes i seed h k e =
     let none : n - i ≡ 0 = omega arith in
-    sym (ap₂ (λ (l : List ℕ) (m : ℕ). l ++ noiseOf m seed by unit) (take-all i bytes (omega arith)) none ∙ append-nil bytes) ∙ e
+    front-whole all bytes i (omega arith) (rw none at e)
 
 -- one byte more of a digest
 pub mixed-more : (bytes : List ℕ) (by : Numbers) (i now next v all : ℕ) → i < length bytes → next ≡ nextOf now v by → v ≡ getD bytes i 0
@@ -50,23 +49,11 @@ pub mixed-end : (bytes : List ℕ) (by : Numbers) (i now all : ℕ) → i ≡ le
 unfolding mixed
 mixed-end bytes by i now all h e = ap (λ (l : List ℕ). mixed now l by) (sym (ap (λ (n : ℕ). drop n bytes) h ∙ drop-length bytes)) ∙ e
 
-digits-last : (i n : ℕ) → 0 < i → digitsOf i n ≡ digitsOf (i - 1) (n / 16) ++ digitOf (n % 16) ∷ []
-unfolding digitsOf
-digits-last zero n h = absurd (not-suc-le-zero h)
-digits-last (suc i) n h = ap (λ (m : ℕ). digitsOf m (n / 16) ++ digitOf (n % 16) ∷ []) (sym (sub-one (suc i)))
-
 -- one digit more, from the last on
 pub digits-more : (all out : List ℕ) (i n v : ℕ) → 0 < i → i ≤ length out → v ≡ digitOf (n % 16) → digitsOf i n ++ drop i out ≡ all
     → digitsOf (i - 1) (n / 16) ++ drop (i - 1) (set out (i - 1) v) ≡ all
-digits-more all out i n v h k p e =
-    let j : suc (i - 1) ≡ i = omega arith in
-    ap (λ (l : List ℕ). digitsOf (i - 1) (n / 16) ++ l)
-    (drop-cons (set out (i - 1) v) (i - 1) 0 (omega (arith, length-set out (i - 1) v))
-    ∙ ap₂ (λ (x : ℕ) (l : List ℕ). x ∷ l) (getD-set-same out (i - 1) v 0 (omega arith) ∙ p)
-    (drop-set-lt (suc (i - 1)) out (i - 1) v (omega arith) ∙ ap (λ (m : ℕ). drop m out) j))
-    ∙ sym (append-assoc (digitsOf (i - 1) (n / 16)) (digitOf (n % 16) ∷ []) (drop i out))
-    ∙ ap (λ (l : List ℕ). l ++ drop i out) (sym (digits-last i n h))
-    ∙ e
+unfolding digitsOf
+digits-more = back-more digitsOf 16 (λ n. digitOf (n % 16)) (λ k n. refl)
 
 pub digits-whole : (all out : List ℕ) (i n : ℕ) → i ≡ 0 → digitsOf i n ++ drop i out ≡ all → out ≡ all
 unfolding digitsOf

@@ -1,11 +1,11 @@
 -- `next_line`: the draw into a line buffer of W bytes, mixed into the first 3 W bytes of out.
 -- Assumes nothing.
-use Prim.Native.Nat.{ℕ, _*_, _≤_}
+use Prim.Native.Nat.{ℕ, _*_}
 use mathlib.Core.Path.{sym, ap, _∙_}
 use mathlib.Core.List.{List, _++_}
 use native.Mathlib.Omega.{arith}
 use denote.Ref.{now}
-use lib.ListN.{length, drop, replicate, length-replicate}
+use lib.ListN.{drop, replicate}
 use lib.Seq.{length-take-le}
 use Rattle.device.specs.Device.{drawLine}
 use Rattle.report.proofs.Texts.{width-most, blank}
@@ -27,22 +27,17 @@ array-borrow-prefix-line : tie.Need-array-borrow-prefix-line
 array-borrow-prefix-line c = omega (arith, c .width-of .ensures, width-most (c .before .before .before .before .args .device))
 
 slice-aggregate-draw-mixed : tie.Need-slice-aggregate-draw-mixed
-slice-aggregate-draw-mixed c =
-    let w = c .before .width-of .result in
-    let h : w ≤ 768 = omega (arith, c .before .width-of .ensures, width-most (c .before .before .before .before .before .args .device)) in
-    sym (ap length (blank w h) ∙ length-replicate w 0)
+slice-aggregate-draw-mixed c = sym (length-take-le _ _ (array-borrow-prefix-line (c .before)))
 
 slice-relend-prefix-draw-mixed : tie.Need-slice-relend-prefix-draw-mixed
 slice-relend-prefix-draw-mixed c = omega (arith, c .before .width-of .ensures, width-most (c .before .before .before .before .before .args .device))
 
 slice-aggregate-draw-mixed-2 : tie.Need-slice-aggregate-draw-mixed-2
-slice-aggregate-draw-mixed-2 c = sym (length-take-le _ _ (omega (arith, c .before .before .width-of .ensures, width-most (c .before .before .before .before .before .before .args .device))))
+slice-aggregate-draw-mixed-2 c = sym (length-take-le _ _ (slice-relend-prefix-draw-mixed (c .before)))
 
 draw-mixed-requires : tie.Need-draw-mixed-requires
 draw-mixed-requires c κs =
-    let w = c .before .before .width-of .result in
-    let h : w ≤ 768 = omega (arith, c .before .before .width-of .ensures, width-most (c .before .before .before .before .before .before .args .device)) in
-    length-take-le (3 * w) _ (omega arith) ∙ ap (λ (n : ℕ). 3 * n) (sym (ap length (blank w h) ∙ length-replicate w 0))
+    sym (slice-aggregate-draw-mixed-2 c) ∙ ap (λ (n : ℕ). 3 * n) (slice-aggregate-draw-mixed (c .before))
 
 same-length : tie.Need-same-length
 same-length c = search needs
@@ -50,13 +45,12 @@ same-length c = search needs
 returns : tie.Need-returns
 returns c =
     let a = c .before .before .before .before .before .before .before .before .before .before .args in
-    let w = c .before .before .before .before .before .before .width-of .result in
-    let h : w ≤ 768 = omega (arith, c .before .before .before .before .before .before .width-of .ensures, width-most (c .before .before .before .before .before .before .before .before .before .before .args .device)) in
-    ap (λ (m : LineOutcome). lineOutcome (m .device) (m .out ++ drop (3 * w) (now (a .out))))
+    let w = c .before .before .before .before .before .before in
+    ap (λ (m : LineOutcome). lineOutcome (m .device) (m .out ++ drop (3 * w .width-of .result) (now (a .out))))
     (c .before .before .before .draw-mixed .ensures
-    ∙ ap (λ (line : List ℕ). mixedDraw (drawLine (a .device) (now (a .ram)) (now (a .font)) line) (a .y)) (blank w h))
+    ∙ ap (λ (line : List ℕ). mixedDraw (drawLine (a .device) (now (a .ram)) (now (a .font)) line) (a .y)) (blank _ 768 (array-borrow-prefix-line w)))
     ∙ ap (λ (n : ℕ). let m : LineOutcome = mixedDraw (drawLine (a .device) (now (a .ram)) (now (a .font)) (replicate n 0)) (a .y) in lineOutcome (m .device) (m .out ++ drop (3 * n) (now (a .out))))
-    (c .before .before .before .before .before .before .width-of .ensures)
+    (w .width-of .ensures)
 
 pub next-line-spec : {M : Type 1} → statement M
 next-line-spec =

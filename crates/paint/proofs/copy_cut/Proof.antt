@@ -38,7 +38,7 @@ loop-again c =
     let s = c .before .before .before in (
       search needs,
       length-set (l .out) _ _ ∙ l .inv .1,
-      written-more _ (l .out) (l .i) _ (omega arith) (omega arith) (l .inv .2) (ap (λ (n : ℕ). getD (now (s .args .whole)) n 0) (omega arith)),
+      written-more _ (l .out) (l .i) _ 0 (omega arith) (omega arith) (l .inv .2) (ap (λ (n : ℕ). getD (now (s .args .whole)) n 0) (omega arith)),
     )
 
 same-length : tie.Need-same-length Inv-loop μ-loop

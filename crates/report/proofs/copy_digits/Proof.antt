@@ -1,9 +1,8 @@
 -- `copy_digits`: the digits that are left and what is written from i on are all the digits.
 -- Assumes nothing.
-use Prim.Native.Nat.{_-_, _≤_}
+use Prim.Native.Nat.{ℕ, _≤_}
 use mathlib.Core.Path.{_≡_, refl, ap, _∙_}
 use mathlib.Core.List.{List, _++_, append-nil}
-use Prim.Native.Nat.{ℕ}
 use native.Mathlib.Omega.{arith}
 use denote.Ref.{now}
 use lib.ListN.{length, drop, length-set}
@@ -13,8 +12,6 @@ use Rattle.report.proofs.Texts.{digits-more, digits-whole}
 use borrow.Author.Needs.{needs}
 use Rattle.report.proofs.copy_digits.Statement.{statement}
 use Rattle.report.proofs.copy_digits.Tie as tie
-use Rattle.report.proofs.copy_digits.Reads as reads
-use Rattle.report.proofs.copy_digits.Lts as lts
 
 abbrev Inv-loop : tie.InvT-loop
 Inv-loop out₀ number i₀ rest₀ out i rest =

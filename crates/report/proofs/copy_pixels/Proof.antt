@@ -5,16 +5,12 @@ use mathlib.Core.Path.{_≡_, refl, sym, _∙_}
 use mathlib.Core.List.{_++_, map}
 use native.Mathlib.Omega.{arith}
 use denote.Ref.{now}
-use lib.ListN.{length, take, drop, length-set}
+use lib.ListN.{length, take, drop, length-set, length-map, List·getD-map}
 use Rattle.facts.proofs.Written.{written-more, written-whole}
 use Rattle.report.specs.Report.{hexDigit}
-use Rattle.report.proofs.Texts.{map-length, map-at}
 use borrow.Author.Needs.{needs}
 use Rattle.report.proofs.copy_pixels.Statement.{statement}
 use Rattle.report.proofs.copy_pixels.Tie as tie
-use Rattle.report.proofs.copy_pixels.Reads as reads
-use Rattle.report.proofs.copy_pixels.Lts as lts
-use Rattle.report.proofs.hex_digit.Reads as hex-digit-reads
 
 abbrev Inv-loop : tie.InvT-loop
 Inv-loop out₀ pixels i₀ out i =
@@ -47,8 +43,8 @@ loop-again c =
     let pixels = now (c .before .before .before .before .before .before .args .pixels) in (
       search needs,
       length-set (l .out) _ _ ∙ l .inv .1,
-      written-more (map hexDigit pixels) (l .out) (l .i) _ (omega arith) (omega (arith, map-length pixels)) (l .inv .2)
-          (c .hex-digit .ensures ∙ sym (map-at pixels (l .i) (omega arith))),
+      written-more (map hexDigit pixels) (l .out) (l .i) _ (hexDigit 0) (omega arith) (omega (arith, length-map pixels hexDigit)) (l .inv .2)
+          (c .hex-digit .ensures ∙ sym (List·getD-map hexDigit pixels (l .i) 0)),
     )
 
 same-length : tie.Need-same-length Inv-loop μ-loop
@@ -57,7 +53,7 @@ same-length c = search needs
 returns : tie.Need-returns Inv-loop μ-loop
 returns c =
     let pixels = now (c .before .before .before .before .args .pixels) in
-    written-whole (map hexDigit pixels) _ (c .before .loop .i) (omega arith) (omega (arith, map-length pixels)) (c .before .loop .inv .2)
+    written-whole (map hexDigit pixels) _ (c .before .loop .i) (omega arith) (omega (arith, length-map pixels hexDigit)) (c .before .loop .inv .2)
 
 pub copy-pixels-spec : {M : Type 1} → statement M
 copy-pixels-spec =

@@ -3,8 +3,9 @@
 use native.Mathlib.Omega.{arith}
 use mathlib.Core.List.{map}
 use denote.Ref.{now}
+use lib.ListN.{length-map}
 use Rattle.report.specs.Report.{hexDigit, space, newline, decimal, lineText}
-use Rattle.report.proofs.Texts.{map-length, decimal-length, places-few, line-long, upto-none, upto-part, upto-whole, too-short}
+use Rattle.report.proofs.Texts.{decimal-length, places-few, line-long, upto-none, upto-part, upto-whole, too-short}
 use borrow.Author.Needs.{needs}
 use Rattle.report.proofs.line_text.Statement.{statement}
 use Rattle.report.proofs.line_text.Tie as tie
@@ -38,12 +39,12 @@ slice-aggregate-put-word c = search needs
 put-word-requires : tie.Need-put-word-requires
 put-word-requires c κs =
     let a = c .before .before .before .before .before .before .before .before .before .before .before .args in
-    omega (arith, c .before .before .before .before .put-pixels .ensures .next, map-length (now (a .pixels)), c .before .before .before .before .before .before .if2 .left, c .before .before .before .before .before .before .before .before .if1 .left)
+    omega (arith, c .before .before .before .before .put-pixels .ensures .next, length-map (now (a .pixels)) hexDigit, c .before .before .before .before .before .before .if2 .left, c .before .before .before .before .before .before .before .before .if1 .left)
 
 put-number-requires : tie.Need-put-number-requires
 put-number-requires c κs =
     let a = c .before .before .before .before .before .before .before .before .before .before .before .before .before .before .before .args in
-    omega (arith, c .before .before .before .put-word .ensures .next, c .before .before .before .before .before .before .before .before .put-pixels .ensures .next, map-length (now (a .pixels)), c .before .before .before .before .before .before .before .before .before .before .before .places .ensures, c .before .before .before .before .before .before .before .before .before .before .if2 .left, c .before .before .before .before .before .before .before .before .before .before .before .before .if1 .left)
+    omega (arith, c .before .before .before .put-word .ensures .next, c .before .before .before .before .before .before .before .before .put-pixels .ensures .next, length-map (now (a .pixels)) hexDigit, c .before .before .before .before .before .before .before .before .before .before .before .places .ensures, c .before .before .before .before .before .before .before .before .before .before .if2 .left, c .before .before .before .before .before .before .before .before .before .before .before .before .if1 .left)
 
 slice-aggregate-put-word-2 : tie.Need-slice-aggregate-put-word-2
 slice-aggregate-put-word-2 c = search needs
@@ -51,7 +52,7 @@ slice-aggregate-put-word-2 c = search needs
 put-word-requires-2 : tie.Need-put-word-requires-2
 put-word-requires-2 c κs =
     let a = c .before .before .before .before .before .before .before .before .before .before .before .before .before .before .before .before .before .before .before .before .args in
-    omega (arith, c .before .before .before .before .put-number .ensures .next, c .before .before .before .before .before .before .before .before .put-word .ensures .next, c .before .before .before .before .before .before .before .before .before .before .before .before .before .put-pixels .ensures .next, map-length (now (a .pixels)), decimal-length (a .cells), c .before .before .before .before .before .before .before .before .before .before .before .before .before .before .before .before .places .ensures, c .before .before .before .before .before .before .before .before .before .before .before .before .before .before .before .if2 .left, c .before .before .before .before .before .before .before .before .before .before .before .before .before .before .before .before .before .if1 .left)
+    omega (arith, c .before .before .before .before .put-number .ensures .next, c .before .before .before .before .before .before .before .before .put-word .ensures .next, c .before .before .before .before .before .before .before .before .before .before .before .before .before .put-pixels .ensures .next, length-map (now (a .pixels)) hexDigit, decimal-length (a .cells), c .before .before .before .before .before .before .before .before .before .before .before .before .before .before .before .before .places .ensures, c .before .before .before .before .before .before .before .before .before .before .before .before .before .before .before .if2 .left, c .before .before .before .before .before .before .before .before .before .before .before .before .before .before .before .before .before .if1 .left)
 
 same-length : tie.Need-same-length
 same-length c = search needs

@@ -2,10 +2,11 @@
 -- Assumes nothing.
 use mathlib.Core.Path.{sym, ap, _∙_}
 use mathlib.Core.List.{List}
-use Prim.Native.Nat.{ℕ, _≤_}
+use Prim.Native.Nat.{ℕ}
 use native.Mathlib.Omega.{arith}
-use lib.ListN.{length, replicate, length-replicate}
+use lib.ListN.{replicate}
 use denote.Ref.{now}
+use lib.Seq.{length-take-le}
 use Rattle.device.specs.Device.{drawLine}
 use Rattle.report.specs.Report.{textOf}
 use Rattle.report.proofs.Texts.{width-most, blank}
@@ -23,10 +24,7 @@ array-borrow-prefix-line : tie.Need-array-borrow-prefix-line
 array-borrow-prefix-line c = omega (arith, c .width-of .ensures, width-most (c .before .before .before .before .args .device))
 
 slice-aggregate-draw-text : tie.Need-slice-aggregate-draw-text
-slice-aggregate-draw-text c =
-    let w = c .before .width-of .result in
-    let h : w ≤ 768 = omega (arith, c .before .width-of .ensures, width-most (c .before .before .before .before .before .args .device)) in
-    sym (ap length (blank w h) ∙ length-replicate w 0)
+slice-aggregate-draw-text c = sym (length-take-le _ _ (array-borrow-prefix-line (c .before)))
 
 draw-text-requires : tie.Need-draw-text-requires
 draw-text-requires c κs = search needs
@@ -37,11 +35,10 @@ same-length c = search needs
 returns : tie.Need-returns
 returns c =
     let a = c .before .before .before .before .before .before .before .before .before .before .args in
-    let w = c .before .before .before .before .before .before .width-of .result in
-    let h : w ≤ 768 = omega (arith, c .before .before .before .before .before .before .width-of .ensures, width-most (a .device)) in
+    let w = c .before .before .before .before .before .before in
     c .before .before .before .draw-text .ensures
     ∙ ap (λ (line : List ℕ). textOf (drawLine (a .device) (now (a .ram)) (now (a .font)) line) (now (a .out)))
-    (blank w h ∙ ap (λ (n : ℕ). replicate n 0) (c .before .before .before .before .before .before .width-of .ensures))
+    (blank _ 768 (array-borrow-prefix-line w) ∙ ap (λ (n : ℕ). replicate n 0) (w .width-of .ensures))
 
 pub next-line-spec : {M : Type 1} → statement M
 next-line-spec =

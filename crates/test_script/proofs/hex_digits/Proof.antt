@@ -1,7 +1,7 @@
 -- `hex_digits`: the digits that are left and what is written from i on are all the digits.
 -- Assumes nothing.
 use Prim.Native.Nat.{ℕ, _≤_}
-use mathlib.Core.Path.{_≡_, refl, ap, _∙_}
+use mathlib.Core.Path.{_≡_, ap, _∙_}
 use mathlib.Core.List.{List, _++_, append-nil}
 use native.Mathlib.Omega.{arith}
 use denote.Ref.{now}
@@ -12,9 +12,6 @@ use Rattle.test_script.proofs.Laws.{digits-more, digits-whole}
 use borrow.Author.Needs.{needs}
 use Rattle.test_script.proofs.hex_digits.Statement.{statement}
 use Rattle.test_script.proofs.hex_digits.Tie as tie
-use Rattle.test_script.proofs.hex_digits.Reads as reads
-use Rattle.test_script.proofs.hex_digits.Lts as lts
-use Rattle.test_script.proofs.digit.Reads as digit-reads
 
 abbrev Inv-loop : tie.InvT-loop
 Inv-loop number out₀ i₀ rest₀ out i rest =

@@ -46,7 +46,7 @@ loop-again c =
     let bytes = now (c .before .before .before .args .bytes) in (
       search needs,
       length-set (l .next) _ _ ∙ l .inv .1,
-      written-more (zipWith bitAnd bytes kept) (l .next) (l .i) _ (omega arith) (omega (arith, zip-length bytes kept)) (l .inv .2)
+      written-more (zipWith bitAnd bytes kept) (l .next) (l .i) _ 0 (omega arith) (omega (arith, zip-length bytes kept)) (l .inv .2)
           (sym (zip-at bytes kept (l .i) (omega arith) (omega arith))),
     )
 
