@@ -1,12 +1,12 @@
 -- The laws of the registers: the ranges of the settings, and that unused bits read 0.
 -- Assumes nothing.
 use Prim.Native.Nat.{ℕ, zero, suc, _+_, _*_, _/_, _%_, _≤_, _<_, min}
-use mathlib.Core.Path.{_≡_, refl, sym, ap, _∙_, subst}
+use mathlib.Core.Path.{_≡_, refl, sym, ap, subst}
 use mathlib.Core.List.{List, [], _∷_, zipWith}
-use native.Mathlib.Nat.{le-refl, not-suc-le-zero, le-of-suc-le-suc}
+use native.Mathlib.Nat.{le-refl}
 use native.Mathlib.Omega.{arith}
 use lib.ListN.{getD, length}
-use lib.Bits.{bitAnd, and-step, and-zero-l}
+use lib.Bits.{bitAnd, and-step, and-zero-l, and-zero-r}
 use Rattle.facts.proofs.Lists.{set-at}
 use Rattle.registers.specs.declared.Registers.{Registers}
 use Rattle.registers.specs.Registers.{kept, freshRegisters, loaded, stored, fetched, settingsOf}
@@ -51,23 +51,16 @@ zip-length [] ks = omega arith
 zip-length (b ∷ bs) [] = omega arith
 zip-length (b ∷ bs) (k ∷ ks) = omega (arith, zip-length bs ks)
 
-pub zip-at : (bs ks : List ℕ) (i : ℕ) → i < length bs → i < length ks → getD (zipWith bitAnd bs ks) i 0 ≡ bitAnd (getD bs i 0) (getD ks i 0)
+pub zip-at : (bs ks : List ℕ) (i : ℕ) → getD (zipWith bitAnd bs ks) i 0 ≡ bitAnd (getD bs i 0) (getD ks i 0)
 unfolding zipWith
-zip-at [] ks i h l = absurd (not-suc-le-zero h)
-zip-at (b ∷ bs) [] i h l = absurd (not-suc-le-zero l)
-zip-at (b ∷ bs) (k ∷ ks) zero h l = refl
-zip-at (b ∷ bs) (k ∷ ks) (suc i) h l = zip-at bs ks i (le-of-suc-le-suc h) (le-of-suc-le-suc l)
-
-zip-within : (bs ks : List ℕ) (i : ℕ) → bitAnd (getD (zipWith bitAnd bs ks) i 0) (getD ks i 0) ≡ getD (zipWith bitAnd bs ks) i 0
-unfolding zipWith
-zip-within [] ks i = and-zero-l (getD ks i 0)
-zip-within (b ∷ bs) [] i = and-zero-l 0
-zip-within (b ∷ bs) (k ∷ ks) zero = and-twice b b k (le-refl b)
-zip-within (b ∷ bs) (k ∷ ks) (suc i) = zip-within bs ks i
+zip-at [] ks i = sym (and-zero-l (getD ks i 0))
+zip-at (b ∷ bs) [] i = sym (and-zero-r (getD (b ∷ bs) i 0))
+zip-at (b ∷ bs) (k ∷ ks) zero = refl
+zip-at (b ∷ bs) (k ∷ ks) (suc i) = zip-at bs ks i
 
 pub loaded-masked : (bytes : List ℕ) → Masked (loaded bytes)
 unfolding Masked loaded
-loaded-masked bytes i = zip-within bytes kept (i % 16)
+loaded-masked bytes i = let b : ℕ = getD bytes (i % 16) 0 in rw (zip-at bytes kept (i % 16)) (and-twice b b (getD kept (i % 16) 0) (le-refl b))
 
 -- the reset values are kept bits only, by computation
 pub fresh-masked : Masked freshRegisters

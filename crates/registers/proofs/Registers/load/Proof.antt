@@ -47,7 +47,7 @@ loop-again c =
       search needs,
       length-set (l .next) _ _ ∙ l .inv .1,
       written-more (zipWith bitAnd bytes kept) (l .next) (l .i) _ 0 (omega arith) (omega (arith, zip-length bytes kept)) (l .inv .2)
-          (sym (zip-at bytes kept (l .i) (omega arith) (omega arith))),
+          (sym (zip-at bytes kept (l .i))),
     )
 
 returns : tie.Need-returns Inv-loop μ-loop
