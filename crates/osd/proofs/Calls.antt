@@ -32,38 +32,18 @@ use Rattle.device.specs.Device.{freshDevice, hearEvent, startOutcome, startFram
 use Rattle.layout.specs.Layout.{busAt, busLength, registersAt, registersLength, nextAt, frameAt, recordLength, part, put, stateNumber, busBytes, nextBytes, frameBytes, deviceBytes, deviceIn}
 use Rattle.facts.proofs.Parts.{getD-part, sets-comm, sets-part, set-part}
 use Rattle.layout.proofs.Laws.{numbered, put-part}
-use Rattle.osd.specs.Interface as osd
-use Rattle.osd.specs.Interface.{answerOf, notTaken, isRecord, InSpace, freshOn, ignoredOn, heardOn, stepOn, eventOn, busOn, storedOn, startedOn, startOn, drawnOn, drawOn, cellOn}
-
--- what holds of a call that the interface's own tests let through, and of one that they do not, holds of the call
-pub if-taken : {A : Type 0} (P : A → Type 0) (t : Bool) (x y : A) → (t ≡ true → P x) → P y → P (cond t x y)
-if-taken P true x y h k = h refl
-if-taken P false x y h k = k
-
--- those of a bus call: the record's length and the kind
-pub both-tests : (n kind : ℕ) → eqb n recordLength && not (ltb 3 kind) ≡ true → (n ≡ recordLength) × (kind ≤ 3)
-both-tests n kind = by (eqb n recordLength) (ltb 3 kind) refl refl
-  where
-    by : (p q : Bool) → eqb n recordLength ≡ p → ltb 3 kind ≡ q → p && not q ≡ true → (n ≡ recordLength) × (kind ≤ 3)
-    by true true a b t = absurd (true≢false (sym t))
-    by true false a b t = (eqb-true _ _ a, ltb-false _ _ b)
-    by false q a b t = absurd (true≢false (sym t))
+use Rattle.interface.specs.Interface as face
+use Rattle.interface.specs.Interface.{answerOf, freshOn, ignoredOn, heardOn, busOn, startedOn, startOn, drawnOn, drawOn, cellOn}
+use Rattle.interface.proofs.Laws.{state-byte, ignored-same, bus-is}
+use Rattle.osd.specs.Steps.{InSpace, stepOn, eventOn, storedOn}
 
 -- ---- fresh, and reset
 
-pub fresh-not : (xs : List ℕ) → (length xs ≡ recordLength → ⊥) → _≡_ {A = osd.Done} (record { device = xs; answer = notTaken }) (freshOn xs)
-unfolding freshOn
-fresh-not xs h = rw (ne-eqb _ _ h)
-
-pub fresh-done : (xs ys : List ℕ) → length xs ≡ recordLength → ys ≡ deviceBytes freshDevice → _≡_ {A = osd.Done} (record { device = ys; answer = 0 }) (freshOn xs)
+pub fresh-done : (xs ys : List ℕ) → length xs ≡ recordLength → ys ≡ deviceBytes freshDevice → _≡_ {A = face.Done} (record { device = ys; answer = 0 }) (freshOn xs)
 unfolding freshOn
 fresh-done xs ys h e = rw (eq-eqb _ _ h) (ap (λ (l : List ℕ). record { device = l; answer = 0 }) e)
 
 -- ---- frame start
-
-pub start-not : (xs : List ℕ) (lines : ℕ) → (length xs ≡ recordLength → ⊥) → _≡_ {A = osd.Done} (record { device = xs; answer = notTaken }) (startOn xs lines)
-unfolding startOn
-start-not xs lines h = rw (ne-eqb _ _ h)
 
 module _ (xs : List ℕ) (lines : ℕ) (x : Device) (d : StartDone) (h : length xs ≡ recordLength) (u : x ≡ deviceIn xs) (e : startOutcome d ≡ startFrame x lines) where
   start-is : startedOn xs (startOutcome d) ≡ startOn xs lines
@@ -71,27 +51,22 @@ module _ (xs : List ℕ) (lines : ℕ) (x : Device) (d : StartDone) (h : length 
   start-is = rw (eq-eqb _ _ h) (ap (startedOn xs) (e ∙ ap (λ (y : Device). startFrame y lines) u))
 
   pub start-done : (ys : List ℕ) → d .answer ≡ start.Started → ys ≡ put frameAt (frameBytes (d .device .frame)) (put nextAt (nextBytes (d .device .next)) xs)
-      → _≡_ {A = osd.Done} (record { device = ys; answer = 0 }) (startOn xs lines)
+      → _≡_ {A = face.Done} (record { device = ys; answer = 0 }) (startOn xs lines)
   unfolding startedOn
   start-done ys q p = by ∙ start-is
     where
-      by : _≡_ {A = osd.Done} (record { device = ys; answer = 0 }) (startedOn xs (startOutcome d))
+      by : _≡_ {A = face.Done} (record { device = ys; answer = 0 }) (startedOn xs (startOutcome d))
       by = rw q (ap (λ (l : List ℕ). record { device = l; answer = 0 }) p)
 
   pub start-refused : (r : Refusal) (a : ℕ) → d .answer ≡ start.Refused r → a ≡ answerOf (refused r)
-      → _≡_ {A = osd.Done} (record { device = xs; answer = a }) (startOn xs lines)
+      → _≡_ {A = face.Done} (record { device = xs; answer = a }) (startOn xs lines)
   unfolding startedOn
   start-refused r a q p = by ∙ start-is
     where
-      by : _≡_ {A = osd.Done} (record { device = xs; answer = a }) (startedOn xs (startOutcome d))
+      by : _≡_ {A = face.Done} (record { device = xs; answer = a }) (startedOn xs (startOutcome d))
       by = rw (q, not-zero r) (ap (λ (n : ℕ). record { device = xs; answer = n }) p)
 
 -- ---- draw
-
-pub draw-not : (xs ram font line : List ℕ) → (length xs ≡ recordLength → ⊥)
-    → _≡_ {A = osd.DrawDone} (record { device = xs; line = line; answer = notTaken }) (drawOn xs ram font line)
-unfolding drawOn
-draw-not xs ram font line h = rw (ne-eqb _ _ h)
 
 module _ (xs ram font line line′ : List ℕ) (x : Device) (d : DrawDone) (h : length xs ≡ recordLength) (u : x ≡ deviceIn xs)
     (e : drawOutcome d line′ ≡ drawLine x ram font line) where
@@ -100,26 +75,22 @@ module _ (xs ram font line line′ : List ℕ) (x : Device) (d : DrawDone) (h : 
   draw-is = rw (eq-eqb _ _ h) (ap (drawnOn xs) (e ∙ ap (λ (y : Device). drawLine y ram font line) u))
 
   pub draw-done : (ys : List ℕ) (n : ℕ) → d .answer ≡ draw.Drawn n → ys ≡ put frameAt (frameBytes (d .device .frame)) xs
-      → _≡_ {A = osd.DrawDone} (record { device = ys; line = line′; answer = n }) (drawOn xs ram font line)
+      → _≡_ {A = face.DrawDone} (record { device = ys; line = line′; answer = n }) (drawOn xs ram font line)
   unfolding drawnOn
   draw-done ys n q p = by ∙ draw-is
     where
-      by : _≡_ {A = osd.DrawDone} (record { device = ys; line = line′; answer = n }) (drawnOn xs (drawOutcome d line′))
+      by : _≡_ {A = face.DrawDone} (record { device = ys; line = line′; answer = n }) (drawnOn xs (drawOutcome d line′))
       by = let z : n ≡ 0 + n = omega arith in rw q (λ i. record { device = p i; line = line′; answer = z i })
 
   pub draw-refused : (r : Refusal) (a : ℕ) → d .answer ≡ draw.Refused r → a ≡ answerOf (refused r)
-      → _≡_ {A = osd.DrawDone} (record { device = xs; line = line′; answer = a }) (drawOn xs ram font line)
+      → _≡_ {A = face.DrawDone} (record { device = xs; line = line′; answer = a }) (drawOn xs ram font line)
   unfolding drawnOn
   draw-refused r a q p = by ∙ draw-is
     where
-      by : _≡_ {A = osd.DrawDone} (record { device = xs; line = line′; answer = a }) (drawnOn xs (drawOutcome d line′))
+      by : _≡_ {A = face.DrawDone} (record { device = xs; line = line′; answer = a }) (drawnOn xs (drawOutcome d line′))
       by = rw (q, not-zero r) (ap (λ (n : ℕ). record { device = xs; line = line′; answer = n }) p)
 
 -- ---- cell question
-
-pub cell-not : (xs ram : List ℕ) (cell : ℕ) → (length xs ≡ recordLength → ⊥) → notTaken ≡ cellOn xs ram cell
-unfolding cellOn
-cell-not xs ram cell h = rw (ne-eqb _ _ h)
 
 pub cell-done : (xs ram : List ℕ) (cell a : ℕ) → length xs ≡ recordLength → a ≡ answerOf (askCell (deviceIn xs) ram cell) → a ≡ cellOn xs ram cell
 unfolding cellOn
@@ -186,43 +157,27 @@ module _ (xs ram ys : List ℕ) (s : Step) (e : ys ≡ put busAt (busBytes (s .b
   stay = e ∙ ap (put busAt (busBytes (s .bus))) (sym (sets-part registersAt registersLength xs))
 
   pub applied-acknowledge : s .effect ≡ Acknowledge
-      → _≡_ {A = osd.BusDone} (record { device = ys; ram = ram; answer = 0 }) (stepOn xs ram s)
+      → _≡_ {A = face.BusDone} (record { device = ys; ram = ram; answer = 0 }) (stepOn xs ram s)
   unfolding heardOn taken registersWith ramWith answerTo
   applied-acknowledge q = rw q (ap (λ (l : List ℕ). record { device = l; ram = ram; answer = 0 }) stay)
 
   pub applied-store : (a x : ℕ) (zs ram′ : List ℕ) → s .effect ≡ Store a x → zs ≡ storedOn a x ys → ram′ ≡ ramWith (Store a x) ram
-      → _≡_ {A = osd.BusDone} (record { device = zs; ram = ram′; answer = 0 }) (stepOn xs ram s)
+      → _≡_ {A = face.BusDone} (record { device = zs; ram = ram′; answer = 0 }) (stepOn xs ram s)
   unfolding heardOn taken answerTo
   applied-store a x zs ram′ q p r =
       let place = p ∙ ap (storedOn a x) e ∙ stored-in-place (s .bus) xs a x in rw q (λ i. record { device = place i; ram = r i; answer = 0 })
 
   pub applied-load : (a byte : ℕ) → s .effect ≡ Load a → byte ≡ byteIn a (deviceIn xs .registers) ram
-      → _≡_ {A = osd.BusDone} (record { device = ys; ram = ram; answer = byte }) (stepOn xs ram s)
+      → _≡_ {A = face.BusDone} (record { device = ys; ram = ram; answer = byte }) (stepOn xs ram s)
   unfolding heardOn taken registersWith ramWith answerTo
   applied-load a byte q p =
       let z : byte ≡ 0 + byteIn a (deviceIn xs .registers) ram = omega (arith, p) in
       rw q (λ i. record { device = stay i; ram = ram; answer = z i })
 
 pub applied-ignore : (xs ram ys : List ℕ) (s : Step) (a : ℕ) → s .effect ≡ Ignore → ys ≡ ignoredOn (s .bus .state) xs → a ≡ answerOf (refused NotAcknowledged)
-    → _≡_ {A = osd.BusDone} (record { device = ys; ram = ram; answer = a }) (stepOn xs ram s)
+    → _≡_ {A = face.BusDone} (record { device = ys; ram = ram; answer = a }) (stepOn xs ram s)
 unfolding heardOn taken registersWith ramWith answerTo
 applied-ignore xs ram ys s a q e p = rw q (λ i. record { device = e i; ram = ram; answer = p i })
-
--- ---- an event that is not acknowledged
-
--- the state's byte
-state-byte : (xs : List ℕ) → getD (part busAt busLength xs) 0 0 ≡ getD xs busAt 0
-state-byte xs = getD-part xs busAt busLength 0 0 (omega arith)
-
--- where the state stays, no byte changes
-pub ignored-same : (xs : List ℕ) → ignoredOn (deviceIn xs .bus .state) xs ≡ xs
-ignored-same xs = by (eqb (stateNumber (deviceIn xs .bus .state)) 1) refl
-  where
-    by : (t : Bool) → eqb (stateNumber (deviceIn xs .bus .state)) 1 ≡ t → cond t (set xs busAt 1) xs ≡ xs
-    by true p =
-        let one : getD xs busAt 0 ≡ 1 = sym (state-byte xs) ∙ numbered _ _ 1 (eqb-true _ _ p) (omega arith) in
-        ap (set xs busAt) (sym one) ∙ set-getD xs busAt 0
-    by false p = refl
 
 -- ---- a data byte and a fetch, seen by the number of the state
 
@@ -232,7 +187,7 @@ up s n = record { state = s; counter = (n % 0x4000 + 1) % 0x4000 }
 
 module _ (xs ram ys : List ℕ) (n : ℕ) (p : n ≡ deviceIn xs .bus .counter) where
   pub written-next : (x : ℕ) (zs ram′ : List ℕ) → getD xs busAt 0 ≡ 5 → ys ≡ put busAt (busBytes (up Write n)) xs → zs ≡ storedOn (n % 0x4000) x ys
-      → ram′ ≡ ramWith (Store (n % 0x4000) x) ram → _≡_ {A = osd.BusDone} (record { device = zs; ram = ram′; answer = 0 }) (eventOn xs ram (Byte x))
+      → ram′ ≡ ramWith (Store (n % 0x4000) x) ram → _≡_ {A = face.BusDone} (record { device = zs; ram = ram′; answer = 0 }) (eventOn xs ram (Byte x))
   unfolding step
   written-next x zs ram′ five e q r =
       applied-store xs ram ys (record { bus = up Write n; effect = Store (n % 0x4000) x }) e (n % 0x4000) x zs ram′ refl q r
@@ -244,7 +199,7 @@ module _ (xs ram ys : List ℕ) (n : ℕ) (p : n ≡ deviceIn xs .bus .counter) 
 
   pub fetched-next : (byte : ℕ) → length xs ≡ recordLength → getD xs busAt 0 ≡ 6 → ys ≡ put busAt (busBytes (up Read n)) xs
       → byte ≡ byteIn (n % 0x4000) (deviceIn ys .registers) ram
-      → _≡_ {A = osd.BusDone} (record { device = ys; ram = ram; answer = byte }) (eventOn xs ram Fetch)
+      → _≡_ {A = face.BusDone} (record { device = ys; ram = ram; answer = byte }) (eventOn xs ram Fetch)
   unfolding step
   fetched-next byte h six e q =
       applied-load xs ram ys (record { bus = up Read n; effect = Load (n % 0x4000) }) e (n % 0x4000) byte refl
@@ -271,7 +226,7 @@ ignored-fetch b = by (b .state) refl
     by Read p n = absurd (n refl)
 
 pub not-fetched : (xs ram : List ℕ) (a : ℕ) → (getD xs busAt 0 ≡ 6 → ⊥) → a ≡ answerOf (refused NotAcknowledged)
-    → _≡_ {A = osd.BusDone} (record { device = xs; ram = ram; answer = a }) (eventOn xs ram Fetch)
+    → _≡_ {A = face.BusDone} (record { device = xs; ram = ram; answer = a }) (eventOn xs ram Fetch)
 not-fetched xs ram a n p =
     applied-ignore xs ram xs (ignores (deviceIn xs .bus)) a refl (sym (ignored-same xs)) p
     ∙ ap (stepOn xs ram)
@@ -279,39 +234,25 @@ not-fetched xs ram a n p =
 
 -- ---- bus event
 
-pub bus-not-record : (xs ram : List ℕ) (kind byte : ℕ) → (length xs ≡ recordLength → ⊥)
-    → _≡_ {A = osd.BusDone} (record { device = xs; ram = ram; answer = notTaken }) (busOn xs ram kind byte)
-unfolding busOn
-bus-not-record xs ram kind byte h = rw (ne-eqb _ _ h)
-
-pub bus-not-kind : (xs ram : List ℕ) (kind byte : ℕ) → 3 < kind
-    → _≡_ {A = osd.BusDone} (record { device = xs; ram = ram; answer = notTaken }) (busOn xs ram kind byte)
-unfolding busOn
-bus-not-kind xs ram kind byte k = rw (lt-ltb _ _ k, and-false (isRecord xs))
-
 module _ (xs ram : List ℕ) (kind byte : ℕ) (h : length xs ≡ recordLength) (k : kind ≤ 3) where
-  pub bus-is : heardOn xs (busEvent (deviceIn xs .bus) (deviceIn xs .registers) ram (eventOf kind byte)) ≡ busOn xs ram kind byte
-  unfolding busOn hearEvent
-  bus-is = rw (eq-eqb _ _ h, le-ltb _ _ k)
-
   -- refused for the RAM's length
   pub bus-refused : (a : ℕ) → (length ram ≡ 1024 → ⊥) → a ≡ answerOf (refused RamLength)
-      → _≡_ {A = osd.BusDone} (record { device = xs; ram = ram; answer = a }) (busOn xs ram kind byte)
+      → _≡_ {A = face.BusDone} (record { device = xs; ram = ram; answer = a }) (busOn xs ram kind byte)
   unfolding heardOn busEvent
-  bus-refused a r p = by ∙ bus-is
+  bus-refused a r p = by ∙ bus-is xs ram kind byte h k
     where
-      by : _≡_ {A = osd.BusDone} (record { device = xs; ram = ram; answer = a }) (heardOn xs (busEvent (deviceIn xs .bus) (deviceIn xs .registers) ram (eventOf kind byte)))
+      by : _≡_ {A = face.BusDone} (record { device = xs; ram = ram; answer = a }) (heardOn xs (busEvent (deviceIn xs .bus) (deviceIn xs .registers) ram (eventOf kind byte)))
       by = rw (ne-eqb _ _ r) (λ i. record { device = sym (ignored-same xs) i; ram = ram; answer = p i })
 
   -- heard: the event of that number
-  pub bus-heard : (e : Event) (o : osd.BusDone) → length ram ≡ 1024 → e ≡ eventOf kind byte → o ≡ eventOn xs ram e → o ≡ busOn xs ram kind byte
+  pub bus-heard : (e : Event) (o : face.BusDone) → length ram ≡ 1024 → e ≡ eventOf kind byte → o ≡ eventOn xs ram e → o ≡ busOn xs ram kind byte
   unfolding busEvent
-  bus-heard e o r q u = u ∙ ap (eventOn xs ram) q ∙ by ∙ bus-is
+  bus-heard e o r q u = u ∙ ap (eventOn xs ram) q ∙ by ∙ bus-is xs ram kind byte h k
     where
       by : eventOn xs ram (eventOf kind byte) ≡ heardOn xs (busEvent (deviceIn xs .bus) (deviceIn xs .registers) ram (eventOf kind byte))
       by = rw (eq-eqb _ _ r)
 
   -- the step of the bus, applied
-  pub bus-applied : (b : Bus) (e : Event) (s : Step) (o : osd.BusDone) → length ram ≡ 1024 → b ≡ deviceIn xs .bus → e ≡ eventOf kind byte → s ≡ step b e
+  pub bus-applied : (b : Bus) (e : Event) (s : Step) (o : face.BusDone) → length ram ≡ 1024 → b ≡ deviceIn xs .bus → e ≡ eventOf kind byte → s ≡ step b e
       → o ≡ stepOn xs ram s → o ≡ busOn xs ram kind byte
   bus-applied b e s o r p q t u = bus-heard (eventOf kind byte) o r refl (u ∙ ap (stepOn xs ram) (t ∙ ap₂ step p q))

@@ -2,7 +2,7 @@
 -- Assumes nothing.
 use mathlib.Core.Path.{subst}
 use borrow.Author.Needs.{needs}
-use Rattle.osd.specs.Interface.{InSpace}
+use Rattle.osd.specs.Steps.{InSpace}
 use Rattle.osd.proofs.Calls.{applied-acknowledge, applied-ignore, applied-store, applied-load}
 use Rattle.osd.proofs.apply.Statement.{statement}
 use Rattle.osd.proofs.apply.Tie as tie

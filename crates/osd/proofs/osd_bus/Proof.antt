@@ -4,8 +4,9 @@ use Prim.Native.Nat.{ℕ}
 use mathlib.Core.Path.{subst, sym, ap}
 use borrow.Author.Needs.{needs}
 use Rattle.bus.specs.declared.Step.{Step}
-use Rattle.osd.specs.Interface.{InSpace}
-use Rattle.osd.proofs.Calls.{step-in-space, bus-not-record, bus-not-kind, bus-refused, bus-heard, bus-applied, not-fetched}
+use Rattle.osd.specs.Steps.{InSpace}
+use Rattle.interface.proofs.Laws.{bus-not-record, bus-not-kind}
+use Rattle.osd.proofs.Calls.{step-in-space, bus-refused, bus-heard, bus-applied, not-fetched}
 use Rattle.bus.specs.declared.Event.the-variants.{Byte, Fetch}
 use Rattle.bus.specs.Bus.{eventOf}
 use Rattle.osd.proofs.osd_bus.Statement.{statement}

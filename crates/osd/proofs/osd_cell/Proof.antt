@@ -6,8 +6,9 @@ use denote.Ref.{now}
 use borrow.Author.Needs.{needs}
 use Rattle.device.specs.declared.Device.{Device}
 use Rattle.device.specs.Device.{askCell}
-use Rattle.osd.specs.Interface.{answerOf}
-use Rattle.osd.proofs.Calls.{cell-not, cell-done}
+use Rattle.interface.specs.Interface.{answerOf}
+use Rattle.interface.proofs.Laws.{cell-not}
+use Rattle.osd.proofs.Calls.{cell-done}
 use Rattle.osd.proofs.osd_cell.Statement.{statement}
 use Rattle.osd.proofs.osd_cell.Tie as tie
 

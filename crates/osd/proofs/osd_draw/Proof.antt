@@ -1,7 +1,8 @@
 -- `osd_draw`: refused, or the line drawn and the frame written.
 -- Assumes nothing.
 use borrow.Author.Needs.{needs}
-use Rattle.osd.proofs.Calls.{draw-not, draw-done, draw-refused}
+use Rattle.interface.proofs.Laws.{draw-not}
+use Rattle.osd.proofs.Calls.{draw-done, draw-refused}
 use Rattle.osd.proofs.osd_draw.Statement.{statement}
 use Rattle.osd.proofs.osd_draw.Tie as tie
 

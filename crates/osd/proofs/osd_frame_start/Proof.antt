@@ -1,7 +1,8 @@
 -- `osd_frame_start`: refused, or the frame written.
 -- Assumes nothing.
 use borrow.Author.Needs.{needs}
-use Rattle.osd.proofs.Calls.{start-not, start-done, start-refused}
+use Rattle.interface.proofs.Laws.{start-not}
+use Rattle.osd.proofs.Calls.{start-done, start-refused}
 use Rattle.osd.proofs.osd_frame_start.Statement.{statement}
 use Rattle.osd.proofs.osd_frame_start.Tie as tie
 

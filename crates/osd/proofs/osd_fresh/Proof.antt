@@ -3,7 +3,8 @@
 use mathlib.Core.Path.{ap, _∙_}
 use borrow.Author.Needs.{needs}
 use Rattle.layout.specs.Layout.{deviceBytes}
-use Rattle.osd.proofs.Calls.{fresh-not, fresh-done}
+use Rattle.interface.proofs.Laws.{fresh-not}
+use Rattle.osd.proofs.Calls.{fresh-done}
 use Rattle.osd.proofs.osd_fresh.Statement.{statement}
 use Rattle.osd.proofs.osd_fresh.Tie as tie
 

@@ -16,7 +16,7 @@ use Rattle.bus.specs.Bus.{eventOf, step}
 use Rattle.device.specs.Device.{cellsLeft}
 use Rattle.device.specs.OnePage.{Stores}
 use Rattle.layout.specs.Layout.{recordLength, deviceIn}
-use Rattle.osd.specs.Interface.{busOn, drawOn, cellOn}
+use Rattle.interface.specs.Interface.{busOn, drawOn, cellOn}
 
 -- a call of the list: a draw with any bytes, in any number, in its line buffer at entry; a cell question; a bus call
 pub data Call : Type 0 where

@@ -68,20 +68,6 @@ heardOn xs o =
       answer = answerOf (o .reply);
     }
 
--- an address that a step of the bus asks for is at most 3FFF
-abbrev pub InSpace : Effect → Type 0
-InSpace Acknowledge = Unit
-InSpace Ignore = Unit
-InSpace (Store a x) = a < 0x4000
-InSpace (Load a) = a < 0x4000
-
--- a step of the bus, and an event to a record and RAM of the right lengths: what the promises of inner functions cite
-abbrev pub stepOn : List ℕ → List ℕ → Step → BusDone
-stepOn xs ram s = heardOn xs (taken s (deviceIn xs .registers) ram)
-
-abbrev pub eventOn : List ℕ → List ℕ → Event → BusDone
-eventOn xs ram e = stepOn xs ram (step (deviceIn xs .bus) e)
-
 -- all that an event touches of a device
 abbrev pub touched : EventOutcome → BusOutcome
 touched o = record { bus = o .device .bus; registers = o .device .registers; ram = o .ram; reply = o .reply }
@@ -92,10 +78,6 @@ busOn xs ram kind byte =
     cond (isRecord xs && not (ltb 3 kind))
     (heardOn xs (touched (hearEvent (deviceIn xs) ram (eventOf kind byte))))
     (record { device = xs; ram = ram; answer = notTaken })
-
--- a store to an address leaves the registers in their place
-abbrev pub storedOn : ℕ → ℕ → List ℕ → List ℕ
-storedOn a x xs = cond (isRegister a) (set xs (registersAt + (a - 0x3FF0) % 16) (bitAnd x (getD kept ((a - 0x3FF0) % 16) 0))) xs
 
 -- ---- frame start
 

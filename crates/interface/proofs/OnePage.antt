@@ -23,10 +23,10 @@ use Rattle.device.proofs.Quiet.{quiet-if-write}
 use Rattle.device.proofs.OnePage.{late, same-draw, by-draw, apart, still-unread}
 use Rattle.layout.specs.Layout.{busAt, registersAt, registersLength, frameAt, recordLength, put, stateNumber, busBytes, frameBytes, deviceIn}
 use Rattle.facts.proofs.Parts.{sets-comm}
-use Rattle.osd.specs.Interface.{answerOf, notTaken, BusDone, heardOn, busOn, drawnOn, drawOn, cellOn}
-use Rattle.osd.specs.OnePage.{Call, draw, cell, bus, State, Answer, drawn, asked, heard, answer, after, isEvent, calls, Quiet, QuietCall, QuietRun, OnePageBytes, NoStaysBytes}
-use Rattle.osd.proofs.Calls.{both-tests, bus-is}
-use Rattle.osd.proofs.Crossing.{heard-sixteen, crossing}
+use Rattle.interface.specs.Interface.{answerOf, notTaken, BusDone, heardOn, busOn, drawnOn, drawOn, cellOn}
+use Rattle.interface.specs.OnePage.{Call, draw, cell, bus, State, Answer, drawn, asked, heard, answer, after, isEvent, calls, Quiet, QuietCall, QuietRun, OnePageBytes, NoStaysBytes}
+use Rattle.interface.proofs.Laws.{both-tests, bus-is}
+use Rattle.interface.proofs.Crossing.{heard-sixteen, crossing}
 
 -- ---- calls that are taken
 

@@ -1,9 +1,9 @@
 -- The claims of specs/, each with its proof.
 -- Assumes nothing.
-use Rattle.osd.specs.Interface.{Crossing}
-use Rattle.osd.specs.OnePage.{OnePageBytes, NoStaysBytes}
-use Rattle.osd.proofs.Crossing as interface
-use Rattle.osd.proofs.OnePage as page
+use Rattle.interface.specs.Interface.{Crossing}
+use Rattle.interface.specs.OnePage.{OnePageBytes, NoStaysBytes}
+use Rattle.interface.proofs.Crossing as interface
+use Rattle.interface.proofs.OnePage as page
 
 pub crossing : Crossing
 crossing = interface.crossing

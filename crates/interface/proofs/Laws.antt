@@ -1,0 +1,84 @@
+-- The cases of the interface's own tests, and the state's byte.
+-- Assumes nothing.
+use Prim.Native.Nat.{ℕ, _≤_, _<_}
+use mathlib.Core.Path.{_≡_, refl, sym, ap, _∙_}
+use mathlib.Core.Bool.{Bool, true, false, not, cond, _&&_, and-false, true≢false}
+use mathlib.Core.List.{List}
+use native.Mathlib.Omega.{arith}
+use borrow.Author.Tests.{eq-eqb, ne-eqb, lt-ltb, le-ltb, eqb-true, ltb-false}
+use lib.Dec.{eqb, ltb}
+use lib.ListN.{length, getD, set}
+use lib.Seq.{set-getD}
+use Rattle.facts.proofs.Parts.{getD-part}
+use Rattle.bus.specs.Bus.{eventOf, busEvent}
+use Rattle.device.specs.Device.{hearEvent}
+use Rattle.layout.specs.Layout.{busAt, busLength, recordLength, part, stateNumber, deviceIn}
+use Rattle.layout.proofs.Laws.{numbered}
+use Rattle.interface.specs.Interface as face
+use Rattle.interface.specs.Interface.{notTaken, isRecord, freshOn, ignoredOn, heardOn, busOn, startOn, drawOn, cellOn}
+
+-- what holds of a call that the interface's own tests let through, and of one that they do not, holds of the call
+pub if-taken : {A : Type 0} (P : A → Type 0) (t : Bool) (x y : A) → (t ≡ true → P x) → P y → P (cond t x y)
+if-taken P true x y h k = h refl
+if-taken P false x y h k = k
+
+-- those of a bus call: the record's length and the kind
+pub both-tests : (n kind : ℕ) → eqb n recordLength && not (ltb 3 kind) ≡ true → (n ≡ recordLength) × (kind ≤ 3)
+both-tests n kind = by (eqb n recordLength) (ltb 3 kind) refl refl
+  where
+    by : (p q : Bool) → eqb n recordLength ≡ p → ltb 3 kind ≡ q → p && not q ≡ true → (n ≡ recordLength) × (kind ≤ 3)
+    by true true a b t = absurd (true≢false (sym t))
+    by true false a b t = (eqb-true _ _ a, ltb-false _ _ b)
+    by false q a b t = absurd (true≢false (sym t))
+
+-- ---- calls that the interface refuses
+
+pub fresh-not : (xs : List ℕ) → (length xs ≡ recordLength → ⊥) → _≡_ {A = face.Done} (record { device = xs; answer = notTaken }) (freshOn xs)
+unfolding freshOn
+fresh-not xs h = rw (ne-eqb _ _ h)
+
+pub start-not : (xs : List ℕ) (lines : ℕ) → (length xs ≡ recordLength → ⊥) → _≡_ {A = face.Done} (record { device = xs; answer = notTaken }) (startOn xs lines)
+unfolding startOn
+start-not xs lines h = rw (ne-eqb _ _ h)
+
+pub draw-not : (xs ram font line : List ℕ) → (length xs ≡ recordLength → ⊥)
+    → _≡_ {A = face.DrawDone} (record { device = xs; line = line; answer = notTaken }) (drawOn xs ram font line)
+unfolding drawOn
+draw-not xs ram font line h = rw (ne-eqb _ _ h)
+
+pub cell-not : (xs ram : List ℕ) (cell : ℕ) → (length xs ≡ recordLength → ⊥) → notTaken ≡ cellOn xs ram cell
+unfolding cellOn
+cell-not xs ram cell h = rw (ne-eqb _ _ h)
+
+-- ---- an event that is not acknowledged
+
+-- the state's byte
+pub state-byte : (xs : List ℕ) → getD (part busAt busLength xs) 0 0 ≡ getD xs busAt 0
+state-byte xs = getD-part xs busAt busLength 0 0 (omega arith)
+
+-- where the state stays, no byte changes
+pub ignored-same : (xs : List ℕ) → ignoredOn (deviceIn xs .bus .state) xs ≡ xs
+ignored-same xs = by (eqb (stateNumber (deviceIn xs .bus .state)) 1) refl
+  where
+    by : (t : Bool) → eqb (stateNumber (deviceIn xs .bus .state)) 1 ≡ t → cond t (set xs busAt 1) xs ≡ xs
+    by true p =
+        let one : getD xs busAt 0 ≡ 1 = sym (state-byte xs) ∙ numbered _ _ 1 (eqb-true _ _ p) (omega arith) in
+        ap (set xs busAt) (sym one) ∙ set-getD xs busAt 0
+    by false p = refl
+
+-- ---- bus event
+
+pub bus-not-record : (xs ram : List ℕ) (kind byte : ℕ) → (length xs ≡ recordLength → ⊥)
+    → _≡_ {A = face.BusDone} (record { device = xs; ram = ram; answer = notTaken }) (busOn xs ram kind byte)
+unfolding busOn
+bus-not-record xs ram kind byte h = rw (ne-eqb _ _ h)
+
+pub bus-not-kind : (xs ram : List ℕ) (kind byte : ℕ) → 3 < kind
+    → _≡_ {A = face.BusDone} (record { device = xs; ram = ram; answer = notTaken }) (busOn xs ram kind byte)
+unfolding busOn
+bus-not-kind xs ram kind byte k = rw (lt-ltb _ _ k, and-false (isRecord xs))
+
+module _ (xs ram : List ℕ) (kind byte : ℕ) (h : length xs ≡ recordLength) (k : kind ≤ 3) where
+  pub bus-is : heardOn xs (busEvent (deviceIn xs .bus) (deviceIn xs .registers) ram (eventOf kind byte)) ≡ busOn xs ram kind byte
+  unfolding busOn hearEvent
+  bus-is = rw (eq-eqb _ _ h, le-ltb _ _ k)

@@ -1,0 +1,4 @@
+pub mod Claims
+pub mod Crossing
+pub mod Laws
+pub mod OnePage
