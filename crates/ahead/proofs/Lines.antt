@@ -15,7 +15,7 @@ use Rattle.cells.specs.Reading.{descriptor, Reading, done, read, bind, fmap, va
 use Rattle.cells.proofs.Laws.{cells-bind}
 use Rattle.registers.specs.declared.Settings.{Settings}
 use Rattle.raster.specs.declared.ScanLine.{ScanLine}
-use Rattle.raster.specs.Raster.{following, linesAfter, interpolated, columnsOf}
+use Rattle.raster.specs.Raster.{following, linesAfter, interpolated, charactersOf}
 use Rattle.raster.specs.Search.{sameSlice, sliceShown}
 use Rattle.raster.proofs.Laws.{one-less, following-in}
 use Rattle.raster.proofs.Rules.{slice-range}
@@ -74,24 +74,24 @@ rows-disabled ram s (suc k) address height zoom enabled line o e =
 line-reads : (ram : List ℕ) (s : Settings) (address height : ℕ) (zoom : Bool) (line : ScanLine) (c : ℕ) → Bytes ram → s .osd ≡ true
     → 1 ≤ linesAfter line height zoom
     → among c (cells ram (shownRow s (advanced (Characters address height zoom true line))))
-    ≡ rowReads ram c (ofSlice c (interpolated (following line) height zoom)) (columnsOf (s .ld) (s .dd)) address
+    ≡ rowReads ram c (ofSlice c (interpolated (following line) height zoom)) (charactersOf (s .ld) (s .dd)) address
 unfolding shownRow advanced rowOf
 line-reads ram s address height zoom line c b o h =
     rw o
-    (row-reads ram c (columnsOf (s .ld) (s .dd)) (interpolated (following line) height zoom) address b
+    (row-reads ram c (charactersOf (s .ld) (s .dd)) (interpolated (following line) height zoom) address b
     (slice-range (following line) height zoom (following-in line height zoom h)))
 
 -- the rows of k lines
 pub lines-read : (k : ℕ) (ram : List ℕ) (s : Settings) (address height : ℕ) (zoom : Bool) (line : ScanLine) (c : ℕ) → Bytes ram → s .osd ≡ true
     → suc k ≤ linesAfter line height zoom
     → among c (rowCells ram s (suc k) (Characters address height zoom true line))
-    ≡ rowReads ram c (userShown c line (suc k) height zoom) (columnsOf (s .ld) (s .dd)) address
+    ≡ rowReads ram c (userShown c line (suc k) height zoom) (charactersOf (s .ld) (s .dd)) address
 unfolding rowCells sliceShown among advanced
 lines-read zero ram s address height zoom line c b o h =
     among-append c (cells ram (shownRow s (advanced (Characters address height zoom true line)))) []
     ∙ or-false (among c (cells ram (shownRow s (advanced (Characters address height zoom true line)))))
     ∙ line-reads ram s address height zoom line c b o (omega arith)
-    ∙ ap (λ (x : Bool). rowReads ram c (x && ofUser c) (columnsOf (s .ld) (s .dd)) address)
+    ∙ ap (λ (x : Bool). rowReads ram c (x && ofUser c) (charactersOf (s .ld) (s .dd)) address)
     (sym (or-false (sameSlice (interpolated (following line) height zoom) (userSlice c))))
 lines-read (suc k) ram s address height zoom line c b o h =
     among-append c (cells ram (shownRow s (advanced (Characters address height zoom true line)))) _
@@ -100,8 +100,8 @@ lines-read (suc k) ram s address height zoom line c b o h =
     (lines-read k ram s address height zoom (following line) c b o (omega (arith, one-less line height zoom)))
     ∙ rows-merge ram c
     (ofSlice c (interpolated (following line) height zoom)) (userShown c (following line) (suc k) height zoom)
-    (columnsOf (s .ld) (s .dd)) address
-    ∙ ap (λ (x : Bool). rowReads ram c x (columnsOf (s .ld) (s .dd)) address)
+    (charactersOf (s .ld) (s .dd)) address
+    ∙ ap (λ (x : Bool). rowReads ram c x (charactersOf (s .ld) (s .dd)) address)
     (sym (and-or-distrib-right
     (sameSlice (interpolated (following line) height zoom) (userSlice c)) (sliceShown (following line) (suc k) height zoom (userSlice c)) (ofUser c)))
 
@@ -148,10 +148,10 @@ module _ (ram : List ℕ) (s : Settings) (k : ℕ) (strip : Strip) (c : ℕ) whe
   strip-characters {address} {height} {zoom} {enabled} {line} b e d h l =
       by-osd s
       (λ o.
-      ap (λ (t : Bool). rowReads ram c (userShown c line k height zoom) (cond t (columnsOf (s .ld) (s .dd)) 0) address) o
+      ap (λ (t : Bool). rowReads ram c (userShown c line k height zoom) (cond t (charactersOf (s .ld) (s .dd)) 0) address) o
       ∙ sym (ap (λ (t : Strip). among c (rowCells ram s k t)) q ∙ all o k h (lines-in k strip e l)))
       (λ o.
-      ap (λ (t : Bool). rowReads ram c (userShown c line k height zoom) (cond t (columnsOf (s .ld) (s .dd)) 0) address) o
+      ap (λ (t : Bool). rowReads ram c (userShown c line k height zoom) (cond t (charactersOf (s .ld) (s .dd)) 0) address) o
       ∙ sym (strip-off o))
     where
       q : strip ≡ Characters address height zoom true line
@@ -159,7 +159,7 @@ module _ (ram : List ℕ) (s : Settings) (k : ℕ) (strip : Strip) (c : ℕ) whe
 
       all : s .osd ≡ true → (m : ℕ) → 1 ≤ m → m ≤ linesAfter line height zoom
           → among c (rowCells ram s m (Characters address height zoom true line))
-          ≡ rowReads ram c (userShown c line m height zoom) (columnsOf (s .ld) (s .dd)) address
+          ≡ rowReads ram c (userShown c line m height zoom) (charactersOf (s .ld) (s .dd)) address
       all o zero h l = absurd (not-suc-le-zero h)
       all o (suc m) h l = lines-read m ram s address height zoom line c b o l
 

@@ -11,7 +11,7 @@ use Rattle.limits.specs.Limits.{ramLength}
 use Rattle.cells.specs.Reading.{cells, among}
 use Rattle.registers.specs.declared.Settings.{Settings}
 use Rattle.raster.specs.declared.ScanLine.{ScanLine}
-use Rattle.raster.specs.Raster.{beforeFirst, columnsOf}
+use Rattle.raster.specs.Raster.{beforeFirst, charactersOf}
 use Rattle.raster.specs.Search.{sliceShown}
 use Rattle.walk.specs.declared.Strip.{Strip}
 use Rattle.walk.specs.declared.Strip.the-variants.{Spacing}
@@ -31,7 +31,7 @@ pairOf c = c / 2 * 2
 
 -- the codes that a line reads at the most: none with OSD 0
 abbrev pub codesOf : Settings → ℕ
-codesOf s = cond (s .osd) (columnsOf (s .ld) (s .dd)) 0
+codesOf s = cond (s .osd) (charactersOf (s .ld) (s .dd)) 0
 
 -- is the cell read by the codes from an address on, n at the most? shown: the cell is of a user character's slice on screen
 unfoldable pub rowReads : List ℕ → ℕ → Bool → ℕ → ℕ → Bool

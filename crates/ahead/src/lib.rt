@@ -48,7 +48,7 @@ fn codes(settings: Settings) -> u16
     ensures { λ r. ⌜ r ≡ codesOf settings ⌝ }
 {
     if settings.osd {
-        return raster::columns(settings.ld, settings.dd);
+        return raster::characters(settings.ld, settings.dd);
     }
     0
 }

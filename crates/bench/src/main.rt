@@ -34,7 +34,7 @@ fn show<'a>(device: Device, ram: &'a [u8], font: &'a [u8]) {
     print(&text, n);
     let mut next = device;
     while left > 0 {
-        let done = report::next_line(next, ram, font, &mut text);
+        let done = report::next_text(next, ram, font, &mut text);
         print(&text, done.length);
         next = done.device;
         left -= 1;

@@ -12,7 +12,7 @@ use Rattle.refusals.specs.declared.Refusal.the-variants.{RamLength}
 use Rattle.refusals.specs.Refusals.{refused}
 use Rattle.registers.specs.declared.Registers.{Registers}
 use Rattle.bus.specs.declared.Bus.{Bus}
-use Rattle.bus.specs.declared.State.{State}
+use Rattle.bus.specs.declared.BusState.{BusState}
 use Rattle.bus.specs.declared.Step.{Step}
 use Rattle.bus.specs.declared.Event.{Event}
 use Rattle.bus.specs.declared.Effect.{Effect}
@@ -38,11 +38,11 @@ busEvent-length b r ram e =
     by-event (λ (o : BusOutcome). length (o .ram) ≡ length ram) b r ram e refl (unfold taken in with-length (step b e .effect) ram)
 
 -- a state that is known to be s does what s does
-pub byte-at : (b : Bus) (x : ℕ) {s : State} → b .state ≡ s → byteAt s b x ≡ byteAt (b .state) b x
-byte-at b x e = ap (λ (s : State). byteAt s b x) (sym e)
+pub byte-at : (b : Bus) (x : ℕ) {s : BusState} → b .state ≡ s → byteAt s b x ≡ byteAt (b .state) b x
+byte-at b x e = ap (λ (s : BusState). byteAt s b x) (sym e)
 
-pub fetch-at : (b : Bus) {s : State} → b .state ≡ s → fetchAt s b ≡ fetchAt (b .state) b
-fetch-at b e = ap (λ (s : State). fetchAt s b) (sym e)
+pub fetch-at : (b : Bus) {s : BusState} → b .state ≡ s → fetchAt s b ≡ fetchAt (b .state) b
+fetch-at b e = ap (λ (s : BusState). fetchAt s b) (sym e)
 
 -- ---- a whole event
 

@@ -12,8 +12,8 @@ use Rattle.registers.specs.declared.Registers.{Registers}
 use Rattle.registers.specs.Registers.{stored, fetched}
 use Rattle.bus.specs.declared.Event.{Event}
 use Rattle.bus.specs.declared.Event.the-variants.{Start, Byte, Fetch, Stop}
-use Rattle.bus.specs.declared.State.{State}
-use Rattle.bus.specs.declared.State.the-variants.{Idle, Deaf, Slave, High, Low, Write, Read}
+use Rattle.bus.specs.declared.BusState.{BusState}
+use Rattle.bus.specs.declared.BusState.the-variants.{Idle, Deaf, Slave, High, Low, Write, Read}
 use Rattle.bus.specs.declared.Bus.{Bus}
 use Rattle.bus.specs.declared.Effect.{Effect}
 use Rattle.bus.specs.declared.Effect.the-variants.{Acknowledge, Ignore, Store, Load}
@@ -41,7 +41,7 @@ abbrev pub address : Bus → ℕ
 address b = b .counter % 0x4000
 
 -- the bus waits for something else, and the event is answered so; the counter stays
-abbrev pub goes : Bus → State → Effect → Step
+abbrev pub goes : Bus → BusState → Effect → Step
 goes b s e = record { bus = record { state = s; counter = b .counter }; effect = e }
 
 -- the counter goes up by 1, after 3FFF to 0000 (H); the state stays
@@ -61,7 +61,7 @@ abbrev pub slave : Bus → ℕ → Step
 slave b x = cond (eqb x 0xBA) (goes b High Acknowledge) (cond (eqb x 0xBB) (goes b Read Acknowledge) (goes b Deaf Ignore))
 
 -- a byte from the host
-abbrev pub byteAt : State → Bus → ℕ → Step
+abbrev pub byteAt : BusState → Bus → ℕ → Step
 byteAt Idle b x = ignores b
 byteAt Deaf b x = ignores b
 byteAt Slave b x = slave b x
@@ -73,7 +73,7 @@ byteAt Write b x = steps b (Store (address b) x)
 byteAt Read b x = ignores b
 
 -- each fetch answers the byte at the counter, and the counter goes up likewise; a fetch while not reading changes nothing
-abbrev pub fetchAt : State → Bus → Step
+abbrev pub fetchAt : BusState → Bus → Step
 fetchAt Idle b = ignores b
 fetchAt Deaf b = ignores b
 fetchAt Slave b = ignores b

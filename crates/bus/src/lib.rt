@@ -14,7 +14,7 @@ pub enum Event {
 }
 
 // What the bus waits for.
-pub enum State {
+pub enum BusState {
     // a start
     Idle,
     // a start or a stop: the slave address was another's
@@ -32,7 +32,7 @@ pub enum State {
 }
 
 pub struct Bus {
-    pub state: State,
+    pub state: BusState,
     pub counter: u16,
 }
 
@@ -90,7 +90,7 @@ impl Bus {
         ensures { λ r. ⌜ r ≡ freshBus ⌝ }
     {
         Bus {
-            state: State::Idle,
+            state: BusState::Idle,
             counter: 0,
         }
     }
@@ -100,14 +100,14 @@ impl Bus {
         ensures { λ r. ⌜ r ≡ step self event ⌝ }
     {
         match event {
-            Event::Start => self.goes_to(State::Slave, Effect::Acknowledge),
+            Event::Start => self.goes_to(BusState::Slave, Effect::Acknowledge),
             Event::Byte(x) => self.take_byte(x),
             Event::Fetch => self.take_fetch(),
-            Event::Stop => self.goes_to(State::Idle, Effect::Acknowledge),
+            Event::Stop => self.goes_to(BusState::Idle, Effect::Acknowledge),
         }
     }
 
-    fn goes_to(self, state: State, effect: Effect) -> Step
+    fn goes_to(self, state: BusState, effect: Effect) -> Step
         ensures { λ r. ⌜ r ≡ goes self state effect ⌝ }
     {
         Step {
@@ -137,19 +137,19 @@ impl Bus {
     {
         let state = self.state;
         match state {
-            State::Idle => self.goes_to(state, Effect::Ignore),
-            State::Deaf => self.goes_to(state, Effect::Ignore),
-            State::Slave => self.take_slave(x),
-            State::High => self.goes_to(State::Low(x), Effect::Acknowledge),
-            State::Low(high) => Step {
+            BusState::Idle => self.goes_to(state, Effect::Ignore),
+            BusState::Deaf => self.goes_to(state, Effect::Ignore),
+            BusState::Slave => self.take_slave(x),
+            BusState::High => self.goes_to(BusState::Low(x), Effect::Acknowledge),
+            BusState::Low(high) => Step {
                 bus: Bus {
-                    state: State::Write,
+                    state: BusState::Write,
                     counter: (high % 64) as u16 * 256 + x as u16,
                 },
                 effect: Effect::Acknowledge,
             },
-            State::Write => self.steps_on(Effect::Store(self.counter % 0x4000, x)),
-            State::Read => self.goes_to(state, Effect::Ignore),
+            BusState::Write => self.steps_on(Effect::Store(self.counter % 0x4000, x)),
+            BusState::Read => self.goes_to(state, Effect::Ignore),
         }
     }
 
@@ -157,12 +157,12 @@ impl Bus {
         ensures { λ r. ⌜ r ≡ slave self x ⌝ }
     {
         if x == 0xBA {
-            return self.goes_to(State::High, Effect::Acknowledge);
+            return self.goes_to(BusState::High, Effect::Acknowledge);
         }
         if x == 0xBB {
-            return self.goes_to(State::Read, Effect::Acknowledge);
+            return self.goes_to(BusState::Read, Effect::Acknowledge);
         }
-        self.goes_to(State::Deaf, Effect::Ignore)
+        self.goes_to(BusState::Deaf, Effect::Ignore)
     }
 
     fn take_fetch(self) -> Step
@@ -170,13 +170,13 @@ impl Bus {
     {
         let state = self.state;
         match state {
-            State::Idle => self.goes_to(state, Effect::Ignore),
-            State::Deaf => self.goes_to(state, Effect::Ignore),
-            State::Slave => self.goes_to(state, Effect::Ignore),
-            State::High => self.goes_to(state, Effect::Ignore),
-            State::Low(_) => self.goes_to(state, Effect::Ignore),
-            State::Write => self.goes_to(state, Effect::Ignore),
-            State::Read => self.steps_on(Effect::Load(self.counter % 0x4000)),
+            BusState::Idle => self.goes_to(state, Effect::Ignore),
+            BusState::Deaf => self.goes_to(state, Effect::Ignore),
+            BusState::Slave => self.goes_to(state, Effect::Ignore),
+            BusState::High => self.goes_to(state, Effect::Ignore),
+            BusState::Low(_) => self.goes_to(state, Effect::Ignore),
+            BusState::Write => self.goes_to(state, Effect::Ignore),
+            BusState::Read => self.steps_on(Effect::Load(self.counter % 0x4000)),
         }
     }
 }

@@ -59,7 +59,7 @@ abbrev pub mixedDraw : DrawOutcome → ℕ → LineOutcome
 mixedDraw o y = lineOutcome (o .device) (mixed y 0 (o .line))
 
 -- the line buffer has W bytes, all 0: where the draw is refused, the camera's line stands alone. Later bytes stay
-abbrev pub nextLine : Device → List ℕ → List ℕ → ℕ → List ℕ → LineOutcome
-nextLine d ram font y out =
+abbrev pub pictureLine : Device → List ℕ → List ℕ → ℕ → List ℕ → LineOutcome
+pictureLine d ram font y out =
     let m : LineOutcome = mixedDraw (drawLine d ram font (replicate (lineWidth d) 0)) y in
     lineOutcome (m .device) (m .out ++ drop (3 * lineWidth d) out)

@@ -6,7 +6,7 @@ ghost use mathlib.Core.Path.{_≡_};
 ghost use Prim.Native.Nat.{_*_, _≤_};
 ghost use lib.ListN.{length};
 ghost use Rattle.device.specs.Device.{drawLine};
-ghost use Rattle.demo.specs.Picture.{played, host, full, mix, mixed, lineOutcome, mixedDraw, nextLine};
+ghost use Rattle.demo.specs.Picture.{played, host, full, mix, mixed, lineOutcome, mixedDraw, pictureLine};
 use bus::Event;
 use camera::Colour;
 use device::Device;
@@ -56,7 +56,7 @@ fn show<'a>(device: Device, ram: &'a [u8], font: &'a [u8]) {
     let mut next = device;
     let mut y = 0;
     while y < LINES {
-        next = next_line(next, ram, font, y, &mut out);
+        next = picture_line(next, ram, font, y, &mut out);
         print(&out, 3 * width);
         y += 1;
     }
@@ -75,9 +75,15 @@ fn print(bytes: &[u8], n: usize) {
 }
 
 // Draws the frame's next line, which is line y of the picture, and mixes it into the first bytes of out.
-fn next_line<'a>(device: Device, ram: &'a [u8], font: &'a [u8], y: usize, out: &mut [u8]) -> Device
+fn picture_line<'a>(
+    device: Device,
+    ram: &'a [u8],
+    font: &'a [u8],
+    y: usize,
+    out: &mut [u8],
+) -> Device
     requires { ⌜ 2304 ≤ length (now out) ⌝ }
-    ensures { λ r. ⌜ lineOutcome r (now (out .exit)) ≡ nextLine device (now (ram .entry)) (now (font .entry)) y (now (out .entry)) ⌝ }
+    ensures { λ r. ⌜ lineOutcome r (now (out .exit)) ≡ pictureLine device (now (ram .entry)) (now (font .entry)) y (now (out .entry)) ⌝ }
 {
     let width = report::width_of(device) as usize;
     let n = 3 * width;

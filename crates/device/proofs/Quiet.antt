@@ -19,7 +19,7 @@ use Rattle.bus.specs.declared.Event.{Event}
 use Rattle.bus.specs.declared.Event.the-variants.{Byte}
 use Rattle.bus.specs.declared.Effect.{Effect}
 use Rattle.bus.specs.declared.Effect.the-variants.{Acknowledge, Ignore, Store, Load}
-use Rattle.bus.specs.declared.State.the-variants.{Write}
+use Rattle.bus.specs.declared.BusState.the-variants.{Write}
 use Rattle.bus.specs.declared.Bus.{Bus}
 use Rattle.bus.specs.declared.Step.{Step}
 use Rattle.bus.specs.Bus.{BusOutcome, busEvent, step, byteAt, address, taken, ramWith, registersWith, answerTo, busReply}

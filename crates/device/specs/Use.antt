@@ -9,7 +9,7 @@ use Rattle.refusals.specs.Refusals.{accepted}
 use Rattle.bus.specs.declared.Event.{Event}
 use Rattle.bus.specs.declared.Event.the-variants.{Byte}
 use Rattle.bus.specs.declared.Effect.the-variants.{Store}
-use Rattle.bus.specs.declared.State.the-variants.{Write}
+use Rattle.bus.specs.declared.BusState.the-variants.{Write}
 use Rattle.bus.specs.Bus.{address}
 use Rattle.device.specs.Device.{hearEvent, askCell}
 use Rattle.device.specs.OnePage.{Call, draw, ask, event, State, calls, effectOf, Stores, Quiet, QuietRun}

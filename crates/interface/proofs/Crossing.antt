@@ -17,8 +17,8 @@ use Rattle.refusals.specs.declared.Refusal.the-variants.{RamLength, NotAcknowle
 use Rattle.refusals.proofs.Laws.{not-zero}
 use Rattle.registers.specs.declared.Registers.{Registers}
 use Rattle.registers.specs.Registers.{stored, settingsOf}
-use Rattle.bus.specs.declared.State.{State}
-use Rattle.bus.specs.declared.State.the-variants.{Idle, Deaf, Slave, High, Low, Write, Read}
+use Rattle.bus.specs.declared.BusState.{BusState}
+use Rattle.bus.specs.declared.BusState.the-variants.{Idle, Deaf, Slave, High, Low, Write, Read}
 use Rattle.bus.specs.declared.Bus.{Bus}
 use Rattle.bus.specs.declared.Step.{Step}
 use Rattle.bus.specs.declared.Event.{Event}
@@ -55,7 +55,7 @@ data Ignored (b : Bus) (e : Event) (next : Bus) : Type 0 where
   stays : next ≡ b → Ignored b e next
   deafens : T (isByte e) → b .state ≡ Slave → next ≡ record { state = Deaf; counter = b .counter } → Ignored b e next
 
-how-byte : (s : State) (c x : ℕ) → let b : Bus = record { state = s; counter = c } in T (isIgnore (byteAt s b x .effect)) → Ignored b (Byte x) (byteAt s b x .bus)
+how-byte : (s : BusState) (c x : ℕ) → let b : Bus = record { state = s; counter = c } in T (isIgnore (byteAt s b x .effect)) → Ignored b (Byte x) (byteAt s b x .bus)
 how-byte Idle c x t = stays refl
 how-byte Deaf c x t = stays refl
 how-byte Slave c x t = by (eqb x 0xBA) (eqb x 0xBB) t
@@ -72,7 +72,7 @@ how-byte (Low high) c x t = absurd t
 how-byte Write c x t = absurd t
 how-byte Read c x t = stays refl
 
-how-fetch : (s : State) (c : ℕ) → let b : Bus = record { state = s; counter = c } in T (isIgnore (fetchAt s b .effect)) → Ignored b Fetch (fetchAt s b .bus)
+how-fetch : (s : BusState) (c : ℕ) → let b : Bus = record { state = s; counter = c } in T (isIgnore (fetchAt s b .effect)) → Ignored b Fetch (fetchAt s b .bus)
 how-fetch Idle c t = stays refl
 how-fetch Deaf c t = stays refl
 how-fetch Slave c t = stays refl

@@ -12,8 +12,8 @@ use Rattle.limits.specs.Limits.{ramLength}
 use Rattle.refusals.specs.declared.Refusal.the-variants.{NotAcknowledged}
 use Rattle.refusals.specs.Refusals.{Reply, refused}
 use Rattle.registers.specs.Registers.{kept}
-use Rattle.bus.specs.declared.State.{State}
-use Rattle.bus.specs.declared.State.the-variants.{Slave}
+use Rattle.bus.specs.declared.BusState.{BusState}
+use Rattle.bus.specs.declared.BusState.the-variants.{Slave}
 use Rattle.bus.specs.declared.Event.{Event}
 use Rattle.bus.specs.declared.Step.{Step}
 use Rattle.bus.specs.declared.Effect.{Effect}
@@ -56,7 +56,7 @@ pub record BusDone : Type 0 where
   pub answer : ℕ
 
 -- refused: no byte is written, except deaf after an unknown slave address
-abbrev pub ignoredOn : State → List ℕ → List ℕ
+abbrev pub ignoredOn : BusState → List ℕ → List ℕ
 ignoredOn s xs = cond (eqb (stateNumber s) 1) (set xs busAt 1) xs
 
 -- an acknowledged event puts the bus part and the registers; a refused one only that the device has turned deaf

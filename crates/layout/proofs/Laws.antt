@@ -10,8 +10,8 @@ use lib.Dec.{T, eqb}
 use lib.ListN.{length, take, drop, set, length-append, length-set}
 use lib.Seq.{length-take-le, take-at, drop-at, drop-drop, getD-set-same, getD-set-other, sets, sets-eq, length-sets}
 use Rattle.registers.specs.declared.Registers.{Registers}
-use Rattle.bus.specs.declared.State.{State}
-use Rattle.bus.specs.declared.State.the-variants.{Idle, Deaf, Slave, High, Low, Write, Read}
+use Rattle.bus.specs.declared.BusState.{BusState}
+use Rattle.bus.specs.declared.BusState.the-variants.{Idle, Deaf, Slave, High, Low, Write, Read}
 use Rattle.bus.specs.declared.Bus.{Bus}
 use Rattle.walk.specs.declared.Strip.{Strip}
 use Rattle.walk.specs.declared.Strip.the-variants.{Spacing, Characters}
@@ -30,7 +30,7 @@ put-in-place at bytes xs h = sets-eq bytes xs at h ∙ append-assoc (take at xs)
 word-back : (n : ℕ) → n % 256 + 256 * (n / 256) ≡ n
 word-back n = omega arith
 
-state-back : (s : State) → stateOf (stateNumber s) (heldHigh s) ≡ s
+state-back : (s : BusState) → stateOf (stateNumber s) (heldHigh s) ≡ s
 state-back Idle = refl
 state-back Deaf = refl
 state-back Slave = refl

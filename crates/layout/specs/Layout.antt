@@ -26,8 +26,8 @@ use lib.Dec.{eqb}
 use lib.ListN.{length, getD, take, drop}
 use lib.Seq.{sets}
 use Rattle.registers.specs.declared.Registers.{Registers}
-use Rattle.bus.specs.declared.State.{State}
-use Rattle.bus.specs.declared.State.the-variants.{Idle, Deaf, Slave, High, Low, Write, Read}
+use Rattle.bus.specs.declared.BusState.{BusState}
+use Rattle.bus.specs.declared.BusState.the-variants.{Idle, Deaf, Slave, High, Low, Write, Read}
 use Rattle.bus.specs.declared.Bus.{Bus}
 use Rattle.walk.specs.declared.Strip.{Strip}
 use Rattle.walk.specs.declared.Strip.the-variants.{Spacing, Characters}
@@ -87,7 +87,7 @@ word bytes i = getD bytes i 0 + 256 * getD bytes (i + 1) 0
 
 -- ---- the bus
 
-abbrev pub stateNumber : State → ℕ
+abbrev pub stateNumber : BusState → ℕ
 stateNumber Idle = 0
 stateNumber Deaf = 1
 stateNumber Slave = 2
@@ -96,7 +96,7 @@ stateNumber (Low high) = 4
 stateNumber Write = 5
 stateNumber Read = 6
 
-abbrev pub heldHigh : State → ℕ
+abbrev pub heldHigh : BusState → ℕ
 heldHigh Idle = 0
 heldHigh Deaf = 0
 heldHigh Slave = 0
@@ -108,7 +108,7 @@ heldHigh Read = 0
 abbrev pub busBytes : Bus → List ℕ
 busBytes b = stateNumber (b .state) ∷ heldHigh (b .state) ∷ b .counter % 256 ∷ b .counter / 256 ∷ []
 
-abbrev pub stateOf : ℕ → ℕ → State
+abbrev pub stateOf : ℕ → ℕ → BusState
 stateOf n held =
     cond (eqb n 1) Deaf
     (cond (eqb n 2) Slave (cond (eqb n 3) High (cond (eqb n 4) (Low held) (cond (eqb n 5) Write (cond (eqb n 6) Read Idle)))))

@@ -6,7 +6,7 @@ ghost use Prim.Native.Nat.{_+_, _*_, _/_, _%_, _≤_, _<_};
 ghost use lib.ListN.{length};
 ghost use Rattle.layout.specs.Layout.{busAt, busLength, registersAt, registersLength, nextAt, frameAt, frameLength, recordLength, put, word, stateNumber, heldHigh, stateOf, busBytes, busIn, registersIn, nextBytes, packed, stripIn, frameWith, frameBytes, frameIn, deviceBytes, deviceIn};
 use bus::Bus;
-use bus::State;
+use bus::BusState;
 use device::Device;
 use device::Frame;
 use raster::ScanLine;
@@ -62,45 +62,45 @@ fn put(device: &mut [u8], at: usize, bytes: &[u8])
 
 // ---- the bus
 
-fn state_of(number: u8, held: u8) -> State
+fn state_of(number: u8, held: u8) -> BusState
     ensures { λ r. ⌜ r ≡ stateOf number held ⌝ }
 {
     match number {
-        1 => State::Deaf,
-        2 => State::Slave,
-        3 => State::High,
-        4 => State::Low(held),
-        5 => State::Write,
-        6 => State::Read,
-        _ => State::Idle,
+        1 => BusState::Deaf,
+        2 => BusState::Slave,
+        3 => BusState::High,
+        4 => BusState::Low(held),
+        5 => BusState::Write,
+        6 => BusState::Read,
+        _ => BusState::Idle,
     }
 }
 
-pub fn state_number(state: State) -> u8
+pub fn state_number(state: BusState) -> u8
     ensures { λ r. ⌜ r ≡ stateNumber state ⌝ }
 {
     match state {
-        State::Idle => 0,
-        State::Deaf => 1,
-        State::Slave => 2,
-        State::High => 3,
-        State::Low(_) => 4,
-        State::Write => 5,
-        State::Read => 6,
+        BusState::Idle => 0,
+        BusState::Deaf => 1,
+        BusState::Slave => 2,
+        BusState::High => 3,
+        BusState::Low(_) => 4,
+        BusState::Write => 5,
+        BusState::Read => 6,
     }
 }
 
-fn held_high(state: State) -> u8
+fn held_high(state: BusState) -> u8
     ensures { λ r. ⌜ r ≡ heldHigh state ⌝ }
 {
     match state {
-        State::Idle => 0,
-        State::Deaf => 0,
-        State::Slave => 0,
-        State::High => 0,
-        State::Low(held) => held,
-        State::Write => 0,
-        State::Read => 0,
+        BusState::Idle => 0,
+        BusState::Deaf => 0,
+        BusState::Slave => 0,
+        BusState::High => 0,
+        BusState::Low(held) => held,
+        BusState::Write => 0,
+        BusState::Read => 0,
     }
 }
 

@@ -7,7 +7,7 @@ use native.Mathlib.Omega.{arith}
 use lib.ListN.{length, take, replicate}
 use lib.Seq.{take-all}
 use Rattle.cells.specs.Reading.{code, cells, cellsAs}
-use Rattle.raster.specs.Raster.{sliceNumber, columnsOf, hiddenIn}
+use Rattle.raster.specs.Raster.{sliceNumber, charactersOf, hiddenIn}
 use Rattle.glyph.specs.Glyph.{glyphOf, inRam}
 use Rattle.paint.specs.Pixels.{plainOf}
 use Rattle.line.specs.Line.{scan, character, painted, paint}
@@ -15,9 +15,9 @@ use Rattle.line.specs.Edges.{Holds, mostCodes, secondCut, userCells, tab
 use Rattle.line.proofs.Laws.{character-length}
 use Rattle.line.proofs.Rules.{scan-codes}
 
-most : (ld dd n : ℕ) → columnsOf ld dd ≡ n → Holds (mostCodes ld dd n)
+most : (ld dd n : ℕ) → charactersOf ld dd ≡ n → Holds (mostCodes ld dd n)
 unfolding Holds
-most ld dd n e s w ram p q = subst (λ (m : ℕ). length (cellsAs code ram (scan s w)) ≤ 2 * m) (ap₂ columnsOf p q ∙ e) (scan-codes s w ram)
+most ld dd n e s w ram p q = subst (λ (m : ℕ). length (cellsAs code ram (scan s w)) ≤ 2 * m) (ap₂ charactersOf p q ∙ e) (scan-codes s w ram)
 
 second : Holds (secondCut 4 5 9)
 unfolding Holds paint painted

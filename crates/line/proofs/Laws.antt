@@ -14,7 +14,7 @@ use Rattle.registers.specs.declared.Registers.{Registers}
 use Rattle.registers.specs.Registers.{settingsOf}
 use Rattle.registers.proofs.Laws.{ld-bound, fbk-bound}
 use Rattle.raster.specs.declared.Slice.{Slice}
-use Rattle.raster.specs.Raster.{InCharacter, interpolated, widthOf, firstPixelOf, columnsOf, hiddenIn}
+use Rattle.raster.specs.Raster.{InCharacter, interpolated, widthOf, firstPixelOf, charactersOf, hiddenIn}
 use Rattle.raster.proofs.Rules.{slice-range}
 use Rattle.walk.specs.declared.Strip.{Strip}
 use Rattle.walk.specs.declared.Strip.the-variants.{Spacing, Characters}
@@ -54,7 +54,7 @@ pub scan-within : (s : Settings) (w : Walk) → Within 1024 (scan s w)
 unfolding scan shownRow
 scan-within s w =
     within-bind (λ (v : Walk). OnLine (v .strip)) 1024 (nextLine (s .ch) w) _ (nextLine-on (s .ch) w) (nextLine-within (s .ch) w)
-    (λ v h. within-fmap 1024 _ _ (within-cond 1024 (s .osd) _ _ (rowOf-within (columnsOf (s .ld) (s .dd)) (v .strip) h) (within-done 1024 [])))
+    (λ v h. within-fmap 1024 _ _ (within-cond 1024 (s .osd) _ _ (rowOf-within (charactersOf (s .ld) (s .dd)) (v .strip) h) (within-done 1024 [])))
 
 -- ---- how many
 
@@ -76,22 +76,22 @@ rowOf-most n (Spacing left) = atMost-done (4 * n) []
 rowOf-most n (Characters address height zoom enabled line) =
     atMost-cond (4 * n) enabled _ _ (codes-most n (interpolated line height zoom) address) (atMost-done _ [])
 
-scan-most : (s : Settings) (w : Walk) → AtMost (2 + 4 * columnsOf (s .ld) (s .dd)) (scan s w)
+scan-most : (s : Settings) (w : Walk) → AtMost (2 + 4 * charactersOf (s .ld) (s .dd)) (scan s w)
 unfolding scan shownRow
 scan-most s w =
-    atMost-bind 2 (4 * columnsOf (s .ld) (s .dd)) (nextLine (s .ch) w) _ (nextLine-most (s .ch) w)
-    (λ v. atMost-fmap (4 * columnsOf (s .ld) (s .dd)) _ _
-    (atMost-cond (4 * columnsOf (s .ld) (s .dd)) (s .osd) _ _ (rowOf-most (columnsOf (s .ld) (s .dd)) (v .strip)) (atMost-done _ [])))
+    atMost-bind 2 (4 * charactersOf (s .ld) (s .dd)) (nextLine (s .ch) w) _ (nextLine-most (s .ch) w)
+    (λ v. atMost-fmap (4 * charactersOf (s .ld) (s .dd)) _ _
+    (atMost-cond (4 * charactersOf (s .ld) (s .dd)) (s .osd) _ _ (rowOf-most (charactersOf (s .ld) (s .dd)) (v .strip)) (atMost-done _ [])))
 
 -- at most 61 characters start on a line
-pub columns-bound : (ld dd : ℕ) → ld < 64 → columnsOf ld dd ≤ 61
-columns-bound ld dd h = omega arith
+pub characters-bound : (ld dd : ℕ) → ld < 64 → charactersOf ld dd ≤ 61
+characters-bound ld dd h = omega arith
 
 -- a line reads at most 246 cells: 2 of descriptor, 61 codes, 61 user slices
 pub line-most : (r : Registers) (w : Walk) → AtMost 246 (scan (settingsOf r) w)
 line-most r w =
-    atMost-more (2 + 4 * columnsOf (settingsOf r .ld) (settingsOf r .dd)) 246 (scan (settingsOf r) w)
-    (omega (arith, columns-bound (settingsOf r .ld) (settingsOf r .dd) (ld-bound r))) (scan-most (settingsOf r) w)
+    atMost-more (2 + 4 * charactersOf (settingsOf r .ld) (settingsOf r .dd)) 246 (scan (settingsOf r) w)
+    (omega (arith, characters-bound (settingsOf r .ld) (settingsOf r .dd) (ld-bound r))) (scan-most (settingsOf r) w)
 
 -- ---- the width
 

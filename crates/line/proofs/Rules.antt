@@ -15,7 +15,7 @@ use Rattle.registers.specs.declared.Settings.{Settings}
 use Rattle.registers.specs.Registers.{settingsOf}
 use Rattle.registers.proofs.Laws.{ld-bound}
 use Rattle.raster.specs.declared.Slice.{Slice}
-use Rattle.raster.specs.Raster.{columnsOf, interpolated}
+use Rattle.raster.specs.Raster.{charactersOf, interpolated}
 use Rattle.walk.specs.declared.Strip.{Strip}
 use Rattle.walk.specs.declared.Strip.the-variants.{Spacing, Characters}
 use Rattle.walk.specs.declared.Walk.{Walk}
@@ -23,7 +23,7 @@ use Rattle.walk.specs.Walk.{even, next, over, begun, nextLine}
 use Rattle.glyph.specs.Glyph.{Glyph, endsLine, glyphOf, inRam}
 use Rattle.line.specs.Line.{Place, codes, rowOf, shownRow, scan}
 use Rattle.line.specs.Rules.{MostCells, LinePixels}
-use Rattle.line.proofs.Laws.{scan-within, columns-bound, line-most, paint-length, paint-below}
+use Rattle.line.proofs.Laws.{scan-within, characters-bound, line-most, paint-length, paint-below}
 
 -- ---- the reads in a role
 
@@ -94,17 +94,17 @@ module _ (r : Role) (ram : List ℕ) where
       either (λ (p : Reading (List Place)). Few r (n * each) p ram) enabled _ (done []) (codes-few n (interpolated line height zoom) address)
       (few-done r (n * each) [] ram)
 
-  scan-few : (s : Settings) (w : Walk) → Few r (two r descriptor + columnsOf (s .ld) (s .dd) * each) (scan s w) ram
+  scan-few : (s : Settings) (w : Walk) → Few r (two r descriptor + charactersOf (s .ld) (s .dd) * each) (scan s w) ram
   unfolding scan shownRow
   scan-few s w =
-      few-bind r (two r descriptor) (columnsOf (s .ld) (s .dd) * each) (nextLine (s .ch) w) _ ram (walk-few (s .ch) w)
-      (few-fmap r (columnsOf (s .ld) (s .dd) * each) _ _ ram
-      (either (λ (p : Reading (List Place)). Few r (columnsOf (s .ld) (s .dd) * each) p ram) (s .osd) _ (done [])
-      (row-few (columnsOf (s .ld) (s .dd)) (value ram (nextLine (s .ch) w) .strip))
-      (few-done r (columnsOf (s .ld) (s .dd) * each) [] ram)))
+      few-bind r (two r descriptor) (charactersOf (s .ld) (s .dd) * each) (nextLine (s .ch) w) _ ram (walk-few (s .ch) w)
+      (few-fmap r (charactersOf (s .ld) (s .dd) * each) _ _ ram
+      (either (λ (p : Reading (List Place)). Few r (charactersOf (s .ld) (s .dd) * each) p ram) (s .osd) _ (done [])
+      (row-few (charactersOf (s .ld) (s .dd)) (value ram (nextLine (s .ch) w) .strip))
+      (few-done r (charactersOf (s .ld) (s .dd) * each) [] ram)))
 
 -- two cells for each code
-pub scan-codes : (s : Settings) (w : Walk) (ram : List ℕ) → length (cellsAs code ram (scan s w)) ≤ 2 * columnsOf (s .ld) (s .dd)
+pub scan-codes : (s : Settings) (w : Walk) (ram : List ℕ) → length (cellsAs code ram (scan s w)) ≤ 2 * charactersOf (s .ld) (s .dd)
 unfolding two each sameRole
 scan-codes s w ram = omega (arith, scan-few code ram s w)
 
@@ -114,7 +114,7 @@ pub most-cells : MostCells
 unfolding two each sameRole
 most-cells r w ram =
     let s : Settings = settingsOf r in
-    let n : columnsOf (s .ld) (s .dd) ≤ 61 = columns-bound (s .ld) (s .dd) (ld-bound r) in
+    let n : charactersOf (s .ld) (s .dd) ≤ 61 = characters-bound (s .ld) (s .dd) (ld-bound r) in
     record {
       descriptors = omega (arith, scan-few descriptor ram s w);
       codes = omega (arith, scan-codes s w ram);

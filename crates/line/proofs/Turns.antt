@@ -9,7 +9,7 @@ use mir.Syntax.{w32}
 use mir.Val.{Fits}
 use lib.ListN.{length, getD, take, drop, replicate, length-append, length-take, length-drop, take-append-drop}
 use borrow.Rule.Slice.PartMut.{putMid, same-len-mid, drop-put}
-use Rattle.raster.proofs.Laws.{columns-more}
+use Rattle.raster.proofs.Laws.{characters-more}
 use borrow.Author.Tests.{eqb-true}
 use lib.Seq.{take-all, take-at, drop-length, drop-drop}
 use Rattle.cells.specs.Reading.{code, Reading, done, read, bind, fmap, value, cells}
@@ -173,7 +173,7 @@ part-twelve out x h = simp (length-take, length-drop) (omega arith)
 module _ (ram font : List ℕ) (pen : Pen) (room a : ℕ) (p : even a ≡ a) (some : 0 < room) where
   -- the row begins with one more code
   one-more : (room + 11) / 12 ≡ suc ((room - 12 + 11) / 12)
-  one-more = columns-more room some
+  one-more = characters-more room some
 
   room-ended : endsLine (getD ram (a + 1) 0) ≡ true
       → (roomOf ram font pen room a ≡ replicate room (pen .plain)) × (length (cells ram (rowIn pen room a)) ≡ 2)

@@ -9,7 +9,7 @@ use lib.ListN.{take, replicate}
 use Rattle.cells.specs.Reading.{code, Reading, done, read, bind, fmap}
 use Rattle.registers.specs.declared.Settings.{Settings}
 use Rattle.raster.specs.declared.Slice.{Slice}
-use Rattle.raster.specs.Raster.{interpolated, widthOf, firstPixelOf, columnsOf, hiddenIn}
+use Rattle.raster.specs.Raster.{interpolated, widthOf, firstPixelOf, charactersOf, hiddenIn}
 use Rattle.walk.specs.declared.Strip.{Strip}
 use Rattle.walk.specs.declared.Strip.the-variants.{Spacing, Characters}
 use Rattle.walk.specs.declared.Walk.{Walk}
@@ -42,7 +42,7 @@ rowOf n (Characters address height zoom enabled line) = cond enabled (codes n (i
 
 -- OSD 0: codes and slices are not read. Codes are read while the next character's first pixel is below W
 unfoldable pub shownRow : Settings → Strip → Reading (List Place)
-shownRow s strip = cond (s .osd) (rowOf (columnsOf (s .ld) (s .dd)) strip) (done [])
+shownRow s strip = cond (s .osd) (rowOf (charactersOf (s .ld) (s .dd)) strip) (done [])
 
 pub record Scanned : Type 0 where
   pub walk : Walk

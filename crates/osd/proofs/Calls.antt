@@ -15,8 +15,8 @@ use Rattle.refusals.specs.declared.Refusal.the-variants.{RamLength, NotAcknowle
 use Rattle.refusals.proofs.Laws.{not-zero}
 use Rattle.refusals.specs.Refusals.{refused}
 use Rattle.registers.specs.Registers.{kept, stored}
-use Rattle.bus.specs.declared.State.{State}
-use Rattle.bus.specs.declared.State.the-variants.{Idle, Deaf, Slave, High, Low, Write, Read}
+use Rattle.bus.specs.declared.BusState.{BusState}
+use Rattle.bus.specs.declared.BusState.the-variants.{Idle, Deaf, Slave, High, Low, Write, Read}
 use Rattle.bus.specs.declared.Bus.{Bus}
 use Rattle.bus.specs.declared.Step.{Step}
 use Rattle.bus.specs.declared.Event.{Event}
@@ -126,7 +126,7 @@ slave-in-space b true q = tt
 slave-in-space b false true = tt
 slave-in-space b false false = tt
 
-byte-in-space : (s : State) (b : Bus) (x : ℕ) → InSpace (byteAt s b x .effect)
+byte-in-space : (s : BusState) (b : Bus) (x : ℕ) → InSpace (byteAt s b x .effect)
 byte-in-space Idle b x = tt
 byte-in-space Deaf b x = tt
 byte-in-space Slave b x = slave-in-space b (eqb x 0xBA) (eqb x 0xBB)
@@ -135,7 +135,7 @@ byte-in-space (Low high) b x = tt
 byte-in-space Write b x = omega arith
 byte-in-space Read b x = tt
 
-fetch-in-space : (s : State) (b : Bus) → InSpace (fetchAt s b .effect)
+fetch-in-space : (s : BusState) (b : Bus) → InSpace (fetchAt s b .effect)
 fetch-in-space Idle b = tt
 fetch-in-space Deaf b = tt
 fetch-in-space Slave b = tt
@@ -182,7 +182,7 @@ applied-ignore xs ram ys s a q e p = rw q (λ i. record { device = e i; ram = ra
 -- ---- a data byte and a fetch, seen by the number of the state
 
 -- the bus with its counter gone up
-abbrev up : State → ℕ → Bus
+abbrev up : BusState → ℕ → Bus
 up s n = record { state = s; counter = (n % 0x4000 + 1) % 0x4000 }
 
 module _ (xs ram ys : List ℕ) (n : ℕ) (p : n ≡ deviceIn xs .bus .counter) where
@@ -216,7 +216,7 @@ ignored-fetch : (b : Bus) → (b .state ≡ Read → ⊥) → step b Fetch ≡ i
 unfolding step
 ignored-fetch b = by (b .state) refl
   where
-    by : (s : State) → b .state ≡ s → (s ≡ Read → ⊥) → fetchAt s b ≡ ignores b
+    by : (s : BusState) → b .state ≡ s → (s ≡ Read → ⊥) → fetchAt s b ≡ ignores b
     by Idle p n = refl
     by Deaf p n = refl
     by Slave p n = refl

@@ -11,9 +11,9 @@ ghost use Rattle.layout.specs.Layout.{busAt, recordLength, deviceIn};
 ghost use Rattle.interface.specs.Interface.{answerOf, freshOn, ignoredOn, busOn, startOn, drawOn, cellOn};
 ghost use Rattle.osd.specs.Steps.{InSpace, stepOn, eventOn, storedOn};
 use bus::Bus;
+use bus::BusState;
 use bus::Effect;
 use bus::Event;
-use bus::State;
 use bus::Step;
 use device::Device;
 use device::DrawAnswer;
@@ -104,7 +104,7 @@ fn load(device: &[u8], ram: &[u8], address: u16) -> u8
 }
 
 // An event that is not acknowledged writes no byte, unless the device turns deaf.
-fn ignore(device: &mut [u8], state: State)
+fn ignore(device: &mut [u8], state: BusState)
     requires { ⌜ length (now device) ≡ recordLength ⌝ }
     ensures { λ _. ⌜ now (device .exit) ≡ ignoredOn state (now (device .entry)) ⌝ }
 {
@@ -150,7 +150,7 @@ fn write_next(device: &mut [u8], ram: &mut [u8], x: u8) -> u32
 {
     let address = layout::counter_of(device) % 0x4000;
     let next = Bus {
-        state: State::Write,
+        state: BusState::Write,
         counter: (address + 1) % 0x4000,
     };
     layout::write_bus(device, next);
@@ -165,7 +165,7 @@ fn read_next(device: &mut [u8], ram: &mut [u8]) -> u32
 {
     let address = layout::counter_of(device) % 0x4000;
     let next = Bus {
-        state: State::Read,
+        state: BusState::Read,
         counter: (address + 1) % 0x4000,
     };
     layout::write_bus(device, next);

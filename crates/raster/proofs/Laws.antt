@@ -71,8 +71,8 @@ height-pos j ch true h = omega (arith, h .to, h .from)
 height-pos j ch false h = omega (arith, h .to, h .from)
 
 -- another character has room to start exactly while its first pixel is below W
-pub columns-more : (left : ℕ) → 0 < left → (left + 11) / 12 ≡ suc ((left - 12 + 11) / 12)
-columns-more left h = omega arith
+pub characters-more : (left : ℕ) → 0 < left → (left + 11) / 12 ≡ suc ((left - 12 + 11) / 12)
+characters-more left h = omega arith
 
 -- modes other than 0, 1 and 2 are mode 3
 pub hidden-rest : (fl f : ℕ) → (fl ≡ 0 → ⊥) → (fl ≡ 1 → ⊥) → (fl ≡ 2 → ⊥) → hiddenIn fl f ≡ leb 48 f

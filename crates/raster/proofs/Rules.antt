@@ -2,12 +2,12 @@
 -- Assumes nothing.
 use native.Mathlib.Omega.{arith}
 use Rattle.raster.specs.Raster.{interpolated}
-use Rattle.raster.specs.Rules.{SliceRange, Columns}
+use Rattle.raster.specs.Rules.{SliceRange, LineCharacters}
 use Rattle.raster.proofs.Laws.{slice-bound, unzoomed-bound, height-pos}
 
 pub slice-range : SliceRange
 unfolding interpolated
 slice-range j ch zoom h = slice-bound ch _ (height-pos j ch zoom h) (unzoomed-bound j ch zoom h)
 
-pub columns : Columns
-columns ld dd k = (λ h. omega arith, λ h. omega arith)
+pub line-characters : LineCharacters
+line-characters ld dd k = (λ h. omega arith, λ h. omega arith)

@@ -69,8 +69,8 @@ abbrev pub firstPixelOf : ℕ → ℕ
 firstPixelOf dd = 3 * (max 4 dd + 8)
 
 -- how many characters there are room to start: those whose first pixel, 12 after the one before, is below W
-abbrev pub columnsOf : ℕ → ℕ → ℕ
-columnsOf ld dd = (widthOf ld - firstPixelOf dd + 11) / 12
+abbrev pub charactersOf : ℕ → ℕ → ℕ
+charactersOf ld dd = (widthOf ld - firstPixelOf dd + 11) / 12
 
 -- hidden time: mode 0 never hides, mode 1 shows f below 32, mode 2 below 16, mode 3 below 48 (H)
 abbrev pub hiddenIn : ℕ → ℕ → Bool

@@ -4,12 +4,12 @@ use Prim.Native.Nat.{ℕ, _+_, _*_, _<_}
 use mathlib.Core.Bool.{Bool}
 use mathlib.Core.Logic.{_↔_}
 use Rattle.raster.specs.declared.ScanLine.{ScanLine}
-use Rattle.raster.specs.Raster.{InStrip, InCharacter, interpolated, widthOf, firstPixelOf, columnsOf}
+use Rattle.raster.specs.Raster.{InStrip, InCharacter, interpolated, widthOf, firstPixelOf, charactersOf}
 
 -- the slice lies in 0 to 18, on every line of every strip
 abbrev pub SliceRange : Type 0
 SliceRange = (j : ScanLine) (ch : ℕ) (zoom : Bool) → InStrip j ch zoom → InCharacter (interpolated j ch zoom)
 
 -- codes are read while the next character's first pixel is below W
-abbrev pub Columns : Type 0
-Columns = (ld dd k : ℕ) → k < columnsOf ld dd ↔ firstPixelOf dd + 12 * k < widthOf ld
+abbrev pub LineCharacters : Type 0
+LineCharacters = (ld dd k : ℕ) → k < charactersOf ld dd ↔ firstPixelOf dd + 12 * k < widthOf ld

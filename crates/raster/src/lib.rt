@@ -1,7 +1,7 @@
 // The geometry of a line: which slice a scan line shows, how wide a line is, where its characters start, and what flashes.
 ghost use mathlib.Core.Path.{_≡_};
 ghost use Prim.Native.Nat.{_-_, _≤_, max};
-ghost use Rattle.raster.specs.Raster.{stripLines, beforeFirst, following, InStrip, isLast, linesAfter, HasNext, InCharacter, unzoomed, interpolated, widthOf, firstPixelOf, columnsOf, hiddenIn};
+ghost use Rattle.raster.specs.Raster.{stripLines, beforeFirst, following, InStrip, isLast, linesAfter, HasNext, InCharacter, unzoomed, interpolated, widthOf, firstPixelOf, charactersOf, hiddenIn};
 ghost use Rattle.raster.specs.Search.{sliceShown};
 
 // A scan line of a strip, counted from 1; 0 before the first.
@@ -120,8 +120,8 @@ pub fn first_pixel(dd: u8) -> u16
 }
 
 // How many characters there is room to start on a line.
-pub fn columns(ld: u8, dd: u8) -> u16
-    ensures { λ r. ⌜ r ≡ columnsOf ld dd ⌝ }
+pub fn characters(ld: u8, dd: u8) -> u16
+    ensures { λ r. ⌜ r ≡ charactersOf ld dd ⌝ }
 {
     let w = width(ld);
     let first = first_pixel(dd);

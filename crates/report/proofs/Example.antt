@@ -15,5 +15,5 @@ use Rattle.report.specs.Report.{benchDevice, digits, linesText, benchTex
 use Rattle.report.specs.Example.{exampleInput, exampleOutput, bytesOf, BenchExample}
 
 pub bench-example : BenchExample
-unfolding exampleInput exampleOutput bytesOf benchText linesText report.begun benchDevice digits freshDevice inFrame startFrame pixelsOf lineOn lineDrawn drawVerdict drawBy drawLine loaded zipWith settingsOf scan nextLine walkFrom over begun advanced stripOf rowOf shownRow codes glyphOf inRam bind fmap cells value beforeFirst following isLast interpolated sliceNumber paint painted character twelveColumns inkOf columns bitsOf
+unfolding exampleInput exampleOutput bytesOf benchText linesText report.benchStart benchDevice digits freshDevice inFrame startFrame pixelsOf lineOn lineDrawn drawVerdict drawBy drawLine loaded zipWith settingsOf scan nextLine walkFrom over begun advanced stripOf rowOf shownRow codes glyphOf inRam bind fmap cells value beforeFirst following isLast interpolated sliceNumber paint painted character twelveColumns inkOf columns bitsOf
 bench-example = refl

@@ -13,7 +13,7 @@ use lib.Seq.{take-append-seam}
 use Rattle.line.proofs.Laws.{paint-length}
 use Rattle.device.specs.declared.Device.{Device}
 use Rattle.device.specs.Device.{StartOutcome, DrawOutcome, lineWidth, pixelsOf, lineOn, lineDrawn, drawVerdict, drawBy, drawLine}
-use Rattle.report.specs.Report.{ramPart, fontPart, begun, refusalText, headingText, lineText, TextOutcome, writeText, LineOutcome, nextDraw, linesText, benchText}
+use Rattle.report.specs.Report.{ramPart, fontPart, benchStart, refusalText, headingText, lineText, TextOutcome, writeText, LineOutcome, nextDraw, linesText, benchText}
 use Rattle.report.specs.Parts.{printed, lineParts, frameParts, benchParts, JoinedParts}
 use Rattle.report.proofs.Texts.{places-few, text-drawn, width-most, refusal-long, heading-long, line-long}
 
@@ -87,9 +87,9 @@ lines-joined (suc n) d ram font out e r f h =
 
 -- ---- a start that is accepted has an input of the right length
 
-begun-long : (input : List ℕ) → begun input .reply .refusal ≡ 0 → length input ≡ 5650
-unfolding begun
-begun-long input z = by (ℕ-discrete (length input) 5650)
+start-long : (input : List ℕ) → benchStart input .reply .refusal ≡ 0 → length input ≡ 5650
+unfolding benchStart
+start-long input z = by (ℕ-discrete (length input) 5650)
   where
     by : Dec (length input ≡ 5650) → length input ≡ 5650
     by (yes e) = e
@@ -102,7 +102,7 @@ unfolding benchParts frameParts benchText flatten
 joined-parts input short long h k = by (eqb (o .reply .refusal) 0) refl
   where
     o : StartOutcome
-    o = begun input
+    o = benchStart input
 
     left : ℕ
     left = o .device .frame .left
@@ -113,7 +113,7 @@ joined-parts input short long h k = by (eqb (o .reply .refusal) 0) refl
         ≡ cond t (headingText left (lineWidth (o .device)) ++ linesText left (o .device) (ramPart input) (fontPart input))
         (refusalText (o .reply .refusal))
     by true e =
-        let whole : length input ≡ 5650 = begun-long input (eqb-true (o .reply .refusal) 0 e) in
+        let whole : length input ≡ 5650 = start-long input (eqb-true (o .reply .refusal) 0 e) in
         let heading : List ℕ = headingText left (lineWidth (o .device)) in
         let fits : length heading ≤ length long =
         omega (arith, heading-long left (lineWidth (o .device)), places-few left, places-few (lineWidth (o .device))) in

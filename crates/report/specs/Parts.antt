@@ -10,13 +10,13 @@ use lib.Dec.{eqb, leb}
 use lib.ListN.{length, take}
 use Rattle.device.specs.declared.Device.{Device}
 use Rattle.device.specs.Device.{StartOutcome, lineWidth}
-use Rattle.report.specs.Report.{ramPart, fontPart, begun, refusalText, headingText, TextOutcome, writeText, LineOutcome, nextText, benchText}
+use Rattle.report.specs.Report.{ramPart, fontPart, benchStart, refusalText, headingText, TextOutcome, writeText, LineOutcome, nextText, benchText}
 
 -- print: of the text buffer as a call left it, as many bytes as the call answered
 abbrev pub printed : TextOutcome → List ℕ
 printed t = cond (leb (t .answer) (length (t .out))) (take (t .answer) (t .out)) []
 
--- show, its loop: `next_line` so many times, each with the device and the text buffer that the call before left
+-- show, its loop: `next_text` so many times, each with the device and the text buffer that the call before left
 unfoldable pub lineParts : ℕ → Device → List ℕ → List ℕ → List ℕ → List (List ℕ)
 lineParts zero d ram font text = []
 lineParts (suc n) d ram font text =
@@ -32,7 +32,7 @@ frameParts d ram font text =
 -- run: `begin`, then `refusal_text` in a short text buffer, or the frame in a long one
 unfoldable pub benchParts : List ℕ → List ℕ → List ℕ → List (List ℕ)
 benchParts input short long =
-    let o : StartOutcome = begun input in
+    let o : StartOutcome = benchStart input in
     cond (eqb (o .reply .refusal) 0)
     (frameParts (o .device) (ramPart input) (fontPart input) long)
     (printed (writeText (refusalText (o .reply .refusal)) short) ∷ [])

@@ -42,8 +42,8 @@ benchDevice input =
     }
 
 -- a bad length is refused 7, whatever the count; then it starts frame 0, which refuses a bad count by 6
-unfoldable pub begun : List ℕ → StartOutcome
-begun input =
+unfoldable pub benchStart : List ℕ → StartOutcome
+benchStart input =
     cond (not (eqb (length input) 5650))
     (record { device = freshDevice; reply = refused BenchLength })
     (startFrame (benchDevice input) (lineCount input))
@@ -155,7 +155,7 @@ linesText (suc n) d ram font =
 -- a heading, then the lines; a refusal prints no heading
 unfoldable pub benchText : List ℕ → List ℕ
 benchText input =
-    let o : StartOutcome = begun input in
+    let o : StartOutcome = benchStart input in
     cond (eqb (o .reply .refusal) 0)
     (headingText (o .device .frame .left) (lineWidth (o .device))
     ++ linesText (o .device .frame .left) (o .device) (ramPart input) (fontPart input))

@@ -4,7 +4,7 @@ ghost use mathlib.Core.List.{map};
 ghost use Prim.Native.Nat.{_+_, _-_, _≤_, min};
 ghost use lib.ListN.{length, take, drop};
 ghost use Rattle.device.specs.Device.{startOutcome, drawLine, lineWidth};
-ghost use Rattle.report.specs.Report.{ramPart, fontPart, benchDevice, begun, hexDigit, placesOf, digits, decimal, Put, refusalText, headingText, lineText, writeText, textOutcome, textOf, nextText, lineOutcome};
+ghost use Rattle.report.specs.Report.{ramPart, fontPart, benchDevice, benchStart, hexDigit, placesOf, digits, decimal, Put, refusalText, headingText, lineText, writeText, textOutcome, textOf, nextText, lineOutcome};
 use device::Device;
 use device::StartAnswer;
 use device::StartDone;
@@ -65,7 +65,7 @@ fn device_of(input: &[u8]) -> Device
 
 // The device in frame 0, whose lines are those of the input. Refusals 7, then 6.
 pub fn begin(input: &[u8]) -> StartDone
-    ensures { λ r. ⌜ startOutcome r ≡ begun (now (input .entry)) ⌝ }
+    ensures { λ r. ⌜ startOutcome r ≡ benchStart (now (input .entry)) ⌝ }
 {
     if input.len() != INPUT_LENGTH {
         return StartDone {
@@ -236,7 +236,7 @@ fn draw_text<'a>(
 }
 
 // The same, in a line buffer of its own.
-pub fn next_line<'a>(device: Device, ram: &'a [u8], font: &'a [u8], out: &mut [u8]) -> LineDone
+pub fn next_text<'a>(device: Device, ram: &'a [u8], font: &'a [u8], out: &mut [u8]) -> LineDone
     ensures { λ r. ⌜ lineOutcome r (now (out .exit)) ≡ nextText device (now (ram .entry)) (now (font .entry)) (now (out .entry)) ⌝ }
 {
     let width = width_of(device) as usize;

@@ -69,7 +69,7 @@ fn show_lines<'a>(device: Device, ram: &'a [u8], font: &'a [u8]) {
     let mut left = lines;
     let mut sum = 0;
     while left > 0 {
-        let done = report::next_line(next, ram, font, &mut text);
+        let done = report::next_text(next, ram, font, &mut text);
         sum = told(sum, test_script::first(&text, done.length), left, lines);
         next = done.device;
         left -= 1;

@@ -30,11 +30,11 @@ print-requires c κs = search needs
 loop-holds : tie.Need-loop-holds Inv-loop μ-loop
 loop-holds c = search needs
 
-slice-aggregate-next-line : tie.Need-slice-aggregate-next-line Inv-loop μ-loop
-slice-aggregate-next-line c = search needs
+slice-aggregate-next-text : tie.Need-slice-aggregate-next-text Inv-loop μ-loop
+slice-aggregate-next-text c = search needs
 
-next-line-requires : tie.Need-next-line-requires Inv-loop μ-loop
-next-line-requires c κs = search needs
+next-text-requires : tie.Need-next-text-requires Inv-loop μ-loop
+next-text-requires c κs = search needs
 
 slice-aggregate-print-2 : tie.Need-slice-aggregate-print-2 Inv-loop μ-loop
 slice-aggregate-print-2 c = search needs
@@ -66,8 +66,8 @@ show-spec =
     slice-aggregate-print
     print-requires
     loop-holds
-    slice-aggregate-next-line
-    next-line-requires
+    slice-aggregate-next-text
+    next-text-requires
     slice-aggregate-print-2
     print-requires-2
     sub-left

@@ -25,11 +25,11 @@ heading-requires c κs = search needs
 loop-holds : tie.Need-loop-holds Inv-loop μ-loop
 loop-holds c = search needs
 
-slice-aggregate-next-line : tie.Need-slice-aggregate-next-line Inv-loop μ-loop
-slice-aggregate-next-line c = search needs
+slice-aggregate-picture-line : tie.Need-slice-aggregate-picture-line Inv-loop μ-loop
+slice-aggregate-picture-line c = search needs
 
-next-line-requires : tie.Need-next-line-requires Inv-loop μ-loop
-next-line-requires c κs = search needs
+picture-line-requires : tie.Need-picture-line-requires Inv-loop μ-loop
+picture-line-requires c κs = search needs
 
 slice-aggregate-print : tie.Need-slice-aggregate-print Inv-loop μ-loop
 slice-aggregate-print c = search needs
@@ -62,8 +62,8 @@ show-spec =
     cast-width
     heading-requires
     loop-holds
-    slice-aggregate-next-line
-    next-line-requires
+    slice-aggregate-picture-line
+    picture-line-requires
     slice-aggregate-print
     mul-print
     print-requires

@@ -1,8 +1,8 @@
--- `begin`: the test on the length picks the case of `begun`.
+-- `begin`: the test on the length picks the case of `benchStart`.
 -- Assumes nothing.
 use native.Mathlib.Omega.{arith}
 use borrow.Author.Tests.{eq-eqb, ne-eqb}
-use Rattle.report.specs.Report.{begun}
+use Rattle.report.specs.Report.{benchStart}
 use borrow.Author.Needs.{needs}
 use Rattle.report.proofs.begin.Statement.{statement}
 use Rattle.report.proofs.begin.Tie as tie
@@ -11,7 +11,7 @@ fresh-requires : tie.Need-fresh-requires
 fresh-requires c κs = search needs
 
 returns : tie.Need-returns
-unfolding begun
+unfolding benchStart
 returns c = rw (ne-eqb _ _ (c .before .if1 .taken), c .fresh .ensures)
 
 shared-slice-read-lines : tie.Need-shared-slice-read-lines
@@ -39,7 +39,7 @@ start-frame-requires : tie.Need-start-frame-requires
 start-frame-requires c κs = search needs
 
 returns-2 : tie.Need-returns-2
-unfolding begun
+unfolding benchStart
 returns-2 c = rw (eq-eqb _ _ (c .before .before .before .before .if1 .left), ← c .before .device-of .ensures) (c .start-frame .ensures)
 
 pub begin-spec : {M : Type 1} → statement M

@@ -15,11 +15,11 @@ abbrev μ-loop : tie.MeasureT-loop
 loop-holds : tie.Need-loop-holds Inv-loop μ-loop
 loop-holds c = search needs
 
-slice-aggregate-next-line : tie.Need-slice-aggregate-next-line Inv-loop μ-loop
-slice-aggregate-next-line c = search needs
+slice-aggregate-next-text : tie.Need-slice-aggregate-next-text Inv-loop μ-loop
+slice-aggregate-next-text c = search needs
 
-next-line-requires : tie.Need-next-line-requires Inv-loop μ-loop
-next-line-requires c κs = search needs
+next-text-requires : tie.Need-next-text-requires Inv-loop μ-loop
+next-text-requires c κs = search needs
 
 slice-aggregate-first : tie.Need-slice-aggregate-first Inv-loop μ-loop
 slice-aggregate-first c = search needs
@@ -52,8 +52,8 @@ show-lines-spec =
     Inv-loop
     μ-loop
     loop-holds
-    slice-aggregate-next-line
-    next-line-requires
+    slice-aggregate-next-text
+    next-text-requires
     slice-aggregate-first
     first-requires
     told-requires

@@ -1,4 +1,4 @@
--- `next_line`: the draw into a line buffer of W bytes, mixed into the first 3 W bytes of out.
+-- `picture_line`: the draw into a line buffer of W bytes, mixed into the first 3 W bytes of out.
 -- Assumes nothing.
 use Prim.Native.Nat.{ℕ, _*_}
 use mathlib.Core.Path.{sym, ap, _∙_}
@@ -11,8 +11,8 @@ use Rattle.device.specs.Device.{drawLine}
 use Rattle.report.proofs.Texts.{width-most, blank}
 use Rattle.demo.specs.Picture.{LineOutcome, lineOutcome, mixedDraw}
 use borrow.Author.Needs.{needs}
-use Rattle.demo.proofs.next_line.Statement.{statement}
-use Rattle.demo.proofs.next_line.Tie as tie
+use Rattle.demo.proofs.picture_line.Statement.{statement}
+use Rattle.demo.proofs.picture_line.Tie as tie
 
 width-of-requires : tie.Need-width-of-requires
 width-of-requires c κs = search needs
@@ -52,8 +52,8 @@ returns c =
     ∙ ap (λ (n : ℕ). let m : LineOutcome = mixedDraw (drawLine (a .device) (now (a .ram)) (now (a .font)) (replicate n 0)) (a .y) in lineOutcome (m .device) (m .out ++ drop (3 * n) (now (a .out))))
     (w .width-of .ensures)
 
-pub next-line-spec : {M : Type 1} → statement M
-next-line-spec =
+pub picture-line-spec : {M : Type 1} → statement M
+picture-line-spec =
     tie.close
     (tie.spec
     width-of-requires

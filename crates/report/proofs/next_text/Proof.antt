@@ -1,4 +1,4 @@
--- `next_line`: the draw into a buffer of W bytes.
+-- `next_text`: the draw into a buffer of W bytes.
 -- Assumes nothing.
 use mathlib.Core.Path.{sym, ap, _∙_}
 use mathlib.Core.List.{List}
@@ -11,8 +11,8 @@ use Rattle.device.specs.Device.{drawLine}
 use Rattle.report.specs.Report.{textOf}
 use Rattle.report.proofs.Texts.{width-most, blank}
 use borrow.Author.Needs.{needs}
-use Rattle.report.proofs.next_line.Statement.{statement}
-use Rattle.report.proofs.next_line.Tie as tie
+use Rattle.report.proofs.next_text.Statement.{statement}
+use Rattle.report.proofs.next_text.Tie as tie
 
 width-of-requires : tie.Need-width-of-requires
 width-of-requires c κs = search needs
@@ -40,8 +40,8 @@ returns c =
     ∙ ap (λ (line : List ℕ). textOf (drawLine (a .device) (now (a .ram)) (now (a .font)) line) (now (a .out)))
     (blank _ 768 (array-borrow-prefix-line w) ∙ ap (λ (n : ℕ). replicate n 0) (w .width-of .ensures))
 
-pub next-line-spec : {M : Type 1} → statement M
-next-line-spec =
+pub next-text-spec : {M : Type 1} → statement M
+next-text-spec =
     tie.close
     (tie.spec
     width-of-requires
