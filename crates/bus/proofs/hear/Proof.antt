@@ -12,27 +12,6 @@ use Rattle.bus.proofs.hear.Tie as tie
 returns : tie.Need-returns
 returns c = busEvent-refused _ _ _ _ (c .if1 .taken)
 
-take-requires : tie.Need-take-requires
-take-requires c κs = search needs
-
-enum-told : tie.Need-enum-told
-enum-told c = search needs
-
-enum-told-2 : tie.Need-enum-told-2
-enum-told-2 c = search needs
-
-enum-known-effect : tie.Need-enum-known-effect
-enum-known-effect c = search needs
-
-store-requires : tie.Need-store-requires
-store-requires c κs = search needs
-
-enum-known-effect-2 : tie.Need-enum-known-effect-2
-enum-known-effect-2 c = search needs
-
-load-requires : tie.Need-load-requires
-load-requires c κs = search needs
-
 returns-2 : tie.Need-returns-2
 unfolding taken registersWith ramWith answerTo
 returns-2 c =
@@ -45,9 +24,6 @@ returns-3 c =
     busEvent-heard _ _ _ _ (c .before .before .before .before .if1 .left)
     (c .before .before .before .take .result) (c .before .before .before .take .ensures) (c .enum-told2 .given .1)
 
-same-length : tie.Need-same-length
-same-length c = search needs
-
 returns-4 : tie.Need-returns-4
 unfolding taken answerTo
 returns-4 c =
@@ -56,9 +32,6 @@ returns-4 c =
     (λ i. record { bus = t .take .result .bus; registers = e .0 i; ram = e .1 i; reply = accepted 0 })
     ∙ busEvent-heard _ _ _ _ (t .before .if1 .left) (t .take .result) (t .take .ensures)
     (c .before .before .before .before .before .effect .given .1)
-
-same-length-2 : tie.Need-same-length-2
-same-length-2 c = search needs
 
 returns-5 : tie.Need-returns-5
 unfolding taken registersWith ramWith answerTo
@@ -73,16 +46,16 @@ hear-spec =
     tie.close
     (tie.spec
     returns
-    take-requires
-    enum-told
-    enum-told-2
-    enum-known-effect
-    store-requires
-    enum-known-effect-2
-    load-requires
+    (λ c κs. search needs)
+    (λ c. search needs)
+    (λ c. search needs)
+    (λ c. search needs)
+    (λ c κs. search needs)
+    (λ c. search needs)
+    (λ c κs. search needs)
     returns-2
     returns-3
-    same-length
+    (λ c. search needs)
     returns-4
-    same-length-2
+    (λ c. search needs)
     returns-5)

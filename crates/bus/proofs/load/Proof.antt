@@ -5,17 +5,8 @@ use borrow.Author.Needs.{needs}
 use Rattle.bus.proofs.load.Statement.{statement}
 use Rattle.bus.proofs.load.Tie as tie
 
-shared-slice-read-result : tie.Need-shared-slice-read-result
-shared-slice-read-result c = search needs
-
 returns : tie.Need-returns
 returns c = rw (lt-ltb _ _ (c .before .if1 .taken))
-
-cast-fetch : tie.Need-cast-fetch
-cast-fetch c = search needs
-
-fetch-requires : tie.Need-fetch-requires
-fetch-requires c κs = search needs
 
 returns-2 : tie.Need-returns-2
 returns-2 c = rw (le-ltb _ _ (c .before .before .if1 .left), le-leb _ _ (c .before .if2 .taken)) (c .fetch .ensures)
@@ -26,4 +17,4 @@ returns-3 c = rw (le-ltb _ _ (c .before .if1 .left), lt-leb _ _ (c .if2 .left))
 pub load-spec : {M : Type 1} → statement M
 load-spec =
     tie.close
-    (tie.spec shared-slice-read-result returns cast-fetch fetch-requires returns-2 returns-3)
+    (tie.spec (λ c. search needs) returns (λ c. search needs) (λ c κs. search needs) returns-2 returns-3)

@@ -7,21 +7,9 @@ use borrow.Author.Needs.{needs}
 use Rattle.bus.proofs.store.Statement.{statement}
 use Rattle.bus.proofs.store.Tie as tie
 
-slice-write-ram : tie.Need-slice-write-ram
-slice-write-ram c = search needs
-
-same-length : tie.Need-same-length
-same-length c = search needs
-
 returns : tie.Need-returns
 unfolding registersWith ramWith
 returns c = (rw (lt-leb 0x3FF0 (c .before .before .args .address) (omega arith)), rw (lt-ltb _ _ (c .if1 .taken)))
-
-cast-store : tie.Need-cast-store
-cast-store c = search needs
-
-store-requires : tie.Need-store-requires
-store-requires c κs = search needs
 
 returns-2 : tie.Need-returns-2
 unfolding registersWith ramWith
@@ -34,4 +22,4 @@ returns-3 c = (rw (lt-leb _ _ (c .if2 .left)), rw (le-ltb _ _ (c .before .if1 .l
 pub store-spec : {M : Type 1} → statement M
 store-spec =
     tie.close
-    (tie.spec slice-write-ram same-length returns cast-store store-requires returns-2 returns-3)
+    (tie.spec (λ c. search needs) (λ c. search needs) returns (λ c. search needs) (λ c κs. search needs) returns-2 returns-3)

@@ -7,18 +7,6 @@ use borrow.Author.Needs.{needs}
 use Rattle.demo.proofs.draw_mixed.Statement.{statement}
 use Rattle.demo.proofs.draw_mixed.Tie as tie
 
-draw-line-requires : tie.Need-draw-line-requires
-draw-line-requires c κs = search needs
-
-mix-line-requires : tie.Need-mix-line-requires
-mix-line-requires c κs = search needs
-
-same-length : tie.Need-same-length
-same-length c = search needs
-
-same-length-2 : tie.Need-same-length-2
-same-length-2 c = search needs
-
 returns : tie.Need-returns
 returns c =
     let d = c .before .before .before .before .before .before .before .before .draw-line in
@@ -27,4 +15,4 @@ returns c =
 
 pub draw-mixed-spec : {M : Type 1} → statement M
 draw-mixed-spec =
-    tie.close (tie.spec draw-line-requires mix-line-requires same-length same-length-2 returns)
+    tie.close (tie.spec (λ c κs. search needs) (λ c κs. search needs) (λ c. search needs) (λ c. search needs) returns)

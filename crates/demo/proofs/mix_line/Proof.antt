@@ -23,46 +23,13 @@ abbrev μ-loop : tie.MeasureT-loop
 loop-holds : tie.Need-loop-holds Inv-loop μ-loop
 loop-holds c = (search needs, search needs, refl)
 
-shared-slice-read-mix-pixel : tie.Need-shared-slice-read-mix-pixel Inv-loop μ-loop
-shared-slice-read-mix-pixel c = search needs
-
-pixel-requires : tie.Need-pixel-requires Inv-loop μ-loop
-pixel-requires c κs = search needs
-
-mix-pixel-requires : tie.Need-mix-pixel-requires Inv-loop μ-loop
-mix-pixel-requires c κs = search needs
-
-mul-out : tie.Need-mul-out Inv-loop μ-loop
-mul-out c = search needs
-
-slice-write-out : tie.Need-slice-write-out Inv-loop μ-loop
-slice-write-out c = search needs
-
-mul-out-2 : tie.Need-mul-out-2 Inv-loop μ-loop
-mul-out-2 c = search needs
-
-add-out : tie.Need-add-out Inv-loop μ-loop
-add-out c = search needs
-
 slice-write-out-2 : tie.Need-slice-write-out-2 Inv-loop μ-loop
 slice-write-out-2 c = let l = c .before .before .before .before .loop in lt-length-set (l .out) (3 * l .x) _ (omega arith)
-
-mul-out-3 : tie.Need-mul-out-3 Inv-loop μ-loop
-mul-out-3 c = search needs
-
-add-out-2 : tie.Need-add-out-2 Inv-loop μ-loop
-add-out-2 c = search needs
 
 slice-write-out-3 : tie.Need-slice-write-out-3 Inv-loop μ-loop
 slice-write-out-3 c =
     let l = c .before .before .before .before .loop in
     lt-length-set (set (l .out) (3 * l .x) (c .mix-pixel .result .r)) (3 * l .x + 1) _ (lt-length-set (l .out) (3 * l .x) _ (omega arith))
-
-add-x : tie.Need-add-x Inv-loop μ-loop
-add-x c = search needs
-
-loop-less : tie.Need-loop-less Inv-loop μ-loop
-loop-less c = search needs
 
 loop-again : tie.Need-loop-again Inv-loop μ-loop
 loop-again c =
@@ -73,9 +40,6 @@ loop-again c =
       mixed-more (now (a .line)) (l .out) (a .y) (l .x) (l .inv .2) (c .mix-pixel .result) (omega arith) (omega arith)
           (c .mix-pixel .ensures ∙ ap (mix _) (c .before .pixel .ensures)),
     )
-
-same-length : tie.Need-same-length Inv-loop μ-loop
-same-length c = search needs
 
 returns : tie.Need-returns Inv-loop μ-loop
 returns c =
@@ -90,19 +54,19 @@ mix-line-spec =
     Inv-loop
     μ-loop
     loop-holds
-    shared-slice-read-mix-pixel
-    pixel-requires
-    mix-pixel-requires
-    mul-out
-    slice-write-out
-    mul-out-2
-    add-out
+    (λ c. search needs)
+    (λ c κs. search needs)
+    (λ c κs. search needs)
+    (λ c. search needs)
+    (λ c. search needs)
+    (λ c. search needs)
+    (λ c. search needs)
     slice-write-out-2
-    mul-out-3
-    add-out-2
+    (λ c. search needs)
+    (λ c. search needs)
     slice-write-out-3
-    add-x
-    loop-less
+    (λ c. search needs)
+    (λ c. search needs)
     loop-again
-    same-length
+    (λ c. search needs)
     returns)

@@ -14,15 +14,6 @@ use borrow.Author.Needs.{needs}
 use Rattle.demo.proofs.picture_line.Statement.{statement}
 use Rattle.demo.proofs.picture_line.Tie as tie
 
-width-of-requires : tie.Need-width-of-requires
-width-of-requires c κs = search needs
-
-cast-width : tie.Need-cast-width
-cast-width c = search needs
-
-mul-n : tie.Need-mul-n
-mul-n c = search needs
-
 array-borrow-prefix-line : tie.Need-array-borrow-prefix-line
 array-borrow-prefix-line c = omega (arith, c .width-of .ensures, width-most (c .before .before .before .before .args .device))
 
@@ -39,9 +30,6 @@ draw-mixed-requires : tie.Need-draw-mixed-requires
 draw-mixed-requires c κs =
     sym (slice-aggregate-draw-mixed-2 c) ∙ ap (λ (n : ℕ). 3 * n) (slice-aggregate-draw-mixed (c .before))
 
-same-length : tie.Need-same-length
-same-length c = search needs
-
 returns : tie.Need-returns
 returns c =
     let a = c .before .before .before .before .before .before .before .before .before .before .args in
@@ -56,13 +44,13 @@ pub picture-line-spec : {M : Type 1} → statement M
 picture-line-spec =
     tie.close
     (tie.spec
-    width-of-requires
-    cast-width
-    mul-n
+    (λ c κs. search needs)
+    (λ c. search needs)
+    (λ c. search needs)
     array-borrow-prefix-line
     slice-aggregate-draw-mixed
     slice-relend-prefix-draw-mixed
     slice-aggregate-draw-mixed-2
     draw-mixed-requires
-    same-length
+    (λ c. search needs)
     returns)

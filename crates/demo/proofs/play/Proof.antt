@@ -21,33 +21,6 @@ abbrev μ-loop : tie.MeasureT-loop
 loop-holds : tie.Need-loop-holds Inv-loop μ-loop
 loop-holds c = (search needs, refl)
 
-mul-of-kind : tie.Need-mul-of-kind Inv-loop μ-loop
-mul-of-kind c = search needs
-
-shared-slice-read-of-kind : tie.Need-shared-slice-read-of-kind Inv-loop μ-loop
-shared-slice-read-of-kind c = search needs
-
-mul-of-kind-2 : tie.Need-mul-of-kind-2 Inv-loop μ-loop
-mul-of-kind-2 c = search needs
-
-add-of-kind : tie.Need-add-of-kind Inv-loop μ-loop
-add-of-kind c = search needs
-
-shared-slice-read-of-kind-2 : tie.Need-shared-slice-read-of-kind-2 Inv-loop μ-loop
-shared-slice-read-of-kind-2 c = search needs
-
-of-kind-requires : tie.Need-of-kind-requires Inv-loop μ-loop
-of-kind-requires c κs = search needs
-
-hear-requires : tie.Need-hear-requires Inv-loop μ-loop
-hear-requires c κs = search needs
-
-add-i : tie.Need-add-i Inv-loop μ-loop
-add-i c = search needs
-
-loop-less : tie.Need-loop-less Inv-loop μ-loop
-loop-less c = search needs
-
 loop-again : tie.Need-loop-again Inv-loop μ-loop
 loop-again c =
     let l = c .before .before .before .before .before .before .before .before .before .loop in
@@ -59,9 +32,6 @@ loop-again c =
           (c .before .before .before .hear .ensures ∙ ap (hearEvent (l .next) (l .ram)) (c .before .before .before .before .of-kind .ensures)))
           ∙ l .inv .1,
     )
-
-same-length : tie.Need-same-length Inv-loop μ-loop
-same-length c = search needs
 
 returns : tie.Need-returns Inv-loop μ-loop
 returns c =
@@ -76,15 +46,15 @@ play-spec =
     Inv-loop
     μ-loop
     loop-holds
-    mul-of-kind
-    shared-slice-read-of-kind
-    mul-of-kind-2
-    add-of-kind
-    shared-slice-read-of-kind-2
-    of-kind-requires
-    hear-requires
-    add-i
-    loop-less
+    (λ c. search needs)
+    (λ c. search needs)
+    (λ c. search needs)
+    (λ c. search needs)
+    (λ c. search needs)
+    (λ c κs. search needs)
+    (λ c κs. search needs)
+    (λ c. search needs)
+    (λ c. search needs)
     loop-again
-    same-length
+    (λ c. search needs)
     returns)

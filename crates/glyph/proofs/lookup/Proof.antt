@@ -9,36 +9,12 @@ use Rattle.glyph.proofs.lookup.Tie as tie
 returns : tie.Need-returns
 returns c = word-none _ _ _ _ (c .before .before .if1 .taken) (c .if2 .taken)
 
-slice-bytes-requires : tie.Need-slice-bytes-requires
-slice-bytes-requires c κs = search needs
-
-shared-slice-read-two-bytes : tie.Need-shared-slice-read-two-bytes
-shared-slice-read-two-bytes c = search needs
-
-shared-slice-read-two-bytes-2 : tie.Need-shared-slice-read-two-bytes-2
-shared-slice-read-two-bytes-2 c = search needs
-
-two-bytes-requires : tie.Need-two-bytes-requires
-two-bytes-requires c κs = search needs
-
 returns-2 : tie.Need-returns-2
 unfolding wordAt
 returns-2 c =
     let p = c .before .before .before in
     rw (c .two-bytes .ensures, p .slice-bytes .ensures .0)
     (word-font _ _ _ _ (p .before .before .before .if1 .taken) (p .before .if2 .left))
-
-slice-bytes-requires-2 : tie.Need-slice-bytes-requires-2
-slice-bytes-requires-2 c κs = search needs
-
-shared-slice-read-two-bytes-3 : tie.Need-shared-slice-read-two-bytes-3
-shared-slice-read-two-bytes-3 c = search needs
-
-shared-slice-read-two-bytes-4 : tie.Need-shared-slice-read-two-bytes-4
-shared-slice-read-two-bytes-4 c = search needs
-
-two-bytes-requires-2 : tie.Need-two-bytes-requires-2
-two-bytes-requires-2 c κs = search needs
 
 returns-3 : tie.Need-returns-3
 unfolding wordAt
@@ -55,14 +31,14 @@ lookup-spec =
     tie.close
     (tie.spec
     returns
-    slice-bytes-requires
-    shared-slice-read-two-bytes
-    shared-slice-read-two-bytes-2
-    two-bytes-requires
+    (λ c κs. search needs)
+    (λ c. search needs)
+    (λ c. search needs)
+    (λ c κs. search needs)
     returns-2
-    slice-bytes-requires-2
-    shared-slice-read-two-bytes-3
-    shared-slice-read-two-bytes-4
-    two-bytes-requires-2
+    (λ c κs. search needs)
+    (λ c. search needs)
+    (λ c. search needs)
+    (λ c κs. search needs)
     returns-3
     returns-4)

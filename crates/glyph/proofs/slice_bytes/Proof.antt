@@ -26,59 +26,14 @@ both ram f high s p e = (e, ap length e ∙ slicePart-length ram f high s (p .0)
 odd : (n : ℕ) → (n / 128 % 2 ≡ 0 → ⊥) → n / 128 % 2 ≡ 1
 odd n h = omega arith
 
-cast-number : tie.Need-cast-number
-cast-number c = search needs
-
-cast-s : tie.Need-cast-s
-cast-s c = search needs
-
-mul-a : tie.Need-mul-a
-mul-a c = search needs
-
 sub-a : tie.Need-sub-a
 sub-a c = c .before .before .pre .1 .of-font (c .if1 .taken)
-
-mul-a-2 : tie.Need-mul-a-2
-mul-a-2 c = search needs
-
-add-a : tie.Need-add-a
-add-a c = search needs
-
-add-e : tie.Need-add-e
-add-e c = search needs
-
-sub-result : tie.Need-sub-result
-sub-result c = search needs
-
-part-result-start : tie.Need-part-result-start
-part-result-start c = search needs
-
-part-result-end : tie.Need-part-result-end
-part-result-end c = search needs
 
 returns : tie.Need-returns
 returns c =
     let a = c .before .before .before .args in
     both (now (a .ram)) (now (a .font)) (a .high) (a .slice .0) (c .before .before .before .pre)
     (unfold slicePart in rw (eq-eqb _ _ (c .before .if1 .taken)) (two (fontByte (a .high % 128) (a .slice .0)) (now (a .font))))
-
-mul-a-3 : tie.Need-mul-a-3
-mul-a-3 c = search needs
-
-mul-a-4 : tie.Need-mul-a-4
-mul-a-4 c = search needs
-
-add-a-2 : tie.Need-add-a-2
-add-a-2 c = search needs
-
-add-e-2 : tie.Need-add-e-2
-add-e-2 c = search needs
-
-sub-result-2 : tie.Need-sub-result-2
-sub-result-2 c = search needs
-
-part-result-start-2 : tie.Need-part-result-start-2
-part-result-start-2 c = search needs
 
 part-result-end-2 : tie.Need-part-result-end-2
 part-result-end-2 c =
@@ -95,22 +50,22 @@ pub slice-bytes-spec : {M : Type 1} → statement M
 slice-bytes-spec =
     tie.close
     (tie.spec
-    cast-number
-    cast-s
-    mul-a
+    (λ c. search needs)
+    (λ c. search needs)
+    (λ c. search needs)
     sub-a
-    mul-a-2
-    add-a
-    add-e
-    sub-result
-    part-result-start
-    part-result-end
+    (λ c. search needs)
+    (λ c. search needs)
+    (λ c. search needs)
+    (λ c. search needs)
+    (λ c. search needs)
+    (λ c. search needs)
     returns
-    mul-a-3
-    mul-a-4
-    add-a-2
-    add-e-2
-    sub-result-2
-    part-result-start-2
+    (λ c. search needs)
+    (λ c. search needs)
+    (λ c. search needs)
+    (λ c. search needs)
+    (λ c. search needs)
+    (λ c. search needs)
     part-result-end-2
     returns-2)

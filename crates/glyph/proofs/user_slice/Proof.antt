@@ -7,12 +7,9 @@ use borrow.Author.Needs.{needs}
 use Rattle.glyph.proofs.user_slice.Statement.{statement}
 use Rattle.glyph.proofs.user_slice.Tie as tie
 
-cast-t4 : tie.Need-cast-t4
-cast-t4 c = search needs
-
 returns : tie.Need-returns
 unfolding userSlice
 returns c = (refl, omega arith)
 
 pub user-slice-spec : {M : Type 1} → statement M
-user-slice-spec = tie.close (tie.spec cast-t4 returns)
+user-slice-spec = tie.close (tie.spec (λ c. search needs) returns)

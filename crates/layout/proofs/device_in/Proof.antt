@@ -7,18 +7,6 @@ use Rattle.facts.proofs.Parts.{getD-part}
 use Rattle.layout.proofs.device_in.Statement.{statement}
 use Rattle.layout.proofs.device_in.Tie as tie
 
-bus-of-requires : tie.Need-bus-of-requires
-bus-of-requires c κs = search needs
-
-registers-of-requires : tie.Need-registers-of-requires
-registers-of-requires c κs = search needs
-
-frame-of-requires : tie.Need-frame-of-requires
-frame-of-requires c κs = search needs
-
-shared-slice-read-t6 : tie.Need-shared-slice-read-t6
-shared-slice-read-t6 c = search needs
-
 returns : tie.Need-returns
 returns c =
     let k = c .before .before in
@@ -27,4 +15,4 @@ returns c =
 pub device-in-spec : {M : Type 1} → statement M
 device-in-spec =
     tie.close
-    (tie.spec bus-of-requires registers-of-requires frame-of-requires shared-slice-read-t6 returns)
+    (tie.spec (λ c κs. search needs) (λ c κs. search needs) (λ c κs. search needs) (λ c. search needs) returns)

@@ -6,15 +6,6 @@ use Rattle.layout.specs.Layout.{packed}
 use Rattle.layout.proofs.pack.Statement.{statement}
 use Rattle.layout.proofs.pack.Tie as tie
 
-enum-known-strip : tie.Need-enum-known-strip
-enum-known-strip c = search needs
-
-enum-known-strip-2 : tie.Need-enum-known-strip-2
-enum-known-strip-2 c = search needs
-
-kind-of-requires : tie.Need-kind-of-requires
-kind-of-requires c κs = search needs
-
 returns : tie.Need-returns
 returns c = sym (ap packed (c .before .strip .given .1))
 
@@ -23,4 +14,4 @@ returns-2 c = rw (c .kind-of .ensures) (sym (ap packed (c .before .before .strip
 
 pub pack-spec : {M : Type 1} → statement M
 pack-spec =
-    tie.close (tie.spec enum-known-strip enum-known-strip-2 kind-of-requires returns returns-2)
+    tie.close (tie.spec (λ c. search needs) (λ c. search needs) (λ c κs. search needs) returns returns-2)

@@ -9,12 +9,6 @@ use Rattle.layout.specs.Layout.{registersIn}
 use Rattle.layout.proofs.registers_in.Statement.{statement}
 use Rattle.layout.proofs.registers_in.Tie as tie
 
-slice-aggregate-copy : tie.Need-slice-aggregate-copy
-slice-aggregate-copy c = search needs
-
-copy-requires : tie.Need-copy-requires
-copy-requires c κs = search needs
-
 returns : tie.Need-returns
 returns c =
     let a = c .before .before .before .before in
@@ -22,4 +16,4 @@ returns c =
     ap registersIn (c .before .copy2 .ensures .1 ∙ rw (take-length src, a .pre) (append-nil src))
 
 pub registers-in-spec : {M : Type 1} → statement M
-registers-in-spec = tie.close (tie.spec slice-aggregate-copy copy-requires returns)
+registers-in-spec = tie.close (tie.spec (λ c. search needs) (λ c κs. search needs) returns)

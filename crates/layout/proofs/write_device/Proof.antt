@@ -11,18 +11,6 @@ use Rattle.layout.proofs.Laws.{whole-put}
 use Rattle.layout.proofs.write_device.Statement.{statement}
 use Rattle.layout.proofs.write_device.Tie as tie
 
-write-bus-requires : tie.Need-write-bus-requires
-write-bus-requires c κs = search needs
-
-write-registers-requires : tie.Need-write-registers-requires
-write-registers-requires c κs = search needs
-
-write-start-requires : tie.Need-write-start-requires
-write-start-requires c κs = search needs
-
-same-length : tie.Need-same-length
-same-length c = search needs
-
 returns : tie.Need-returns
 returns c =
     let s = c .before .before in
@@ -38,4 +26,4 @@ returns c =
 pub write-device-spec : {M : Type 1} → statement M
 write-device-spec =
     tie.close
-    (tie.spec write-bus-requires write-registers-requires write-start-requires same-length returns)
+    (tie.spec (λ c κs. search needs) (λ c κs. search needs) (λ c κs. search needs) (λ c. search needs) returns)

@@ -9,21 +9,6 @@ use Rattle.layout.specs.Layout.{frameAt, put, frameWith}
 use Rattle.layout.proofs.write_frame.Statement.{statement}
 use Rattle.layout.proofs.write_frame.Tie as tie
 
-pack-requires : tie.Need-pack-requires
-pack-requires c κs = search needs
-
-frame-bytes-requires : tie.Need-frame-bytes-requires
-frame-bytes-requires c κs = search needs
-
-slice-aggregate-put : tie.Need-slice-aggregate-put
-slice-aggregate-put c = search needs
-
-put-requires : tie.Need-put-requires
-put-requires c κs = search needs
-
-same-length : tie.Need-same-length
-same-length c = search needs
-
 returns : tie.Need-returns
 returns c =
     let k = c .before .before .before .before .before in
@@ -35,9 +20,9 @@ pub write-frame-spec : {M : Type 1} → statement M
 write-frame-spec =
     tie.close
     (tie.spec
-    pack-requires
-    frame-bytes-requires
-    slice-aggregate-put
-    put-requires
-    same-length
+    (λ c κs. search needs)
+    (λ c κs. search needs)
+    (λ c. search needs)
+    (λ c κs. search needs)
+    (λ c. search needs)
     returns)

@@ -5,17 +5,8 @@ use borrow.Author.Needs.{needs}
 use Rattle.layout.proofs.write_start.Statement.{statement}
 use Rattle.layout.proofs.write_start.Tie as tie
 
-slice-write-device : tie.Need-slice-write-device
-slice-write-device c = search needs
-
-write-frame-requires : tie.Need-write-frame-requires
-write-frame-requires c κs = search needs
-
 same-length : tie.Need-same-length
 same-length c = simp (c .before .device .given, length-set)
 
-returns : tie.Need-returns
-returns c = search needs
-
 pub write-start-spec : {M : Type 1} → statement M
-write-start-spec = tie.close (tie.spec slice-write-device write-frame-requires same-length returns)
+write-start-spec = tie.close (tie.spec (λ c. search needs) (λ c κs. search needs) same-length (λ c. search needs))

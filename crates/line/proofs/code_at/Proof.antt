@@ -6,18 +6,6 @@ use borrow.Author.Needs.{needs}
 use Rattle.line.proofs.code_at.Statement.{statement}
 use Rattle.line.proofs.code_at.Tie as tie
 
-shared-slice-read-low : tie.Need-shared-slice-read-low
-shared-slice-read-low c = search needs
-
-add-lookup : tie.Need-add-lookup
-add-lookup c = search needs
-
-shared-slice-read-lookup : tie.Need-shared-slice-read-lookup
-shared-slice-read-lookup c = search needs
-
-lookup-requires : tie.Need-lookup-requires
-lookup-requires c κs = search needs
-
 returns : tie.Need-returns
 returns c =
     let w = c .before .lookup in
@@ -30,9 +18,6 @@ add-t15 c =
     let a = c .before .before .before .before .before .before .before .before .before .args in
     word-fits (now (a .ram)) (now (a .font)) (a .at) (a .pen) (w .result) (w .ensures)
 
-character-requires : tie.Need-character-requires
-character-requires c κs = search needs
-
 returns-2 : tie.Need-returns-2
 returns-2 c =
     let w = c .before .before .before .lookup in
@@ -44,11 +29,11 @@ pub code-at-spec : {M : Type 1} → statement M
 code-at-spec =
     tie.close
     (tie.spec
-    shared-slice-read-low
-    add-lookup
-    shared-slice-read-lookup
-    lookup-requires
+    (λ c. search needs)
+    (λ c. search needs)
+    (λ c. search needs)
+    (λ c κs. search needs)
     returns
     add-t15
-    character-requires
+    (λ c κs. search needs)
     returns-2)

@@ -9,12 +9,6 @@ use borrow.Author.Needs.{needs}
 use Rattle.line.proofs.draw.Statement.{statement}
 use Rattle.line.proofs.draw.Tie as tie
 
-settings-requires : tie.Need-settings-requires
-settings-requires c κs = search needs
-
-next-line-requires : tie.Need-next-line-requires
-next-line-requires c κs = search needs
-
 draw-strip-requires : tie.Need-draw-strip-requires
 unfolding walked
 draw-strip-requires c κs =
@@ -23,16 +17,10 @@ draw-strip-requires c κs =
     let e = c .before .before .before .settings .ensures in
     (p .0, (rw (c .before .before .next-line .ensures, e) (walked-line _ _ _), (rw e (ld-bound r), rw e (fbk-bound r), rw e (p .1))))
 
-narrow-requires : tie.Need-narrow-requires
-narrow-requires c κs = search needs
-
 add-t15 : tie.Need-add-t15
 add-t15 c =
     let d = c .before .before .before .before in
     omega (arith, c .before .narrow .ensures, line-cells _ _ _ _ _ _ _ _ _ _ (d .before .before .before .before .settings .ensures) (d .before .before .before .next-line .ensures) (d .draw-strip .ensures))
-
-same-length : tie.Need-same-length
-same-length c = search needs
 
 returns : tie.Need-returns
 returns c =
@@ -45,4 +33,4 @@ returns c =
 pub draw-spec : {M : Type 1} → statement M
 draw-spec =
     tie.close
-    (tie.spec settings-requires next-line-requires draw-strip-requires narrow-requires add-t15 same-length returns)
+    (tie.spec (λ c κs. search needs) (λ c κs. search needs) draw-strip-requires (λ c κs. search needs) add-t15 (λ c. search needs) returns)

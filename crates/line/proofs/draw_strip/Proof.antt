@@ -8,38 +8,8 @@ use borrow.Author.Needs.{needs}
 use Rattle.line.proofs.draw_strip.Statement.{statement}
 use Rattle.line.proofs.draw_strip.Tie as tie
 
-width-requires : tie.Need-width-requires
-width-requires c κs = search needs
-
-cast-w : tie.Need-cast-w
-cast-w c = search needs
-
-mul-plain : tie.Need-mul-plain
-mul-plain c = search needs
-
-fill-line-requires : tie.Need-fill-line-requires
-fill-line-requires c κs = search needs
-
-same-length : tie.Need-same-length
-same-length c = search needs
-
 returns : tie.Need-returns
 returns c = strip-off _ _ _ _ _ _ _ _ (c .before .before .before .before .before .before .before .width .ensures) (not-true _ (c .before .before .before .before .if1 .taken)) (c .before .before .fill-line .ensures)
-
-enum-told : tie.Need-enum-told
-enum-told c = search needs
-
-fill-line-requires-2 : tie.Need-fill-line-requires-2
-fill-line-requires-2 c κs = search needs
-
-enum-known-strip : tie.Need-enum-known-strip
-enum-known-strip c = search needs
-
-fill-line-requires-3 : tie.Need-fill-line-requires-3
-fill-line-requires-3 c κs = search needs
-
-same-length-2 : tie.Need-same-length-2
-same-length-2 c = search needs
 
 returns-2 : tie.Need-returns-2
 returns-2 c =
@@ -51,15 +21,6 @@ returns-2 c =
 slice-requires : tie.Need-slice-requires
 slice-requires c κs = on-line _ (c .before .before .strip .given .1) (c .before .before .before .before .before .before .before .before .before .before .before .pre .1 .0)
 
-hidden-requires : tie.Need-hidden-requires
-hidden-requires c κs = search needs
-
-first-pixel-requires : tie.Need-first-pixel-requires
-first-pixel-requires c κs = search needs
-
-cast-first : tie.Need-cast-first
-cast-first c = search needs
-
 draw-characters-requires : tie.Need-draw-characters-requires
 draw-characters-requires c κs =
     let p = c .before .before .before .before .before .before .before .before .before .before .before .before .before .before .before .pre in (
@@ -67,17 +28,11 @@ draw-characters-requires c κs =
       (p .0, slice-most _ _ _ _ (c .before .before .before .slice .ensures) (on-line _ (c .before .before .before .before .before .before .strip .given .1) (p .1 .0))),
     )
 
-same-length-3 : tie.Need-same-length-3
-same-length-3 c = search needs
-
 returns-3 : tie.Need-returns-3
 returns-3 c =
     let v = c .before .before .before .before .enum-told .given in
     on-strip _ _ _ _ _ _ _ _ (v .1)
     (strip-plain _ _ _ _ _ _ _ _ (c .before .before .before .before .before .before .before .before .before .width .ensures) (not-false _ (c .before .before .before .before .before .before .if1 .left)) (spacing-none _) (c .before .before .fill-line2 .ensures))
-
-same-length-4 : tie.Need-same-length-4
-same-length-4 c = search needs
 
 returns-4 : tie.Need-returns-4
 returns-4 c =
@@ -91,24 +46,24 @@ pub draw-strip-spec : {M : Type 1} → statement M
 draw-strip-spec =
     tie.close
     (tie.spec
-    width-requires
-    cast-w
-    mul-plain
-    fill-line-requires
-    same-length
+    (λ c κs. search needs)
+    (λ c. search needs)
+    (λ c. search needs)
+    (λ c κs. search needs)
+    (λ c. search needs)
     returns
-    enum-told
-    fill-line-requires-2
-    enum-known-strip
-    fill-line-requires-3
-    same-length-2
+    (λ c. search needs)
+    (λ c κs. search needs)
+    (λ c. search needs)
+    (λ c κs. search needs)
+    (λ c. search needs)
     returns-2
     slice-requires
-    hidden-requires
-    first-pixel-requires
-    cast-first
+    (λ c κs. search needs)
+    (λ c κs. search needs)
+    (λ c. search needs)
     draw-characters-requires
-    same-length-3
+    (λ c. search needs)
     returns-3
-    same-length-4
+    (λ c. search needs)
     returns-4)

@@ -10,17 +10,8 @@ use borrow.Author.Needs.{needs}
 use Rattle.line.proofs.fill_line.Statement.{statement}
 use Rattle.line.proofs.fill_line.Tie as tie
 
-slice-relend-prefix-fill : tie.Need-slice-relend-prefix-fill
-slice-relend-prefix-fill c = search needs
-
 slice-aggregate-fill : tie.Need-slice-aggregate-fill
 slice-aggregate-fill c = sym (length-take-le _ _ (c .before .before .pre))
-
-fill-requires : tie.Need-fill-requires
-fill-requires c κs = search needs
-
-same-length : tie.Need-same-length
-same-length c = search needs
 
 returns : tie.Need-returns
 returns c =
@@ -31,4 +22,4 @@ returns c =
 pub fill-line-spec : {M : Type 1} → statement M
 fill-line-spec =
     tie.close
-    (tie.spec slice-relend-prefix-fill slice-aggregate-fill fill-requires same-length returns)
+    (tie.spec (λ c. search needs) slice-aggregate-fill (λ c κs. search needs) (λ c. search needs) returns)

@@ -6,15 +6,6 @@ use borrow.Author.Needs.{needs}
 use Rattle.osd.proofs.ignore.Statement.{statement}
 use Rattle.osd.proofs.ignore.Tie as tie
 
-state-number-requires : tie.Need-state-number-requires
-state-number-requires c κs = search needs
-
-slice-write-device : tie.Need-slice-write-device
-slice-write-device c = search needs
-
-same-length : tie.Need-same-length
-same-length c = search needs
-
 returns : tie.Need-returns
 returns c = rw (sym (c .before .state-number .ensures), eq-eqb _ _ (c .if1 .taken))
 
@@ -23,4 +14,4 @@ returns-2 c = rw (sym (c .before .state-number .ensures), ne-eqb _ _ (c .if1 .le
 
 pub ignore-spec : {M : Type 1} → statement M
 ignore-spec =
-    tie.close (tie.spec state-number-requires slice-write-device same-length returns returns-2)
+    tie.close (tie.spec (λ c κs. search needs) (λ c. search needs) (λ c. search needs) returns returns-2)

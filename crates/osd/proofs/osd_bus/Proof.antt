@@ -18,23 +18,8 @@ returns c = bus-not-record _ _ _ _ (c .if1 .taken)
 returns-2 : tie.Need-returns-2
 returns-2 c = bus-not-kind _ _ _ _ (c .if2 .taken)
 
-refuse-requires : tie.Need-refuse-requires
-refuse-requires c κs = search needs
-
 returns-3 : tie.Need-returns-3
 returns-3 c = bus-refused _ _ _ _ (c .before .before .before .if1 .left) (c .before .before .if2 .left) _ (c .before .if3 .taken) (c .refuse .ensures)
-
-slice-read-state : tie.Need-slice-read-state
-slice-read-state c = search needs
-
-read-next-requires : tie.Need-read-next-requires
-read-next-requires c κs = search needs
-
-same-length : tie.Need-same-length
-same-length c = search needs
-
-same-length-2 : tie.Need-same-length-2
-same-length-2 c = search needs
 
 returns-4 : tie.Need-returns-4
 returns-4 c =
@@ -45,9 +30,6 @@ returns-4 c =
     bus-heard _ _ _ b (l .before .before .if1 .left) (l .before .if2 .left) Fetch _
     (l .if3 .left) (ap (λ (n : ℕ). eventOf n b) (sym (t .if4 .taken))) (k .read-next .ensures)
 
-refuse-requires-2 : tie.Need-refuse-requires-2
-refuse-requires-2 c κs = search needs
-
 returns-5 : tie.Need-returns-5
 returns-5 c =
     let t = c .before .before in
@@ -55,15 +37,6 @@ returns-5 c =
     let b = (l .before .before .before .before .before .args .byte) in
     bus-heard _ _ _ b (l .before .before .if1 .left) (l .before .if2 .left) Fetch _
     (l .if3 .left) (ap (λ (n : ℕ). eventOf n b) (sym (t .if4 .taken))) (not-fetched _ _ _ (c .before .if5 .left) (c .refuse2 .ensures))
-
-write-next-requires : tie.Need-write-next-requires
-write-next-requires c κs = search needs
-
-same-length-3 : tie.Need-same-length-3
-same-length-3 c = search needs
-
-same-length-4 : tie.Need-same-length-4
-same-length-4 c = search needs
 
 returns-6 : tie.Need-returns-6
 returns-6 c =
@@ -74,15 +47,6 @@ returns-6 c =
     bus-heard _ _ _ b (l .before .before .if1 .left) (l .before .if2 .left) (Byte b) _
     (l .if3 .left) (ap (λ (n : ℕ). eventOf n b) (sym (t .if6 .taken))) (k .write-next .ensures)
 
-bus-of-requires : tie.Need-bus-of-requires
-bus-of-requires c κs = search needs
-
-of-kind-requires : tie.Need-of-kind-requires
-of-kind-requires c κs = search needs
-
-take-requires : tie.Need-take-requires
-take-requires c κs = search needs
-
 apply-requires : tie.Need-apply-requires
 apply-requires c κs =
     let b = c .before .before .before .before in (
@@ -90,12 +54,6 @@ apply-requires c κs =
       b .before .before .before .before .before .if3 .left,
       subst (λ (s : Step). InSpace (s .effect)) (sym (c .take .ensures)) (step-in-space (b .bus-of .result) (c .before .of-kind .result)),
     )
-
-same-length-5 : tie.Need-same-length-5
-same-length-5 c = search needs
-
-same-length-6 : tie.Need-same-length-6
-same-length-6 c = search needs
 
 returns-7 : tie.Need-returns-7
 returns-7 c =
@@ -111,23 +69,23 @@ osd-bus-spec =
     (tie.spec
     returns
     returns-2
-    refuse-requires
+    (λ c κs. search needs)
     returns-3
-    slice-read-state
-    read-next-requires
-    same-length
-    same-length-2
+    (λ c. search needs)
+    (λ c κs. search needs)
+    (λ c. search needs)
+    (λ c. search needs)
     returns-4
-    refuse-requires-2
+    (λ c κs. search needs)
     returns-5
-    write-next-requires
-    same-length-3
-    same-length-4
+    (λ c κs. search needs)
+    (λ c. search needs)
+    (λ c. search needs)
     returns-6
-    bus-of-requires
-    of-kind-requires
-    take-requires
+    (λ c κs. search needs)
+    (λ c κs. search needs)
+    (λ c κs. search needs)
     apply-requires
-    same-length-5
-    same-length-6
+    (λ c. search needs)
+    (λ c. search needs)
     returns-7)

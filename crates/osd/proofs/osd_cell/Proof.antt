@@ -15,24 +15,6 @@ use Rattle.osd.proofs.osd_cell.Tie as tie
 returns : tie.Need-returns
 returns c = cell-not _ _ _ (c .if1 .taken)
 
-device-in-requires : tie.Need-device-in-requires
-device-in-requires c κs = search needs
-
-ask-requires : tie.Need-ask-requires
-ask-requires c κs = search needs
-
-refusal-requires : tie.Need-refusal-requires
-refusal-requires c κs = search needs
-
-value-requires : tie.Need-value-requires
-value-requires c κs = search needs
-
-cast-answer : tie.Need-cast-answer
-cast-answer c = search needs
-
-answer-requires : tie.Need-answer-requires
-answer-requires c κs = search needs
-
 returns-2 : tie.Need-returns-2
 returns-2 c =
     let k = c .before .before .before in
@@ -46,10 +28,10 @@ osd-cell-spec =
     tie.close
     (tie.spec
     returns
-    device-in-requires
-    ask-requires
-    refusal-requires
-    value-requires
-    cast-answer
-    answer-requires
+    (λ c κs. search needs)
+    (λ c κs. search needs)
+    (λ c κs. search needs)
+    (λ c κs. search needs)
+    (λ c. search needs)
+    (λ c κs. search needs)
     returns-2)

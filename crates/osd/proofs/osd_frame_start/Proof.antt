@@ -9,36 +9,12 @@ use Rattle.osd.proofs.osd_frame_start.Tie as tie
 returns : tie.Need-returns
 returns c = start-not _ _ (c .if1 .taken)
 
-device-in-requires : tie.Need-device-in-requires
-device-in-requires c κs = search needs
-
-start-frame-requires : tie.Need-start-frame-requires
-start-frame-requires c κs = search needs
-
-enum-told : tie.Need-enum-told
-enum-told c = search needs
-
-write-start-requires : tie.Need-write-start-requires
-write-start-requires c κs = search needs
-
-enum-known-answer : tie.Need-enum-known-answer
-enum-known-answer c = search needs
-
-refuse-requires : tie.Need-refuse-requires
-refuse-requires c κs = search needs
-
-same-length : tie.Need-same-length
-same-length c = search needs
-
 returns-2 : tie.Need-returns-2
 returns-2 c =
     let k = c .before .before in
     let f = k .before .before .before .before .before .before in
     start-done _ _ _ (f .start-frame .result) (f .before .before .before .if1 .left) (f .before .device-in .ensures) (f .start-frame .ensures) _ (k .before .before .before .before .enum-told .given .1)
     (k .write-start .ensures)
-
-same-length-2 : tie.Need-same-length-2
-same-length-2 c = search needs
 
 returns-3 : tie.Need-returns-3
 returns-3 c =
@@ -50,13 +26,13 @@ osd-frame-start-spec =
     tie.close
     (tie.spec
     returns
-    device-in-requires
-    start-frame-requires
-    enum-told
-    write-start-requires
-    enum-known-answer
-    refuse-requires
-    same-length
+    (λ c κs. search needs)
+    (λ c κs. search needs)
+    (λ c. search needs)
+    (λ c κs. search needs)
+    (λ c. search needs)
+    (λ c κs. search needs)
+    (λ c. search needs)
     returns-2
-    same-length-2
+    (λ c. search needs)
     returns-3)

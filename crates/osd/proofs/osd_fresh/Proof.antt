@@ -11,15 +11,6 @@ use Rattle.osd.proofs.osd_fresh.Tie as tie
 returns : tie.Need-returns
 returns c = fresh-not _ (c .if1 .taken)
 
-fresh-requires : tie.Need-fresh-requires
-fresh-requires c κs = search needs
-
-write-device-requires : tie.Need-write-device-requires
-write-device-requires c κs = search needs
-
-same-length : tie.Need-same-length
-same-length c = search needs
-
 returns-2 : tie.Need-returns-2
 returns-2 c =
     let k = c .before .before in
@@ -27,4 +18,4 @@ returns-2 c =
 
 pub osd-fresh-spec : {M : Type 1} → statement M
 osd-fresh-spec =
-    tie.close (tie.spec returns fresh-requires write-device-requires same-length returns-2)
+    tie.close (tie.spec returns (λ c κs. search needs) (λ c κs. search needs) (λ c. search needs) returns-2)

@@ -9,29 +9,8 @@ use Rattle.bus.specs.Bus.{ramWith}
 use Rattle.osd.proofs.store.Statement.{statement}
 use Rattle.osd.proofs.store.Tie as tie
 
-slice-write-ram : tie.Need-slice-write-ram
-slice-write-ram c = search needs
-
-same-length : tie.Need-same-length
-same-length c = search needs
-
 returns : tie.Need-returns
 returns c = (rw (lt-leb 0x3FF0 (c .before .args .address) (omega arith)), unfold ramWith in rw (lt-ltb _ _ (c .if1 .taken)))
-
-cast-i : tie.Need-cast-i
-cast-i c = search needs
-
-array-read-device : tie.Need-array-read-device
-array-read-device c = search needs
-
-add-device : tie.Need-add-device
-add-device c = search needs
-
-slice-write-device : tie.Need-slice-write-device
-slice-write-device c = search needs
-
-same-length-2 : tie.Need-same-length-2
-same-length-2 c = search needs
 
 returns-2 : tie.Need-returns-2
 returns-2 c =
@@ -46,13 +25,13 @@ pub store-spec : {M : Type 1} → statement M
 store-spec =
     tie.close
     (tie.spec
-    slice-write-ram
-    same-length
+    (λ c. search needs)
+    (λ c. search needs)
     returns
-    cast-i
-    array-read-device
-    add-device
-    slice-write-device
-    same-length-2
+    (λ c. search needs)
+    (λ c. search needs)
+    (λ c. search needs)
+    (λ c. search needs)
+    (λ c. search needs)
     returns-2
     returns-3)

@@ -5,24 +5,6 @@ use Rattle.osd.proofs.Calls.{written-next}
 use Rattle.osd.proofs.write_next.Statement.{statement}
 use Rattle.osd.proofs.write_next.Tie as tie
 
-counter-of-requires : tie.Need-counter-of-requires
-counter-of-requires c κs = search needs
-
-add-t6 : tie.Need-add-t6
-add-t6 c = search needs
-
-write-bus-requires : tie.Need-write-bus-requires
-write-bus-requires c κs = search needs
-
-store-requires : tie.Need-store-requires
-store-requires c κs = search needs
-
-same-length : tie.Need-same-length
-same-length c = search needs
-
-same-length-2 : tie.Need-same-length-2
-same-length-2 c = search needs
-
 returns : tie.Need-returns
 returns c =
     let t = c .before .before .before .before in
@@ -36,10 +18,10 @@ pub write-next-spec : {M : Type 1} → statement M
 write-next-spec =
     tie.close
     (tie.spec
-    counter-of-requires
-    add-t6
-    write-bus-requires
-    store-requires
-    same-length
-    same-length-2
+    (λ c κs. search needs)
+    (λ c. search needs)
+    (λ c κs. search needs)
+    (λ c κs. search needs)
+    (λ c. search needs)
+    (λ c. search needs)
     returns)

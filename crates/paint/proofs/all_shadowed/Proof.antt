@@ -5,24 +5,6 @@ use borrow.Author.Needs.{needs}
 use Rattle.paint.proofs.all_shadowed.Statement.{statement}
 use Rattle.paint.proofs.all_shadowed.Tie as tie
 
-cast-four-shadowed : tie.Need-cast-four-shadowed
-cast-four-shadowed c = search needs
-
-four-shadowed-requires : tie.Need-four-shadowed-requires
-four-shadowed-requires c κs = search needs
-
-cast-four-shadowed-2 : tie.Need-cast-four-shadowed-2
-cast-four-shadowed-2 c = search needs
-
-four-shadowed-requires-2 : tie.Need-four-shadowed-requires-2
-four-shadowed-requires-2 c κs = search needs
-
-cast-four-shadowed-3 : tie.Need-cast-four-shadowed-3
-cast-four-shadowed-3 c = search needs
-
-four-shadowed-requires-3 : tie.Need-four-shadowed-requires-3
-four-shadowed-requires-3 c κs = search needs
-
 returns : tie.Need-returns
 unfolding inFours
 returns c =
@@ -32,10 +14,10 @@ pub all-shadowed-spec : {M : Type 1} → statement M
 all-shadowed-spec =
     tie.close
     (tie.spec
-    cast-four-shadowed
-    four-shadowed-requires
-    cast-four-shadowed-2
-    four-shadowed-requires-2
-    cast-four-shadowed-3
-    four-shadowed-requires-3
+    (λ c. search needs)
+    (λ c κs. search needs)
+    (λ c. search needs)
+    (λ c κs. search needs)
+    (λ c. search needs)
+    (λ c κs. search needs)
     returns)

@@ -9,12 +9,6 @@ use borrow.Author.Needs.{needs}
 use Rattle.paint.proofs.character.Statement.{statement}
 use Rattle.paint.proofs.character.Tie as tie
 
-paint-of-requires : tie.Need-paint-of-requires
-paint-of-requires c κs = search needs
-
-casts-requires : tie.Need-casts-requires
-casts-requires c κs = search needs
-
 all-solid-requires : tie.Need-all-solid-requires
 all-solid-requires c κs =
     let s = c .before .before .before .before .before in
@@ -53,8 +47,8 @@ pub character-spec : {M : Type 1} → statement M
 character-spec =
     tie.close
     (tie.spec
-    paint-of-requires
-    casts-requires
+    (λ c κs. search needs)
+    (λ c κs. search needs)
     all-solid-requires
     returns
     all-shadowed-requires

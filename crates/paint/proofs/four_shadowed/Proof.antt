@@ -11,17 +11,8 @@ use borrow.Author.Needs.{needs}
 use Rattle.paint.proofs.four_shadowed.Statement.{statement}
 use Rattle.paint.proofs.four_shadowed.Tie as tie
 
-mul-result : tie.Need-mul-result
-mul-result c = search needs
-
 shared-slice-read-result : tie.Need-shared-slice-read-result
 shared-slice-read-result c = let s = c .before in omega (arith, masks-fit (now (s .args .table)) (s .pre .0), s .pre .1)
-
-add-result : tie.Need-add-result
-add-result c = search needs
-
-mul-result-2 : tie.Need-mul-result-2
-mul-result-2 c = search needs
 
 shared-slice-read-result-2 : tie.Need-shared-slice-read-result-2
 shared-slice-read-result-2 c =
@@ -38,9 +29,9 @@ pub four-shadowed-spec : {M : Type 1} → statement M
 four-shadowed-spec =
     tie.close
     (tie.spec
-    mul-result
+    (λ c. search needs)
     shared-slice-read-result
-    add-result
-    mul-result-2
+    (λ c. search needs)
+    (λ c. search needs)
     shared-slice-read-result-2
     returns)

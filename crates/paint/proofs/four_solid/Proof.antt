@@ -11,9 +11,6 @@ use borrow.Author.Needs.{needs}
 use Rattle.paint.proofs.four_solid.Statement.{statement}
 use Rattle.paint.proofs.four_solid.Tie as tie
 
-mul-result : tie.Need-mul-result
-mul-result c = search needs
-
 shared-slice-read-result : tie.Need-shared-slice-read-result
 shared-slice-read-result c = let s = c .before in omega (arith, masks-fit (now (s .args .table)) (s .pre .0), s .pre .1)
 
@@ -24,4 +21,4 @@ returns c =
     ap (λ (m : ℕ). bitXor (s .args .paint .back) (bitAnd m (s .args .paint .fore))) (facing-at (now (s .args .table)) (s .pre .0) (s .args .i) (s .pre .1))
 
 pub four-solid-spec : {M : Type 1} → statement M
-four-solid-spec = tie.close (tie.spec mul-result shared-slice-read-result returns)
+four-solid-spec = tie.close (tie.spec (λ c. search needs) shared-slice-read-result returns)

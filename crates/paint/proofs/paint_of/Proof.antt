@@ -11,37 +11,13 @@ use borrow.Author.Needs.{needs}
 use Rattle.paint.proofs.paint_of.Statement.{statement}
 use Rattle.paint.proofs.paint_of.Tie as tie
 
-cast-back : tie.Need-cast-back
-cast-back c = search needs
-
-add-back : tie.Need-add-back
-add-back c = search needs
-
-mul-back : tie.Need-mul-back
-mul-back c = search needs
-
 shared-slice-read-back : tie.Need-shared-slice-read-back
 shared-slice-read-back c =
     let s = c .before in omega (arith, ap length (s .pre), table-length (s .args .plain) (s .args .hidden))
 
-cast-high : tie.Need-cast-high
-cast-high c = search needs
-
-add-t8 : tie.Need-add-t8
-add-t8 c = search needs
-
-mul-t9 : tie.Need-mul-t9
-mul-t9 c = search needs
-
 shared-slice-read-t12 : tie.Need-shared-slice-read-t12
 shared-slice-read-t12 c =
     let s = c .before .before in omega (arith, ap length (s .pre), table-length (s .args .plain) (s .args .hidden))
-
-add-t10 : tie.Need-add-t10
-add-t10 c = search needs
-
-mul-t16 : tie.Need-mul-t16
-mul-t16 c = search needs
 
 shared-slice-read-t18 : tie.Need-shared-slice-read-t18
 shared-slice-read-t18 c =
@@ -62,15 +38,15 @@ pub paint-of-spec : {M : Type 1} → statement M
 paint-of-spec =
     tie.close
     (tie.spec
-    cast-back
-    add-back
-    mul-back
+    (λ c. search needs)
+    (λ c. search needs)
+    (λ c. search needs)
     shared-slice-read-back
-    cast-high
-    add-t8
-    mul-t9
+    (λ c. search needs)
+    (λ c. search needs)
+    (λ c. search needs)
     shared-slice-read-t12
-    add-t10
-    mul-t16
+    (λ c. search needs)
+    (λ c. search needs)
     shared-slice-read-t18
     returns)

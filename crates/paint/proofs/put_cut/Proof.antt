@@ -8,21 +8,6 @@ use borrow.Author.Needs.{needs}
 use Rattle.paint.proofs.put_cut.Statement.{statement}
 use Rattle.paint.proofs.put_cut.Tie as tie
 
-slice-aggregate-put-twelve : tie.Need-slice-aggregate-put-twelve
-slice-aggregate-put-twelve c = search needs
-
-put-twelve-requires : tie.Need-put-twelve-requires
-put-twelve-requires c κs = search needs
-
-slice-aggregate-copy-cut : tie.Need-slice-aggregate-copy-cut
-slice-aggregate-copy-cut c = search needs
-
-copy-cut-requires : tie.Need-copy-cut-requires
-copy-cut-requires c κs = search needs
-
-same-length : tie.Need-same-length
-same-length c = search needs
-
 returns : tie.Need-returns
 returns c =
     c .before .before .copy-cut .ensures ∙ ap (take (length (now (c .before .before .before .before .before .before .before .before .before .args .out)))) (c .before .before .before .before .before .before .put-twelve .ensures)
@@ -31,9 +16,9 @@ pub put-cut-spec : {M : Type 1} → statement M
 put-cut-spec =
     tie.close
     (tie.spec
-    slice-aggregate-put-twelve
-    put-twelve-requires
-    slice-aggregate-copy-cut
-    copy-cut-requires
-    same-length
+    (λ c. search needs)
+    (λ c κs. search needs)
+    (λ c. search needs)
+    (λ c κs. search needs)
+    (λ c. search needs)
     returns)

@@ -5,19 +5,10 @@ use borrow.Author.Needs.{needs}
 use Rattle.paint.proofs.row_table.Statement.{statement}
 use Rattle.paint.proofs.row_table.Tie as tie
 
-four-of-requires : tie.Need-four-of-requires
-four-of-requires c κs = search needs
-
-bits-kept-requires : tie.Need-bits-kept-requires
-bits-kept-requires c κs = search needs
-
-bits-kept-requires-2 : tie.Need-bits-kept-requires-2
-bits-kept-requires-2 c κs = search needs
-
 returns : tie.Need-returns
 unfolding tabulate facing casting fores backs shows maskTable rowTable
 returns c = rw (c .before .before .four-of .ensures, c .before .bits-kept .ensures, c .bits-kept2 .ensures)
 
 pub row-table-spec : {M : Type 1} → statement M
 row-table-spec =
-    tie.close (tie.spec four-of-requires bits-kept-requires bits-kept-requires-2 returns)
+    tie.close (tie.spec (λ c κs. search needs) (λ c κs. search needs) (λ c κs. search needs) returns)

@@ -9,15 +9,9 @@ use borrow.Author.Needs.{needs}
 use Rattle.preview.proofs.checked.Statement.{statement}
 use Rattle.preview.proofs.checked.Tie as tie
 
-not-shown-requires : tie.Need-not-shown-requires
-not-shown-requires c κs = search needs
-
 returns : tie.Need-returns
 unfolding shown
 returns c = (rw (lt-ltb _ _ (c .before .if1 .taken), c .not-shown .ensures), omega (arith, ap (λ (s : Size). s .width) (c .not-shown .ensures)))
-
-not-shown-requires-2 : tie.Need-not-shown-requires-2
-not-shown-requires-2 c κs = search needs
 
 returns-2 : tie.Need-returns-2
 unfolding shown
@@ -29,4 +23,4 @@ returns-3 c = (rw (le-ltb _ _ (c .before .if1 .left), le-ltb _ _ (c .if2 .left))
 
 pub checked-spec : {M : Type 1} → statement M
 checked-spec =
-    tie.close (tie.spec not-shown-requires returns not-shown-requires-2 returns-2 returns-3)
+    tie.close (tie.spec (λ c κs. search needs) returns (λ c κs. search needs) returns-2 returns-3)

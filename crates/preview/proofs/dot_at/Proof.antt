@@ -6,9 +6,6 @@ use borrow.Author.Needs.{needs}
 use Rattle.preview.proofs.dot_at.Statement.{statement}
 use Rattle.preview.proofs.dot_at.Tie as tie
 
-brightness-at-requires : tie.Need-brightness-at-requires
-brightness-at-requires c κs = search needs
-
 returns : tie.Need-returns
 unfolding dot
 returns c = (rw (← c .before .brightness-at .ensures, lt-ltb _ _ (c .if1 .taken)), search needs)
@@ -18,4 +15,4 @@ unfolding dot
 returns-2 c = (rw (← c .before .brightness-at .ensures, le-ltb _ _ (c .if1 .left)), search needs)
 
 pub dot-at-spec : {M : Type 1} → statement M
-dot-at-spec = tie.close (tie.spec brightness-at-requires returns returns-2)
+dot-at-spec = tie.close (tie.spec (λ c κs. search needs) returns returns-2)

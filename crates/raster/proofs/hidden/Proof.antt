@@ -6,9 +6,6 @@ use borrow.Author.Needs.{needs}
 use Rattle.raster.proofs.hidden.Statement.{statement}
 use Rattle.raster.proofs.hidden.Tie as tie
 
-returns : tie.Need-returns
-returns c = search needs
-
 returns-2 : tie.Need-returns-2
 returns-2 c = rw (c .match .keys2)
 
@@ -19,4 +16,4 @@ returns-4 : tie.Need-returns-4
 returns-4 c = sym (hidden-rest (c .before .args .fl) (c .before .args .frame) (c .match .rest .0 .0 .1) (c .match .rest .0 .1) (c .match .rest .1))
 
 pub hidden-spec : {M : Type 1} → statement M
-hidden-spec = tie.close (tie.spec returns returns-2 returns-3 returns-4)
+hidden-spec = tie.close (tie.spec (λ c. search needs) returns-2 returns-3 returns-4)

@@ -7,21 +7,12 @@ use borrow.Author.Needs.{needs}
 use Rattle.report.proofs.begin.Statement.{statement}
 use Rattle.report.proofs.begin.Tie as tie
 
-fresh-requires : tie.Need-fresh-requires
-fresh-requires c κs = search needs
-
 returns : tie.Need-returns
 unfolding benchStart
 returns c = rw (ne-eqb _ _ (c .before .if1 .taken), c .fresh .ensures)
 
-shared-slice-read-lines : tie.Need-shared-slice-read-lines
-shared-slice-read-lines c = search needs
-
 cast-lines : tie.Need-cast-lines
 cast-lines c = omega (arith, c .shared-slice-known2 .given 5648, c .shared-slice-known2 .given 5649)
-
-shared-slice-read-lines-2 : tie.Need-shared-slice-read-lines-2
-shared-slice-read-lines-2 c = search needs
 
 cast-lines-2 : tie.Need-cast-lines-2
 cast-lines-2 c = omega (arith, c .shared-slice-known3 .given 5648, c .shared-slice-known3 .given 5649)
@@ -32,12 +23,6 @@ mul-lines c = omega (arith, c .shared-slice-known3 .given 5648, c .shared-slice-
 add-lines : tie.Need-add-lines
 add-lines c = omega (arith, c .shared-slice-known3 .given 5648, c .shared-slice-known3 .given 5649)
 
-device-of-requires : tie.Need-device-of-requires
-device-of-requires c κs = search needs
-
-start-frame-requires : tie.Need-start-frame-requires
-start-frame-requires c κs = search needs
-
 returns-2 : tie.Need-returns-2
 unfolding benchStart
 returns-2 c = rw (eq-eqb _ _ (c .before .before .before .before .if1 .left), ← c .before .device-of .ensures) (c .start-frame .ensures)
@@ -46,14 +31,14 @@ pub begin-spec : {M : Type 1} → statement M
 begin-spec =
     tie.close
     (tie.spec
-    fresh-requires
+    (λ c κs. search needs)
     returns
-    shared-slice-read-lines
+    (λ c. search needs)
     cast-lines
-    shared-slice-read-lines-2
+    (λ c. search needs)
     cast-lines-2
     mul-lines
     add-lines
-    device-of-requires
-    start-frame-requires
+    (λ c κs. search needs)
+    (λ c κs. search needs)
     returns-2)

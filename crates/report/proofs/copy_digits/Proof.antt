@@ -25,21 +25,6 @@ loop-holds c =
     let out = now (c .args .out) in
     (search needs, search needs, ap (λ (l : List ℕ). digits (length out) (c .args .number) ++ l) (drop-length out) ∙ append-nil _)
 
-sub-i : tie.Need-sub-i Inv-loop μ-loop
-sub-i c = search needs
-
-cast-out : tie.Need-cast-out Inv-loop μ-loop
-cast-out c = search needs
-
-add-out : tie.Need-add-out Inv-loop μ-loop
-add-out c = search needs
-
-slice-write-out : tie.Need-slice-write-out Inv-loop μ-loop
-slice-write-out c = search needs
-
-loop-less : tie.Need-loop-less Inv-loop μ-loop
-loop-less c = search needs
-
 loop-again : tie.Need-loop-again Inv-loop μ-loop
 loop-again c =
     let l = c .before .loop in (
@@ -47,9 +32,6 @@ loop-again c =
       length-set (l .out) _ _ ∙ l .inv .1,
       digits-more _ (l .out) (l .i) (l .rest) _ (omega arith) (omega arith) refl (l .inv .2),
     )
-
-same-length : tie.Need-same-length Inv-loop μ-loop
-same-length c = search needs
 
 returns : tie.Need-returns Inv-loop μ-loop
 returns c = digits-whole _ _ (c .before .loop .i) (c .before .loop .rest) (omega arith) (c .before .loop .inv .2)
@@ -61,11 +43,11 @@ copy-digits-spec =
     Inv-loop
     μ-loop
     loop-holds
-    sub-i
-    cast-out
-    add-out
-    slice-write-out
-    loop-less
+    (λ c. search needs)
+    (λ c. search needs)
+    (λ c. search needs)
+    (λ c. search needs)
+    (λ c. search needs)
     loop-again
-    same-length
+    (λ c. search needs)
     returns)

@@ -8,12 +8,6 @@ use borrow.Author.Needs.{needs}
 use Rattle.report.proofs.device_of.Statement.{statement}
 use Rattle.report.proofs.device_of.Tie as tie
 
-fresh-requires : tie.Need-fresh-requires
-fresh-requires c κs = search needs
-
-part-requires : tie.Need-part-requires
-part-requires c κs = search needs
-
 load-requires : tie.Need-load-requires
 load-requires c κs = ap length (c .part .ensures) ∙ simp (length-take, length-drop) (omega arith)
 
@@ -22,4 +16,4 @@ unfolding benchDevice
 returns c = rw (c .before .before .before .before .fresh .ensures, c .before .load .ensures, c .before .before .part .ensures)
 
 pub device-of-spec : {M : Type 1} → statement M
-device-of-spec = tie.close (tie.spec fresh-requires part-requires load-requires returns)
+device-of-spec = tie.close (tie.spec (λ c κs. search needs) (λ c κs. search needs) load-requires returns)

@@ -8,14 +8,8 @@ use borrow.Author.Needs.{needs}
 use Rattle.report.proofs.heading.Statement.{statement}
 use Rattle.report.proofs.heading.Tie as tie
 
-places-requires : tie.Need-places-requires
-places-requires c κs = search needs
-
 add-if1 : tie.Need-add-if1
 add-if1 c = omega (arith, c .places .ensures, places-few (c .before .before .args .lines))
-
-places-requires-2 : tie.Need-places-requires-2
-places-requires-2 c κs = search needs
 
 add-if1-2 : tie.Need-add-if1-2
 add-if1-2 c =
@@ -28,18 +22,6 @@ returns c =
     too-short (headingText (a .lines) (a .width)) (now (a .out))
     (omega (arith, c .if1 .taken, c .before .places2 .ensures, c .before .before .places .ensures, heading-long (a .lines) (a .width)))
 
-slice-aggregate-put-word : tie.Need-slice-aggregate-put-word
-slice-aggregate-put-word c = search needs
-
-put-word-requires : tie.Need-put-word-requires
-put-word-requires c κs = search needs
-
-put-number-requires : tie.Need-put-number-requires
-put-number-requires c κs = search needs
-
-slice-aggregate-put-word-2 : tie.Need-slice-aggregate-put-word-2
-slice-aggregate-put-word-2 c = search needs
-
 put-word-requires-2 : tie.Need-put-word-requires-2
 put-word-requires-2 c κs =
     let a = c .before .before .before .before .before .before .before .before .before .before .before .before .before .before .before .args in
@@ -50,16 +32,10 @@ put-number-requires-2 c κs =
     let a = c .before .before .before .before .before .before .before .before .before .before .before .before .before .before .before .before .before .before .before .args in
     omega (arith, c .before .before .before .put-word2 .ensures .next, c .before .before .before .before .before .before .before .before .put-number .ensures .next, c .before .before .before .before .before .before .before .before .before .before .before .before .put-word .ensures .next, decimal-length (a .lines), c .before .before .before .before .before .before .before .before .before .before .before .before .before .before .before .before .places2 .ensures, c .before .before .before .before .before .before .before .before .before .before .before .before .before .before .before .before .before .places .ensures, c .before .before .before .before .before .before .before .before .before .before .before .before .before .before .before .if1 .left)
 
-slice-aggregate-put-word-3 : tie.Need-slice-aggregate-put-word-3
-slice-aggregate-put-word-3 c = search needs
-
 put-word-requires-3 : tie.Need-put-word-requires-3
 put-word-requires-3 c κs =
     let a = c .before .before .before .before .before .before .before .before .before .before .before .before .before .before .before .before .before .before .before .before .before .before .before .before .args in
     omega (arith, c .before .before .before .before .put-number2 .ensures .next, c .before .before .before .before .before .before .before .before .put-word2 .ensures .next, c .before .before .before .before .before .before .before .before .before .before .before .before .before .put-number .ensures .next, c .before .before .before .before .before .before .before .before .before .before .before .before .before .before .before .before .before .put-word .ensures .next, decimal-length (a .lines), decimal-length (a .width), c .before .before .before .before .before .before .before .before .before .before .before .before .before .before .before .before .before .before .before .before .before .places2 .ensures, c .before .before .before .before .before .before .before .before .before .before .before .before .before .before .before .before .before .before .before .before .before .before .places .ensures, c .before .before .before .before .before .before .before .before .before .before .before .before .before .before .before .before .before .before .before .before .if1 .left)
-
-same-length : tie.Need-same-length
-same-length c = search needs
 
 returns-2 : tie.Need-returns-2
 returns-2 c =
@@ -76,18 +52,18 @@ pub heading-spec : {M : Type 1} → statement M
 heading-spec =
     tie.close
     (tie.spec
-    places-requires
+    (λ c κs. search needs)
     add-if1
-    places-requires-2
+    (λ c κs. search needs)
     add-if1-2
     returns
-    slice-aggregate-put-word
-    put-word-requires
-    put-number-requires
-    slice-aggregate-put-word-2
+    (λ c. search needs)
+    (λ c κs. search needs)
+    (λ c κs. search needs)
+    (λ c. search needs)
     put-word-requires-2
     put-number-requires-2
-    slice-aggregate-put-word-3
+    (λ c. search needs)
     put-word-requires-3
-    same-length
+    (λ c. search needs)
     returns-2)

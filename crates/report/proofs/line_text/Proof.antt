@@ -15,12 +15,6 @@ returns c =
     let a = c .before .before .before .args in
     too-short (lineText (now (a .pixels)) (a .cells)) (now (a .out)) (omega (arith, c .if1 .taken, line-long (now (a .pixels)) (a .cells)))
 
-sub-if2 : tie.Need-sub-if2
-sub-if2 c = search needs
-
-places-requires : tie.Need-places-requires
-places-requires c κs = search needs
-
 add-if2 : tie.Need-add-if2
 add-if2 c = omega (arith, c .places .ensures, places-few (c .before .before .before .before .args .cells))
 
@@ -29,12 +23,6 @@ returns-2 c =
     let a = c .before .before .before .before .before .args in
     too-short (lineText (now (a .pixels)) (a .cells)) (now (a .out))
     (omega (arith, c .if2 .taken, c .before .places .ensures, c .before .before .if1 .left, line-long (now (a .pixels)) (a .cells)))
-
-put-pixels-requires : tie.Need-put-pixels-requires
-put-pixels-requires c κs = search needs
-
-slice-aggregate-put-word : tie.Need-slice-aggregate-put-word
-slice-aggregate-put-word c = search needs
 
 put-word-requires : tie.Need-put-word-requires
 put-word-requires c κs =
@@ -46,16 +34,10 @@ put-number-requires c κs =
     let a = c .before .before .before .before .before .before .before .before .before .before .before .before .before .before .before .args in
     omega (arith, c .before .before .before .put-word .ensures .next, c .before .before .before .before .before .before .before .before .put-pixels .ensures .next, length-map (now (a .pixels)) hexDigit, c .before .before .before .before .before .before .before .before .before .before .before .places .ensures, c .before .before .before .before .before .before .before .before .before .before .if2 .left, c .before .before .before .before .before .before .before .before .before .before .before .before .if1 .left)
 
-slice-aggregate-put-word-2 : tie.Need-slice-aggregate-put-word-2
-slice-aggregate-put-word-2 c = search needs
-
 put-word-requires-2 : tie.Need-put-word-requires-2
 put-word-requires-2 c κs =
     let a = c .before .before .before .before .before .before .before .before .before .before .before .before .before .before .before .before .before .before .before .before .args in
     omega (arith, c .before .before .before .before .put-number .ensures .next, c .before .before .before .before .before .before .before .before .put-word .ensures .next, c .before .before .before .before .before .before .before .before .before .before .before .before .before .put-pixels .ensures .next, length-map (now (a .pixels)) hexDigit, decimal-length (a .cells), c .before .before .before .before .before .before .before .before .before .before .before .before .before .before .before .before .places .ensures, c .before .before .before .before .before .before .before .before .before .before .before .before .before .before .before .if2 .left, c .before .before .before .before .before .before .before .before .before .before .before .before .before .before .before .before .before .if1 .left)
-
-same-length : tie.Need-same-length
-same-length c = search needs
 
 returns-3 : tie.Need-returns-3
 returns-3 c =
@@ -72,15 +54,15 @@ line-text-spec =
     tie.close
     (tie.spec
     returns
-    sub-if2
-    places-requires
+    (λ c. search needs)
+    (λ c κs. search needs)
     add-if2
     returns-2
-    put-pixels-requires
-    slice-aggregate-put-word
+    (λ c κs. search needs)
+    (λ c. search needs)
     put-word-requires
     put-number-requires
-    slice-aggregate-put-word-2
+    (λ c. search needs)
     put-word-requires-2
-    same-length
+    (λ c. search needs)
     returns-3)

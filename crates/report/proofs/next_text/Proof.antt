@@ -14,23 +14,11 @@ use borrow.Author.Needs.{needs}
 use Rattle.report.proofs.next_text.Statement.{statement}
 use Rattle.report.proofs.next_text.Tie as tie
 
-width-of-requires : tie.Need-width-of-requires
-width-of-requires c κs = search needs
-
-cast-width : tie.Need-cast-width
-cast-width c = search needs
-
 array-borrow-prefix-line : tie.Need-array-borrow-prefix-line
 array-borrow-prefix-line c = omega (arith, c .width-of .ensures, width-most (c .before .before .before .before .args .device))
 
 slice-aggregate-draw-text : tie.Need-slice-aggregate-draw-text
 slice-aggregate-draw-text c = sym (length-take-le _ _ (array-borrow-prefix-line (c .before)))
-
-draw-text-requires : tie.Need-draw-text-requires
-draw-text-requires c κs = search needs
-
-same-length : tie.Need-same-length
-same-length c = search needs
 
 returns : tie.Need-returns
 returns c =
@@ -44,10 +32,10 @@ pub next-text-spec : {M : Type 1} → statement M
 next-text-spec =
     tie.close
     (tie.spec
-    width-of-requires
-    cast-width
+    (λ c κs. search needs)
+    (λ c. search needs)
     array-borrow-prefix-line
     slice-aggregate-draw-text
-    draw-text-requires
-    same-length
+    (λ c κs. search needs)
+    (λ c. search needs)
     returns)

@@ -7,27 +7,6 @@ use borrow.Author.Needs.{needs}
 use Rattle.report.proofs.put_number.Statement.{statement}
 use Rattle.report.proofs.put_number.Tie as tie
 
-places-requires : tie.Need-places-requires
-places-requires c κs = search needs
-
-add-e : tie.Need-add-e
-add-e c = search needs
-
-sub-copy-digits : tie.Need-sub-copy-digits
-sub-copy-digits c = search needs
-
-part-copy-digits-start : tie.Need-part-copy-digits-start
-part-copy-digits-start c = search needs
-
-part-copy-digits-end : tie.Need-part-copy-digits-end
-part-copy-digits-end c = search needs
-
-copy-digits-requires : tie.Need-copy-digits-requires
-copy-digits-requires c κs = search needs
-
-same-length : tie.Need-same-length
-same-length c = search needs
-
 returns : tie.Need-returns
 returns c =
     let a = c .before .before .before .before .before .before .args in
@@ -38,11 +17,11 @@ pub put-number-spec : {M : Type 1} → statement M
 put-number-spec =
     tie.close
     (tie.spec
-    places-requires
-    add-e
-    sub-copy-digits
-    part-copy-digits-start
-    part-copy-digits-end
-    copy-digits-requires
-    same-length
+    (λ c κs. search needs)
+    (λ c. search needs)
+    (λ c. search needs)
+    (λ c. search needs)
+    (λ c. search needs)
+    (λ c κs. search needs)
+    (λ c. search needs)
     returns)

@@ -8,9 +8,6 @@ use borrow.Author.Needs.{needs}
 use Rattle.report.proofs.refusal_text.Statement.{statement}
 use Rattle.report.proofs.refusal_text.Tie as tie
 
-places-requires : tie.Need-places-requires
-places-requires c κs = search needs
-
 add-if1 : tie.Need-add-if1
 add-if1 c = omega (arith, c .places .ensures, places-few (c .before .before .args .number))
 
@@ -19,25 +16,10 @@ returns c =
     let a = c .before .before .before .args in
     too-short (refusalText (a .number)) (now (a .out)) (omega (arith, c .if1 .taken, c .before .places .ensures, refusal-long (a .number)))
 
-slice-aggregate-put-word : tie.Need-slice-aggregate-put-word
-slice-aggregate-put-word c = search needs
-
-put-word-requires : tie.Need-put-word-requires
-put-word-requires c κs = search needs
-
-put-number-requires : tie.Need-put-number-requires
-put-number-requires c κs = search needs
-
-slice-aggregate-put-word-2 : tie.Need-slice-aggregate-put-word-2
-slice-aggregate-put-word-2 c = search needs
-
 put-word-requires-2 : tie.Need-put-word-requires-2
 put-word-requires-2 c κs =
     let n = c .before .before .before .before .before .before .before .before .before .before .before .before .before .before .args .number in
     omega (arith, c .before .before .before .before .put-number .ensures .next, c .before .before .before .before .before .before .before .before .put-word .ensures .next, decimal-length n, c .before .before .before .before .before .before .before .before .before .before .before .before .places .ensures)
-
-same-length : tie.Need-same-length
-same-length c = search needs
 
 returns-2 : tie.Need-returns-2
 returns-2 c =
@@ -51,13 +33,13 @@ pub refusal-text-spec : {M : Type 1} → statement M
 refusal-text-spec =
     tie.close
     (tie.spec
-    places-requires
+    (λ c κs. search needs)
     add-if1
     returns
-    slice-aggregate-put-word
-    put-word-requires
-    put-number-requires
-    slice-aggregate-put-word-2
+    (λ c. search needs)
+    (λ c κs. search needs)
+    (λ c κs. search needs)
+    (λ c. search needs)
     put-word-requires-2
-    same-length
+    (λ c. search needs)
     returns-2)

@@ -4,14 +4,8 @@ use borrow.Author.Needs.{needs}
 use Rattle.report.proofs.width_of.Statement.{statement}
 use Rattle.report.proofs.width_of.Tie as tie
 
-settings-requires : tie.Need-settings-requires
-settings-requires c κs = search needs
-
-width-requires : tie.Need-width-requires
-width-requires c κs = search needs
-
 returns : tie.Need-returns
 returns c = rw (c .width .ensures, c .before .settings .ensures)
 
 pub width-of-spec : {M : Type 1} → statement M
-width-of-spec = tie.close (tie.spec settings-requires width-requires returns)
+width-of-spec = tie.close (tie.spec (λ c κs. search needs) (λ c κs. search needs) returns)

@@ -7,17 +7,8 @@ use borrow.Author.Needs.{needs}
 use Rattle.test_pages.proofs.copy.Statement.{statement}
 use Rattle.test_pages.proofs.copy.Tie as tie
 
-first-requires : tie.Need-first-requires
-first-requires c κs = search needs
-
 copy-requires : tie.Need-copy-requires
 copy-requires c κs = omega (arith, simp length-take at (ap length (c .before .first .ensures)))
 
-same-length : tie.Need-same-length
-same-length c = search needs
-
-returns : tie.Need-returns
-returns c = search needs
-
 pub copy-spec : {M : Type 1} → statement M
-copy-spec = tie.close (tie.spec first-requires copy-requires same-length returns)
+copy-spec = tie.close (tie.spec (λ c κs. search needs) copy-requires (λ c. search needs) (λ c. search needs))

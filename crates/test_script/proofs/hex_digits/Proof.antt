@@ -26,21 +26,6 @@ loop-holds c =
     let out = now (a .out) in
     (search needs, search needs, ap (λ (l : List ℕ). digitsOf (length out) (a .number) ++ l) (drop-length out) ∙ append-nil _)
 
-sub-i : tie.Need-sub-i Inv-loop μ-loop
-sub-i c = search needs
-
-cast-digit : tie.Need-cast-digit Inv-loop μ-loop
-cast-digit c = search needs
-
-digit-requires : tie.Need-digit-requires Inv-loop μ-loop
-digit-requires c κs = search needs
-
-slice-write-out : tie.Need-slice-write-out Inv-loop μ-loop
-slice-write-out c = search needs
-
-loop-less : tie.Need-loop-less Inv-loop μ-loop
-loop-less c = search needs
-
 loop-again : tie.Need-loop-again Inv-loop μ-loop
 loop-again c =
     let l = c .before .before .loop in (
@@ -48,9 +33,6 @@ loop-again c =
       length-set (l .out) _ _ ∙ l .inv .1,
       digits-more _ (l .out) (l .i) (l .rest) _ (omega arith) (omega arith) (c .digit .ensures) (l .inv .2),
     )
-
-same-length : tie.Need-same-length Inv-loop μ-loop
-same-length c = search needs
 
 returns : tie.Need-returns Inv-loop μ-loop
 returns c = let l = c .before .loop in digits-whole _ _ (l .i) (l .rest) (omega arith) (l .inv .2)
@@ -62,11 +44,11 @@ hex-digits-spec =
     Inv-loop
     μ-loop
     loop-holds
-    sub-i
-    cast-digit
-    digit-requires
-    slice-write-out
-    loop-less
+    (λ c. search needs)
+    (λ c. search needs)
+    (λ c κs. search needs)
+    (λ c. search needs)
+    (λ c. search needs)
     loop-again
-    same-length
+    (λ c. search needs)
     returns)

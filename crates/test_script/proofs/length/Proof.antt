@@ -5,12 +5,6 @@ use borrow.Author.Needs.{needs}
 use Rattle.test_script.proofs.length.Statement.{statement}
 use Rattle.test_script.proofs.length.Tie as tie
 
-sub-result : tie.Need-sub-result
-sub-result c = search needs
-
-add-result : tie.Need-add-result
-add-result c = search needs
-
 returns : tie.Need-returns
 returns c = rw (c .match .keys1)
 
@@ -24,4 +18,4 @@ returns-4 : tie.Need-returns-4
 returns-4 c = rw (ne-eqb _ _ (c .match .rest .0 .0 .1), ne-eqb _ _ (c .match .rest .0 .1), ne-eqb _ _ (c .match .rest .1))
 
 pub length-spec : {M : Type 1} → statement M
-length-spec = tie.close (tie.spec sub-result add-result returns returns-2 returns-3 returns-4)
+length-spec = tie.close (tie.spec (λ c. search needs) (λ c. search needs) returns returns-2 returns-3 returns-4)

@@ -27,24 +27,6 @@ loop-holds c =
     let all : length (now (a .bytes)) - 0 ≡ length (now (a .bytes)) = omega arith in
     (search needs, search needs, ap (λ (n : ℕ). noiseOf n (a .seed) (a .by) (a .unit)) all)
 
-mix-requires : tie.Need-mix-requires Inv-loop μ-loop
-mix-requires c κs = search needs
-
-div-bytes : tie.Need-div-bytes Inv-loop μ-loop
-div-bytes c = search needs
-
-cast-bytes : tie.Need-cast-bytes Inv-loop μ-loop
-cast-bytes c = search needs
-
-slice-write-bytes : tie.Need-slice-write-bytes Inv-loop μ-loop
-slice-write-bytes c = search needs
-
-add-i : tie.Need-add-i Inv-loop μ-loop
-add-i c = search needs
-
-loop-less : tie.Need-loop-less Inv-loop μ-loop
-loop-less c = search needs
-
 loop-again : tie.Need-loop-again Inv-loop μ-loop
 loop-again c =
     let l = c .before .before .loop in (
@@ -52,9 +34,6 @@ loop-again c =
       length-set (l .bytes) _ _ ∙ l .inv .1,
       noise-more _ _ _ _ (l .bytes) (l .i) (l .now) _ _ (omega arith) (l .inv .1) (c .mix .ensures) refl (l .inv .2),
     )
-
-same-length : tie.Need-same-length Inv-loop μ-loop
-same-length c = search needs
 
 returns : tie.Need-returns Inv-loop μ-loop
 returns c =
@@ -68,12 +47,12 @@ noise-spec =
     Inv-loop
     μ-loop
     loop-holds
-    mix-requires
-    div-bytes
-    cast-bytes
-    slice-write-bytes
-    add-i
-    loop-less
+    (λ c κs. search needs)
+    (λ c. search needs)
+    (λ c. search needs)
+    (λ c. search needs)
+    (λ c. search needs)
+    (λ c. search needs)
     loop-again
-    same-length
+    (λ c. search needs)
     returns)

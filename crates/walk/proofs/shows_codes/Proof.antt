@@ -5,17 +5,11 @@ use borrow.Author.Needs.{needs}
 use Rattle.walk.proofs.shows_codes.Statement.{statement}
 use Rattle.walk.proofs.shows_codes.Tie as tie
 
-is-spacing-requires : tie.Need-is-spacing-requires
-is-spacing-requires c κs = search needs
-
 returns : tie.Need-returns
 returns c = rw (sym (c .before .is-spacing .ensures) ∙ c .if1 .taken)
-
-enabled-requires : tie.Need-enabled-requires
-enabled-requires c κs = search needs
 
 returns-2 : tie.Need-returns-2
 returns-2 c = rw (sym (c .before .before .is-spacing .ensures) ∙ c .before .if1 .left) (c .enabled .ensures)
 
 pub shows-codes-spec : {M : Type 1} → statement M
-shows-codes-spec = tie.close (tie.spec is-spacing-requires returns enabled-requires returns-2)
+shows-codes-spec = tie.close (tie.spec (λ c κs. search needs) returns (λ c κs. search needs) returns-2)

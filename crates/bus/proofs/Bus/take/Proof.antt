@@ -6,30 +6,6 @@ use borrow.Author.Needs.{needs}
 use Rattle.bus.proofs.Bus.take.Statement.{statement}
 use Rattle.bus.proofs.Bus.take.Tie as tie
 
-enum-told : tie.Need-enum-told
-enum-told c = search needs
-
-goes-to-requires : tie.Need-goes-to-requires
-goes-to-requires c κs = search needs
-
-enum-known-event : tie.Need-enum-known-event
-enum-known-event c = search needs
-
-take-byte-requires : tie.Need-take-byte-requires
-take-byte-requires c κs = search needs
-
-enum-told-2 : tie.Need-enum-told-2
-enum-told-2 c = search needs
-
-take-fetch-requires : tie.Need-take-fetch-requires
-take-fetch-requires c κs = search needs
-
-enum-told-3 : tie.Need-enum-told-3
-enum-told-3 c = search needs
-
-goes-to-requires-2 : tie.Need-goes-to-requires-2
-goes-to-requires-2 c κs = search needs
-
 returns : tie.Need-returns
 unfolding step
 returns c = c .goes-to .ensures ∙ ap (step _) (sym (c .before .enum-told .given .1))
@@ -50,14 +26,14 @@ pub take-spec : {M : Type 1} → statement M
 take-spec =
     tie.close
     (tie.spec
-    enum-told
-    goes-to-requires
-    enum-known-event
-    take-byte-requires
-    enum-told-2
-    take-fetch-requires
-    enum-told-3
-    goes-to-requires-2
+    (λ c. search needs)
+    (λ c κs. search needs)
+    (λ c. search needs)
+    (λ c κs. search needs)
+    (λ c. search needs)
+    (λ c κs. search needs)
+    (λ c. search needs)
+    (λ c κs. search needs)
     returns
     returns-2
     returns-3

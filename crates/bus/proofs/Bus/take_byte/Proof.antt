@@ -6,54 +6,6 @@ use borrow.Author.Needs.{needs}
 use Rattle.bus.proofs.Bus.take_byte.Statement.{statement}
 use Rattle.bus.proofs.Bus.take_byte.Tie as tie
 
-enum-told : tie.Need-enum-told
-enum-told c = search needs
-
-goes-to-requires : tie.Need-goes-to-requires
-goes-to-requires c κs = search needs
-
-enum-told-2 : tie.Need-enum-told-2
-enum-told-2 c = search needs
-
-goes-to-requires-2 : tie.Need-goes-to-requires-2
-goes-to-requires-2 c κs = search needs
-
-enum-told-3 : tie.Need-enum-told-3
-enum-told-3 c = search needs
-
-take-slave-requires : tie.Need-take-slave-requires
-take-slave-requires c κs = search needs
-
-enum-told-4 : tie.Need-enum-told-4
-enum-told-4 c = search needs
-
-goes-to-requires-3 : tie.Need-goes-to-requires-3
-goes-to-requires-3 c κs = search needs
-
-enum-known-state : tie.Need-enum-known-state
-enum-known-state c = search needs
-
-cast-t12 : tie.Need-cast-t12
-cast-t12 c = search needs
-
-mul-t13 : tie.Need-mul-t13
-mul-t13 c = search needs
-
-add-t15 : tie.Need-add-t15
-add-t15 c = search needs
-
-enum-told-5 : tie.Need-enum-told-5
-enum-told-5 c = search needs
-
-steps-on-requires : tie.Need-steps-on-requires
-steps-on-requires c κs = search needs
-
-enum-told-6 : tie.Need-enum-told-6
-enum-told-6 c = search needs
-
-goes-to-requires-4 : tie.Need-goes-to-requires-4
-goes-to-requires-4 c κs = search needs
-
 returns : tie.Need-returns
 returns c = c .goes-to .ensures ∙ byte-at _ _ (c .before .enum-told .given .1)
 
@@ -79,22 +31,22 @@ pub take-byte-spec : {M : Type 1} → statement M
 take-byte-spec =
     tie.close
     (tie.spec
-    enum-told
-    goes-to-requires
-    enum-told-2
-    goes-to-requires-2
-    enum-told-3
-    take-slave-requires
-    enum-told-4
-    goes-to-requires-3
-    enum-known-state
-    cast-t12
-    mul-t13
-    add-t15
-    enum-told-5
-    steps-on-requires
-    enum-told-6
-    goes-to-requires-4
+    (λ c. search needs)
+    (λ c κs. search needs)
+    (λ c. search needs)
+    (λ c κs. search needs)
+    (λ c. search needs)
+    (λ c κs. search needs)
+    (λ c. search needs)
+    (λ c κs. search needs)
+    (λ c. search needs)
+    (λ c. search needs)
+    (λ c. search needs)
+    (λ c. search needs)
+    (λ c. search needs)
+    (λ c κs. search needs)
+    (λ c. search needs)
+    (λ c κs. search needs)
     returns
     returns-2
     returns-3

@@ -6,48 +6,6 @@ use borrow.Author.Needs.{needs}
 use Rattle.bus.proofs.Bus.take_fetch.Statement.{statement}
 use Rattle.bus.proofs.Bus.take_fetch.Tie as tie
 
-enum-told : tie.Need-enum-told
-enum-told c = search needs
-
-goes-to-requires : tie.Need-goes-to-requires
-goes-to-requires c κs = search needs
-
-enum-told-2 : tie.Need-enum-told-2
-enum-told-2 c = search needs
-
-goes-to-requires-2 : tie.Need-goes-to-requires-2
-goes-to-requires-2 c κs = search needs
-
-enum-told-3 : tie.Need-enum-told-3
-enum-told-3 c = search needs
-
-goes-to-requires-3 : tie.Need-goes-to-requires-3
-goes-to-requires-3 c κs = search needs
-
-enum-told-4 : tie.Need-enum-told-4
-enum-told-4 c = search needs
-
-goes-to-requires-4 : tie.Need-goes-to-requires-4
-goes-to-requires-4 c κs = search needs
-
-enum-told-5 : tie.Need-enum-told-5
-enum-told-5 c = search needs
-
-goes-to-requires-5 : tie.Need-goes-to-requires-5
-goes-to-requires-5 c κs = search needs
-
-enum-told-6 : tie.Need-enum-told-6
-enum-told-6 c = search needs
-
-goes-to-requires-6 : tie.Need-goes-to-requires-6
-goes-to-requires-6 c κs = search needs
-
-enum-told-7 : tie.Need-enum-told-7
-enum-told-7 c = search needs
-
-steps-on-requires : tie.Need-steps-on-requires
-steps-on-requires c κs = search needs
-
 returns : tie.Need-returns
 returns c = c .goes-to .ensures ∙ fetch-at _ (c .before .enum-told .given .1)
 
@@ -73,20 +31,20 @@ pub take-fetch-spec : {M : Type 1} → statement M
 take-fetch-spec =
     tie.close
     (tie.spec
-    enum-told
-    goes-to-requires
-    enum-told-2
-    goes-to-requires-2
-    enum-told-3
-    goes-to-requires-3
-    enum-told-4
-    goes-to-requires-4
-    enum-told-5
-    goes-to-requires-5
-    enum-told-6
-    goes-to-requires-6
-    enum-told-7
-    steps-on-requires
+    (λ c. search needs)
+    (λ c κs. search needs)
+    (λ c. search needs)
+    (λ c κs. search needs)
+    (λ c. search needs)
+    (λ c κs. search needs)
+    (λ c. search needs)
+    (λ c κs. search needs)
+    (λ c. search needs)
+    (λ c κs. search needs)
+    (λ c. search needs)
+    (λ c κs. search needs)
+    (λ c. search needs)
+    (λ c κs. search needs)
     returns
     returns-2
     returns-3

@@ -5,20 +5,11 @@ use borrow.Author.Needs.{needs}
 use Rattle.bus.proofs.Bus.take_slave.Statement.{statement}
 use Rattle.bus.proofs.Bus.take_slave.Tie as tie
 
-goes-to-requires : tie.Need-goes-to-requires
-goes-to-requires c κs = search needs
-
 returns : tie.Need-returns
 returns c = rw (eq-eqb _ _ (c .before .if1 .taken)) (c .goes-to .ensures)
 
-goes-to-requires-2 : tie.Need-goes-to-requires-2
-goes-to-requires-2 c κs = search needs
-
 returns-2 : tie.Need-returns-2
 returns-2 c = rw (ne-eqb _ _ (c .before .before .if1 .left), eq-eqb _ _ (c .before .if2 .taken)) (c .goes-to2 .ensures)
-
-goes-to-requires-3 : tie.Need-goes-to-requires-3
-goes-to-requires-3 c κs = search needs
 
 returns-3 : tie.Need-returns-3
 returns-3 c = rw (ne-eqb _ _ (c .before .before .if1 .left), ne-eqb _ _ (c .before .if2 .left)) (c .goes-to3 .ensures)
@@ -26,4 +17,4 @@ returns-3 c = rw (ne-eqb _ _ (c .before .before .if1 .left), ne-eqb _ _ (c .befo
 pub take-slave-spec : {M : Type 1} → statement M
 take-slave-spec =
     tie.close
-    (tie.spec goes-to-requires returns goes-to-requires-2 returns-2 goes-to-requires-3 returns-3)
+    (tie.spec (λ c κs. search needs) returns (λ c κs. search needs) returns-2 (λ c κs. search needs) returns-3)

@@ -6,22 +6,13 @@ use borrow.Author.Needs.{needs}
 use Rattle.demo.proofs.camera.cabin_at.Statement.{statement}
 use Rattle.demo.proofs.camera.cabin_at.Tie as tie
 
-solid-requires : tie.Need-solid-requires
-solid-requires c κs = search needs
-
 returns : tie.Need-returns
 unfolding cabin
 returns c = rw (lt-ltb _ _ (c .before .if1 .taken), c .solid .ensures)
 
-solid-requires-2 : tie.Need-solid-requires-2
-solid-requires-2 c κs = search needs
-
 returns-2 : tie.Need-returns-2
 unfolding cabin
 returns-2 c = rw (le-ltb _ _ (c .before .before .if1 .left), lt-ltb _ _ (c .before .if2 .taken), c .solid2 .ensures)
-
-solid-requires-3 : tie.Need-solid-requires-3
-solid-requires-3 c κs = search needs
 
 returns-3 : tie.Need-returns-3
 unfolding cabin
@@ -30,4 +21,4 @@ returns-3 c = rw (le-ltb _ _ (c .before .before .if1 .left), le-ltb _ _ (c .befo
 pub cabin-at-spec : {M : Type 1} → statement M
 cabin-at-spec =
     tie.close
-    (tie.spec solid-requires returns solid-requires-2 returns-2 solid-requires-3 returns-3)
+    (tie.spec (λ c κs. search needs) returns (λ c κs. search needs) returns-2 (λ c κs. search needs) returns-3)

@@ -6,28 +6,13 @@ use borrow.Author.Needs.{needs}
 use Rattle.demo.proofs.camera.front_at.Statement.{statement}
 use Rattle.demo.proofs.camera.front_at.Tie as tie
 
-add-if1 : tie.Need-add-if1
-add-if1 c = search needs
-
-solid-requires : tie.Need-solid-requires
-solid-requires c κs = search needs
-
 returns : tie.Need-returns
 unfolding front
 returns c = rw (lt-ltb _ _ (c .before .if1 .taken), c .solid .ensures)
 
-add-if2 : tie.Need-add-if2
-add-if2 c = search needs
-
-solid-requires-2 : tie.Need-solid-requires-2
-solid-requires-2 c κs = search needs
-
 returns-2 : tie.Need-returns-2
 unfolding front
 returns-2 c = rw (le-ltb _ _ (c .before .before .if1 .left), eq-eqb _ _ (c .before .if2 .taken), c .solid2 .ensures)
-
-solid-requires-3 : tie.Need-solid-requires-3
-solid-requires-3 c κs = search needs
 
 returns-3 : tie.Need-returns-3
 unfolding front
@@ -37,11 +22,11 @@ pub front-at-spec : {M : Type 1} → statement M
 front-at-spec =
     tie.close
     (tie.spec
-    add-if1
-    solid-requires
+    (λ c. search needs)
+    (λ c κs. search needs)
     returns
-    add-if2
-    solid-requires-2
+    (λ c. search needs)
+    (λ c κs. search needs)
     returns-2
-    solid-requires-3
+    (λ c κs. search needs)
     returns-3)

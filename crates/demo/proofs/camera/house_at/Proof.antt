@@ -6,22 +6,13 @@ use borrow.Author.Needs.{needs}
 use Rattle.demo.proofs.camera.house_at.Statement.{statement}
 use Rattle.demo.proofs.camera.house_at.Tie as tie
 
-wall-of-requires : tie.Need-wall-of-requires
-wall-of-requires c κs = search needs
-
 returns : tie.Need-returns
 unfolding houseAt
 returns c = rw (lt-ltb _ _ (c .before .if1 .taken), c .wall-of .ensures)
 
-wall-of-requires-2 : tie.Need-wall-of-requires-2
-wall-of-requires-2 c κs = search needs
-
 returns-2 : tie.Need-returns-2
 unfolding houseAt
 returns-2 c = rw (le-ltb _ _ (c .before .before .if1 .left), lt-ltb _ _ (c .before .if2 .taken), c .wall-of2 .ensures)
-
-pane-at-requires : tie.Need-pane-at-requires
-pane-at-requires c κs = search needs
 
 returns-3 : tie.Need-returns-3
 unfolding houseAt
@@ -30,4 +21,4 @@ returns-3 c = rw (le-ltb _ _ (c .before .before .if1 .left), le-ltb _ _ (c .befo
 pub house-at-spec : {M : Type 1} → statement M
 house-at-spec =
     tie.close
-    (tie.spec wall-of-requires returns wall-of-requires-2 returns-2 pane-at-requires returns-3)
+    (tie.spec (λ c κs. search needs) returns (λ c κs. search needs) returns-2 (λ c κs. search needs) returns-3)

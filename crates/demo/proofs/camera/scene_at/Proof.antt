@@ -6,32 +6,17 @@ use borrow.Author.Needs.{needs}
 use Rattle.demo.proofs.camera.scene_at.Statement.{statement}
 use Rattle.demo.proofs.camera.scene_at.Tie as tie
 
-sill-at-requires : tie.Need-sill-at-requires
-sill-at-requires c κs = search needs
-
 returns : tie.Need-returns
 unfolding scene
 returns c = rw (lt-ltb _ _ (c .before .if1 .taken), c .sill-at .ensures)
-
-distance-requires : tie.Need-distance-requires
-distance-requires c κs = search needs
-
-post-at-requires : tie.Need-post-at-requires
-post-at-requires c κs = search needs
 
 returns-2 : tie.Need-returns-2
 unfolding scene
 returns-2 c = rw (le-ltb _ _ (c .before .before .before .if1 .left), ← c .before .before .distance .ensures, lt-ltb _ _ (c .before .if2 .taken), c .post-at .ensures)
 
-town-at-requires : tie.Need-town-at-requires
-town-at-requires c κs = search needs
-
 returns-3 : tie.Need-returns-3
 unfolding scene
 returns-3 c = rw (le-ltb _ _ (c .before .before .before .before .if1 .left), ← c .before .before .before .distance .ensures, le-ltb _ _ (c .before .before .if2 .left), lt-ltb _ _ (c .before .if3 .taken), c .town-at .ensures)
-
-traffic-at-requires : tie.Need-traffic-at-requires
-traffic-at-requires c κs = search needs
 
 returns-4 : tie.Need-returns-4
 unfolding scene
@@ -41,12 +26,12 @@ pub scene-at-spec : {M : Type 1} → statement M
 scene-at-spec =
     tie.close
     (tie.spec
-    sill-at-requires
+    (λ c κs. search needs)
     returns
-    distance-requires
-    post-at-requires
+    (λ c κs. search needs)
+    (λ c κs. search needs)
     returns-2
-    town-at-requires
+    (λ c κs. search needs)
     returns-3
-    traffic-at-requires
+    (λ c κs. search needs)
     returns-4)

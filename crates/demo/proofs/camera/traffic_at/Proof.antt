@@ -6,27 +6,9 @@ use borrow.Author.Needs.{needs}
 use Rattle.demo.proofs.camera.traffic_at.Statement.{statement}
 use Rattle.demo.proofs.camera.traffic_at.Tie as tie
 
-distance-requires : tie.Need-distance-requires
-distance-requires c κs = search needs
-
-car-half-requires : tie.Need-car-half-requires
-car-half-requires c κs = search needs
-
-car-at-requires : tie.Need-car-at-requires
-car-at-requires c κs = search needs
-
 returns : tie.Need-returns
 unfolding traffic
 returns c = rw (← c .before .before .car-half .ensures, ← c .before .before .before .distance .ensures, lt-ltb _ _ (c .before .if1 .taken), c .car-at .ensures)
-
-distance-requires-2 : tie.Need-distance-requires-2
-distance-requires-2 c κs = search needs
-
-sub-street-at : tie.Need-sub-street-at
-sub-street-at c = search needs
-
-street-at-requires : tie.Need-street-at-requires
-street-at-requires c κs = search needs
 
 returns-2 : tie.Need-returns-2
 unfolding traffic
@@ -36,11 +18,11 @@ pub traffic-at-spec : {M : Type 1} → statement M
 traffic-at-spec =
     tie.close
     (tie.spec
-    distance-requires
-    car-half-requires
-    car-at-requires
+    (λ c κs. search needs)
+    (λ c κs. search needs)
+    (λ c κs. search needs)
     returns
-    distance-requires-2
-    sub-street-at
-    street-at-requires
+    (λ c κs. search needs)
+    (λ c. search needs)
+    (λ c κs. search needs)
     returns-2)

@@ -30,15 +30,6 @@ returns-2 : tie.Need-returns-2
 unfolding askCell
 returns-2 c = rw (eq-eqb _ _ (c .before .if1 .left), le-leb _ _ (c .if2 .taken))
 
-settings-requires : tie.Need-settings-requires
-settings-requires c κs = search needs
-
-cast-reads : tie.Need-cast-reads
-cast-reads c = search needs
-
-reads-requires : tie.Need-reads-requires
-reads-requires c κs = search needs
-
 returns-3 : tie.Need-returns-3
 unfolding askCell
 returns-3 c =
@@ -54,4 +45,4 @@ returns-4 c =
 pub ask-spec : {M : Type 1} → statement M
 ask-spec =
     tie.close
-    (tie.spec returns returns-2 settings-requires cast-reads reads-requires returns-3 returns-4)
+    (tie.spec returns returns-2 (λ c κs. search needs) (λ c. search needs) (λ c κs. search needs) returns-3 returns-4)

@@ -7,12 +7,6 @@ use borrow.Author.Needs.{needs}
 use Rattle.device.proofs.Device.hear.Statement.{statement}
 use Rattle.device.proofs.Device.hear.Tie as tie
 
-hear-requires : tie.Need-hear-requires
-hear-requires c κs = search needs
-
-same-length : tie.Need-same-length
-same-length c = search needs
-
 returns : tie.Need-returns
 unfolding hearEvent
 returns c =
@@ -26,4 +20,4 @@ returns c =
     (c .before .before .before .before .before .hear .ensures)
 
 pub hear-spec : {M : Type 1} → statement M
-hear-spec = tie.close (tie.spec hear-requires same-length returns)
+hear-spec = tie.close (tie.spec (λ c κs. search needs) (λ c. search needs) returns)

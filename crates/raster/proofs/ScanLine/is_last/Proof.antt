@@ -5,12 +5,9 @@ use borrow.Author.Needs.{needs}
 use Rattle.raster.proofs.ScanLine.is_last.Statement.{statement}
 use Rattle.raster.proofs.ScanLine.is_last.Tie as tie
 
-strip-lines-requires : tie.Need-strip-lines-requires
-strip-lines-requires c κs = search needs
-
 returns : tie.Need-returns
 unfolding isLast
 returns c = rw (c .before .strip-lines .ensures)
 
 pub is-last-spec : {M : Type 1} → statement M
-is-last-spec = tie.close (tie.spec strip-lines-requires returns)
+is-last-spec = tie.close (tie.spec (λ c κs. search needs) returns)

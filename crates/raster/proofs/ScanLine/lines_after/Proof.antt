@@ -5,15 +5,9 @@ use borrow.Author.Needs.{needs}
 use Rattle.raster.proofs.ScanLine.lines_after.Statement.{statement}
 use Rattle.raster.proofs.ScanLine.lines_after.Tie as tie
 
-strip-lines-requires : tie.Need-strip-lines-requires
-strip-lines-requires c κs = search needs
-
-rest-requires : tie.Need-rest-requires
-rest-requires c κs = search needs
-
 returns : tie.Need-returns
 unfolding linesAfter
 returns c = rw (c .rest .ensures, c .before .strip-lines .ensures)
 
 pub lines-after-spec : {M : Type 1} → statement M
-lines-after-spec = tie.close (tie.spec strip-lines-requires rest-requires returns)
+lines-after-spec = tie.close (tie.spec (λ c κs. search needs) (λ c κs. search needs) returns)

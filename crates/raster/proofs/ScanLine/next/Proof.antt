@@ -5,12 +5,9 @@ use borrow.Author.Needs.{needs}
 use Rattle.raster.proofs.ScanLine.next.Statement.{statement}
 use Rattle.raster.proofs.ScanLine.next.Tie as tie
 
-add-t2 : tie.Need-add-t2
-add-t2 c = search needs
-
 returns : tie.Need-returns
 unfolding following
 returns c = search needs
 
 pub next-spec : {M : Type 1} → statement M
-next-spec = tie.close (tie.spec add-t2 returns)
+next-spec = tie.close (tie.spec (λ c. search needs) returns)

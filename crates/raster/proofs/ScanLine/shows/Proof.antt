@@ -28,17 +28,8 @@ first-is : (c : tie.After-most)
 first-is c =
     c .most .ensures ∙ ap₂ max (c .before .unzoom .ensures) (ap (λ (x : ℕ). (x + 35) / 36) (c .before .before .before .rest .ensures))
 
-cast-from : tie.Need-cast-from
-cast-from c = search needs
-
-mul-from : tie.Need-mul-from
-mul-from c = search needs
-
 mul-from-2 : tie.Need-mul-from-2
 mul-from-2 c = omega (arith, product (c .before))
-
-rest-requires : tie.Need-rest-requires
-rest-requires c κs = search needs
 
 add-first : tie.Need-add-first
 add-first c = omega (arith, c .rest .ensures, product (c .before .before))
@@ -46,17 +37,8 @@ add-first c = omega (arith, c .rest .ensures, product (c .before .before))
 add-unzoom : tie.Need-add-unzoom
 add-unzoom c = let s = c .before .before .before in omega (arith, s .pre .0 .0, bound s)
 
-unzoom-requires : tie.Need-unzoom-requires
-unzoom-requires c κs = search needs
-
-most-requires : tie.Need-most-requires
-most-requires c κs = search needs
-
 add-unzoom-2 : tie.Need-add-unzoom-2
 add-unzoom-2 c = omega (arith, bound (c .before .before .before .before .before .before))
-
-unzoom-requires-2 : tie.Need-unzoom-requires-2
-unzoom-requires-2 c κs = search needs
 
 returns : tie.Need-returns
 returns c =
@@ -69,9 +51,6 @@ mul-result c = omega (arith, c .before .unzoom2 .ensures, last (c .before .befor
 
 add-result : tie.Need-add-result
 add-result c = omega (arith, c .before .unzoom2 .ensures, last (c .before .before .before .before .before .before .before .before))
-
-mul-result-2 : tie.Need-mul-result-2
-mul-result-2 c = search needs
 
 add-result-2 : tie.Need-add-result-2
 add-result-2 c = omega (arith, product (c .before .before .before .before .before .before .before .before))
@@ -87,19 +66,19 @@ pub shows-spec : {M : Type 1} → statement M
 shows-spec =
     tie.close
     (tie.spec
-    cast-from
-    mul-from
+    (λ c. search needs)
+    (λ c. search needs)
     mul-from-2
-    rest-requires
+    (λ c κs. search needs)
     add-first
     add-unzoom
-    unzoom-requires
-    most-requires
+    (λ c κs. search needs)
+    (λ c κs. search needs)
     add-unzoom-2
-    unzoom-requires-2
+    (λ c κs. search needs)
     returns
     mul-result
     add-result
-    mul-result-2
+    (λ c. search needs)
     add-result-2
     returns-2)

@@ -15,17 +15,11 @@ in-strip c = (
   height-pos (c .args .self) (c .args .height) (c .args .zoom) (c .pre),
 )
 
-unzoom-requires : tie.Need-unzoom-requires
-unzoom-requires c κs = search needs
-
 mul-t6 : tie.Need-mul-t6
 mul-t6 c = omega (arith, c .unzoom .ensures, in-strip (c .before) .0)
 
 add-t7 : tie.Need-add-t7
 add-t7 c = omega (arith, c .unzoom .ensures, in-strip (c .before) .0)
-
-mul-t8 : tie.Need-mul-t8
-mul-t8 c = search needs
 
 div-t9 : tie.Need-div-t9
 div-t9 c = omega (arith, in-strip (c .before) .1)
@@ -39,4 +33,4 @@ unfolding interpolated sliceNumber
 returns c = rw (c .unzoom .ensures)
 
 pub slice-spec : {M : Type 1} → statement M
-slice-spec = tie.close (tie.spec unzoom-requires mul-t6 add-t7 mul-t8 div-t9 cast-t10 returns)
+slice-spec = tie.close (tie.spec (λ c κs. search needs) mul-t6 add-t7 (λ c. search needs) div-t9 cast-t10 returns)

@@ -8,15 +8,9 @@ use borrow.Author.Needs.{needs}
 use Rattle.walk.proofs.Strip.advance.Statement.{statement}
 use Rattle.walk.proofs.Strip.advance.Tie as tie
 
-enum-known-self : tie.Need-enum-known-self
-enum-known-self c = search needs
-
 sub-t9 : tie.Need-sub-t9
 unfolding over
 sub-t9 c = left-pos _ (sym (ap over (c .before .self .given .1)) ∙ c .before .before .before .pre)
-
-enum-known-self-2 : tie.Need-enum-known-self-2
-enum-known-self-2 c = search needs
 
 next-requires : tie.Need-next-requires
 unfolding over
@@ -33,4 +27,4 @@ returns-2 c = rw (c .next .ensures) (sym (ap advanced (c .before .before .self2 
 
 pub advance-spec : {M : Type 1} → statement M
 advance-spec =
-    tie.close (tie.spec enum-known-self sub-t9 enum-known-self-2 next-requires returns returns-2)
+    tie.close (tie.spec (λ c. search needs) sub-t9 (λ c. search needs) next-requires returns returns-2)

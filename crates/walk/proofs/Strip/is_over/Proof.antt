@@ -6,15 +6,6 @@ use borrow.Author.Needs.{needs}
 use Rattle.walk.proofs.Strip.is_over.Statement.{statement}
 use Rattle.walk.proofs.Strip.is_over.Tie as tie
 
-enum-known-self : tie.Need-enum-known-self
-enum-known-self c = search needs
-
-enum-known-self-2 : tie.Need-enum-known-self-2
-enum-known-self-2 c = search needs
-
-is-last-requires : tie.Need-is-last-requires
-is-last-requires c κs = search needs
-
 returns : tie.Need-returns
 unfolding over
 returns c = sym (ap over (c .before .self .given .1))
@@ -25,4 +16,4 @@ returns-2 c = c .is-last .ensures ∙ sym (ap over (c .before .before .self2 .gi
 
 pub is-over-spec : {M : Type 1} → statement M
 is-over-spec =
-    tie.close (tie.spec enum-known-self enum-known-self-2 is-last-requires returns returns-2)
+    tie.close (tie.spec (λ c. search needs) (λ c. search needs) (λ c κs. search needs) returns returns-2)

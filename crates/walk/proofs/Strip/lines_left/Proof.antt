@@ -6,18 +6,6 @@ use borrow.Author.Needs.{needs}
 use Rattle.walk.proofs.Strip.lines_left.Statement.{statement}
 use Rattle.walk.proofs.Strip.lines_left.Tie as tie
 
-enum-known-self : tie.Need-enum-known-self
-enum-known-self c = search needs
-
-cast-result : tie.Need-cast-result
-cast-result c = search needs
-
-enum-known-self-2 : tie.Need-enum-known-self-2
-enum-known-self-2 c = search needs
-
-lines-after-requires : tie.Need-lines-after-requires
-lines-after-requires c κs = search needs
-
 returns : tie.Need-returns
 unfolding linesLeft
 returns c = sym (ap linesLeft (c .before .self .given .1))
@@ -30,9 +18,9 @@ pub lines-left-spec : {M : Type 1} → statement M
 lines-left-spec =
     tie.close
     (tie.spec
-    enum-known-self
-    cast-result
-    enum-known-self-2
-    lines-after-requires
+    (λ c. search needs)
+    (λ c. search needs)
+    (λ c. search needs)
+    (λ c κs. search needs)
     returns
     returns-2)

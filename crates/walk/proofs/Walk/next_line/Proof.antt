@@ -8,38 +8,8 @@ use borrow.Author.Needs.{needs}
 use Rattle.walk.proofs.Walk.next_line.Statement.{statement}
 use Rattle.walk.proofs.Walk.next_line.Tie as tie
 
-is-over-requires : tie.Need-is-over-requires
-is-over-requires c κs = search needs
-
-even-address-requires : tie.Need-even-address-requires
-even-address-requires c κs = search needs
-
-cast-low : tie.Need-cast-low
-cast-low c = search needs
-
-shared-slice-read-low : tie.Need-shared-slice-read-low
-shared-slice-read-low c = search needs
-
-cast-high : tie.Need-cast-high
-cast-high c = search needs
-
-add-high : tie.Need-add-high
-add-high c = search needs
-
-shared-slice-read-high : tie.Need-shared-slice-read-high
-shared-slice-read-high c = search needs
-
-of-descriptor-requires : tie.Need-of-descriptor-requires
-of-descriptor-requires c κs = search needs
-
 advance-requires : tie.Need-advance-requires
 advance-requires c κs = ap over (c .of-descriptor .ensures) ∙ stripOf-begun _ _ _
-
-add-even-address : tie.Need-add-even-address
-add-even-address c = search needs
-
-even-address-requires-2 : tie.Need-even-address-requires-2
-even-address-requires-2 c κs = search needs
 
 returns : tie.Need-returns
 returns c =
@@ -65,17 +35,17 @@ pub next-line-spec : {M : Type 1} → statement M
 next-line-spec =
     tie.close
     (tie.spec
-    is-over-requires
-    even-address-requires
-    cast-low
-    shared-slice-read-low
-    cast-high
-    add-high
-    shared-slice-read-high
-    of-descriptor-requires
+    (λ c κs. search needs)
+    (λ c κs. search needs)
+    (λ c. search needs)
+    (λ c. search needs)
+    (λ c. search needs)
+    (λ c. search needs)
+    (λ c. search needs)
+    (λ c κs. search needs)
     advance-requires
-    add-even-address
-    even-address-requires-2
+    (λ c. search needs)
+    (λ c κs. search needs)
     returns
     advance-requires-2
     returns-2)

@@ -5,12 +5,9 @@ use borrow.Author.Needs.{needs}
 use Rattle.walk.proofs.Walk.of_page.Statement.{statement}
 use Rattle.walk.proofs.Walk.of_page.Tie as tie
 
-mul-t3 : tie.Need-mul-t3
-mul-t3 c = search needs
-
 returns : tie.Need-returns
 unfolding walkFrom
 returns c = search needs
 
 pub of-page-spec : {M : Type 1} → statement M
-of-page-spec = tie.close (tie.spec mul-t3 returns)
+of-page-spec = tie.close (tie.spec (λ c. search needs) returns)
