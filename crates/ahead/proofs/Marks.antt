@@ -1,301 +1,371 @@
--- The rows that are marked and listed: each once, none left out; and how they are looked through, each as far as the next.
+-- The marked rows: binary digits that are set and found; and how the rows are looked through, each as far as the next.
 -- Assumes nothing.
-use Prim.Native.Nat.{ℕ, zero, suc, _+_, _-_, _*_, _/_, _%_, _≤_, _<_}
+use Prim.Native.Nat.{ℕ, zero, suc, _+_, _-_, _*_, _/_, _%_, _^_, _≤_, _<_}
 use mathlib.Core.Path.{_≡_, refl, sym, ap, ap₂, _∙_, subst}
-use mathlib.Core.Bool.{Bool, true, false, cond, _||_, or-comm}
-use mathlib.Core.List.{List, [], _∷_}
-use native.Mathlib.Decide.{ℕ-discrete}
-use native.Mathlib.Nat.{not-suc-le-zero, le-of-suc-le-suc}
+use mathlib.Core.Bool.{Bool, true, false, cond, _&&_, _||_, true≢false}
+use mathlib.Core.List.{List}
+use native.Mathlib.Decide.{decLt, ℕ-discrete}
+use native.Mathlib.Nat.{not-suc-le-zero, le-of-suc-le-suc, lt-of-not-le, pow-suc, mod-eq-of-lt, mod-add-mod}
 use native.Mathlib.Numerals.{add-one, sub-one}
 use native.Mathlib.Omega.{arith}
-use borrow.Author.Tests.{eq-eqb, ne-eqb, eqb-false}
+use lib.Bits.{bitOr, or-step, or-shr, or-mod, or-lt, or-zero-r, shifted-half, shifted-even}
+use lib.Arith.{lt-one}
 use lib.Dec.{T, eqb}
-use lib.ListN.{getD, set, length, replicate, length-set, length-replicate}
-use lib.Seq.{getD-set-same, getD-set-other}
-use Rattle.facts.proofs.Tests.{iff, or-cases, or-first, or-second}
+use lib.ListN.{getD, set, length-set, replicate, length-replicate, getD-replicate}
+use lib.Pow.{pow-pos, mod-pow-add, shl-exact, shr-shr}
+use lib.Seq.{getD-set-same}
+use Rattle.facts.proofs.Lists.{set-at}
+use Rattle.facts.proofs.Tests.{or-cases, or-first, or-second, and-left, and-right, iff}
 use Rattle.walk.specs.Walk.{even, next}
 use Rattle.glyph.specs.Glyph.{endsLine}
 use Rattle.glyph.specs.Cells.{userHigh}
-use Rattle.ahead.specs.Looking.{userReads, marked, Among, Kept, anyRow, Listed, partReads, anyPart}
-use Rattle.ahead.proofs.Rows.{user-same, code-even, code-of, code-next}
+use Rattle.ahead.specs.declared.Passed.{Passed}
+use Rattle.ahead.specs.Looking.{userReads, digit, isMarked, anyBelow, anyRow, Kept, Marks, ZerosOf, Lowest, NextRow, OwnCodes}
+use Rattle.ahead.proofs.Rows.{user-same, code-even, code-next}
 
-T-true : {b : Bool} → T b → b ≡ true
-T-true {b = true} t = refl
-T-true {b = false} t = absurd t
+-- ---- digits
 
--- ---- how many are marked
+or-half : (x i : ℕ) → bitOr x (1 * 2 ^ suc i) / 2 ≡ bitOr (x / 2) (1 * 2 ^ i)
+or-half x i =
+    or-shr x (1 * 2 ^ suc i) 1 ∙ ap (bitOr (x / 2)) (shifted-half 1 i)
 
-mark-most : (b : Bool) {m l : ℕ} → m ≤ l → cond b 0 1 + m ≤ suc l
-mark-most true h = omega arith
-mark-most false h = omega arith
+or-low : (x i : ℕ) → bitOr x (1 * 2 ^ suc i) % 2 ≡ x % 2
+or-low x i = or-mod x (1 * 2 ^ suc i) 1 ∙ ap (bitOr (x % 2)) (shifted-even 1 i) ∙ or-zero-r (x % 2)
 
-marked-most : (marks : List ℕ) → marked marks ≤ length marks
-unfolding marked
-marked-most [] = omega arith
-marked-most (x ∷ xs) = mark-most (eqb x 0) (marked-most xs)
+-- a digit that is set, and the others beside it
+set-digit : (i x : ℕ) → digit i (bitOr x (1 * 2 ^ i)) ≡ 1
+unfolding digit
+set-digit zero x = ap (λ (y : ℕ). y % 2) (or-step x 1) ∙ omega arith
+set-digit (suc i) x = ap (digit i) (or-half x i) ∙ set-digit i (x / 2)
 
-mark-less : (b : Bool) {m l : ℕ} → m < l → cond b 0 1 + m < suc l
-mark-less true h = omega arith
-mark-less false h = omega arith
+other-digit : (i j x : ℕ) → (i ≡ j → ⊥) → digit j (bitOr x (1 * 2 ^ i)) ≡ digit j x
+unfolding digit
+other-digit zero zero x e = absurd (e refl)
+other-digit zero (suc j) x e = ap (digit j) (or-shr x 1 1 ∙ or-zero-r (x / 2))
+other-digit (suc i) zero x e = or-low x i
+other-digit (suc i) (suc j) x e = ap (digit j) (or-half x i) ∙ other-digit i j (x / 2) (λ y. e (ap suc y))
 
-marked-less : (marks : List ℕ) (p : ℕ) → p < length marks → getD marks p 0 ≡ 0 → marked marks < length marks
-unfolding marked
-marked-less [] p h e = absurd (not-suc-le-zero h)
-marked-less (x ∷ xs) zero h e = rw (eq-eqb x 0 e) (omega (arith, marked-most xs))
-marked-less (x ∷ xs) (suc p) h e = mark-less (eqb x 0) (marked-less xs p (le-of-suc-le-suc h) e)
+digit-zero : (j : ℕ) → digit j 0 ≡ 0
+unfolding digit
+digit-zero zero = refl
+digit-zero (suc j) = digit-zero j
 
-mark-set : (marks : List ℕ) (p : ℕ) → p < length marks → getD marks p 0 ≡ 0 → marked (set marks p 1) ≡ marked marks + 1
-unfolding marked
-mark-set [] p h e = absurd (not-suc-le-zero h)
-mark-set (x ∷ xs) zero h e = rw (eq-eqb x 0 e) (omega arith)
-mark-set (x ∷ xs) (suc p) h e = ap (λ (m : ℕ). cond (eqb x 0) 0 1 + m) (mark-set xs p (le-of-suc-le-suc h) e) ∙ omega arith
+high-digit : (k x j : ℕ) → x < 2 ^ k → k ≤ j → digit j x ≡ 0
+unfolding digit
+high-digit zero x j h l = ap (digit j) (lt-one h) ∙ digit-zero j
+high-digit (suc k) x zero h l = absurd (not-suc-le-zero l)
+high-digit (suc k) x (suc j) h l = high-digit k (x / 2) j (omega (arith, pow-suc 2 k)) (le-of-suc-le-suc l)
 
-pub kept-room : (marks rows : List ℕ) (k p : ℕ) → Kept marks rows k → p < 512 → getD marks p 0 ≡ 0 → k < 512
-kept-room marks rows k p s h e = omega (arith, s .all, s .count, marked-less marks p (omega (arith, s .all)) e)
+shifted-digit : (s j x : ℕ) → digit j (x / 2 ^ s) ≡ digit (s + j) x
+unfolding digit
+shifted-digit zero j x =
+    let e : x / 1 ≡ x = omega arith in
+    let f : j ≡ 0 + j = omega arith in
+    ap₂ digit f e
+shifted-digit (suc s) j x =
+    let e : suc (s + j) ≡ suc s + j = omega arith in
+    let f : suc s ≡ 1 + s = omega arith in
+    ap (λ (k : ℕ). digit j (x / 2 ^ k)) f ∙ ap (digit j) (sym (shr-shr x 1 s)) ∙ shifted-digit s j (x / 2) ∙ ap (λ (k : ℕ). digit k x) e
 
-pub kept-most : (marks rows : List ℕ) (k : ℕ) → Kept marks rows k → k ≤ 512
-kept-most marks rows k s = omega (arith, s .all, s .count, marked-most marks)
+-- ---- the lowest set digit
 
--- ---- a row is listed
-
-any-at : (ram : List ℕ) (c n : ℕ) (rows : List ℕ) (k i : ℕ) → i < k → T (userReads ram c n (getD rows i 0)) → T (anyRow ram c n rows k)
-unfolding anyRow
-any-at ram c n rows zero i h t = absurd (not-suc-le-zero h)
-any-at ram c n rows (suc k) i h t = by (ℕ-discrete i k) (λ l. any-at ram c n rows k i l t)
+low-zeros : (h x : ℕ) → x % 2 ^ h ≡ 0 → (j : ℕ) → j < h → digit j x ≡ 0
+unfolding digit
+low-zeros zero x e j l = absurd (not-suc-le-zero l)
+low-zeros (suc h) x e j l = by j l (sym (mod-pow-add x h 1) ∙ ap (λ (k : ℕ). x % 2 ^ k) (add-one h) ∙ e) (low-zeros h (x / 2))
   where
-    by : Dec (i ≡ k) → (i < k → T (anyRow ram c n rows k)) → T (userReads ram c n (getD rows k 0) || anyRow ram c n rows k)
-    by (yes e) later = or-first (userReads ram c n (getD rows k 0)) (anyRow ram c n rows k) (subst (λ (j : ℕ). T (userReads ram c n (getD rows j 0))) e t)
-    by (no e) later = or-second (userReads ram c n (getD rows k 0)) (anyRow ram c n rows k) (later (omega arith))
+    by : (j : ℕ) → j < suc h → x / 2 % 2 ^ h * 2 + x % 2 ≡ 0 → (x / 2 % 2 ^ h ≡ 0 → (i : ℕ) → i < h → digit i (x / 2) ≡ 0) → digit j x ≡ 0
+    by zero l f ih = omega arith
+    by (suc j) l f ih = ih (omega arith) j (le-of-suc-le-suc l)
 
--- a row that is listed already adds nothing
-any-again : (ram : List ℕ) (c n : ℕ) (rows : List ℕ) (k a : ℕ) → Among rows k (a / 2 % 512) → anyRow ram c n rows k ≡ anyRow ram c n rows k || userReads ram c n a
-any-again ram c n rows k a m =
-    iff (anyRow ram c n rows k) (anyRow ram c n rows k || userReads ram c n a) (or-first (anyRow ram c n rows k) (userReads ram c n a))
-    (λ t.
-    or-cases (anyRow ram c n rows k) (userReads ram c n a) t (λ y. y)
-    (λ y. any-at ram c n rows k (m .at) (m .below) (subst (λ (b : Bool). T b) (user-same ram c n a (getD rows (m .at) 0) (sym (m .is))) y)))
+module _ (low : Passed) (h : ℕ) (small : h ≤ 16) where
+  power : 1 * 2 ^ h % 2 ^ 32 ≡ 2 ^ h
+  power = shl-exact 1 h 32 (omega arith) (omega arith) ∙ omega arith
 
-any-set : (ram : List ℕ) (c n : ℕ) (rows : List ℕ) (i a k : ℕ) → k ≤ i → anyRow ram c n (set rows i a) k ≡ anyRow ram c n rows k
-unfolding anyRow
-any-set ram c n rows i a zero h = refl
-any-set ram c n rows i a (suc k) h =
-    ap₂ (λ (x : ℕ) (y : Bool). userReads ram c n x || y) (getD-set-other rows i k a 0 (λ e. omega arith)) (any-set ram c n rows i a k (omega arith))
+  pub power-some : 0 < 1 * 2 ^ h % 2 ^ 32
+  power-some = omega (arith, power, pow-pos h)
 
-pub list-again : (marks rows : List ℕ) (k a : ℕ) → Kept marks rows k → (getD marks (a / 2 % 512) 0 ≡ 0 → ⊥) → Listed rows k a marks rows k
-list-again marks rows k a s e =
-    record { kept = s; more = λ ram c n. any-again ram c n rows k a (s .listed (a / 2 % 512) e) }
-
-module _ (marks rows : List ℕ) (k a : ℕ) (s : Kept marks rows k) (e : getD marks (a / 2 % 512) 0 ≡ 0) where
-  here : getD (set rows k a) k 0 ≡ a
-  here = getD-set-same rows k a 0 (omega (arith, s .room, kept-room marks rows k (a / 2 % 512) s (omega arith) e))
-
-  listed-more : (q : ℕ) → (getD (set marks (a / 2 % 512) 1) q 0 ≡ 0 → ⊥) → Among (set rows k a) (k + 1) q
-  listed-more q h = by (ℕ-discrete q (a / 2 % 512))
+  pub zeros-passed : low .rest % (1 * 2 ^ h % 2 ^ 32) ≡ 0 → (x : ℕ) → ZerosOf x (h + h) low
+      → ZerosOf x h (record { zeros = low .zeros + h; rest = low .rest / 2 ^ h })
+  zeros-passed e x z =
+      record {
+        zeros = λ j l. by j l (decLt j (low .zeros));
+        after = λ j.
+            let f : low .zeros + (h + j) ≡ low .zeros + h + j = omega arith in
+            shifted-digit h j (low .rest) ∙ z .after (h + j) ∙ ap (λ (k : ℕ). digit k x) f;
+        some = λ f. z .some (mod-pow-add (low .rest) h h ∙ ap₂ (λ (i k : ℕ). i * 2 ^ h + k) f none ∙ omega arith);
+      }
     where
-      by : Dec (q ≡ a / 2 % 512) → Among (set rows k a) (k + 1) q
-      by (yes y) = record { at = k; below = omega arith; is = ap (λ (x : ℕ). x / 2 % 512) here ∙ sym y }
-      by (no y) =
-          let m : Among rows k q = s .listed q (λ z. h (getD-set-other marks (a / 2 % 512) q 1 0 y ∙ z)) in
-          record {
-            at = m .at;
-            below = omega (arith, m .below);
-            is = ap (λ (x : ℕ). x / 2 % 512) (getD-set-other rows k (m .at) a 0 (λ z. omega (arith, m .below))) ∙ m .is;
-          }
+      none : low .rest % 2 ^ h ≡ 0
+      none = ap (λ (k : ℕ). low .rest % k) (sym power) ∙ e
 
-  pub list-more : Listed rows k a (set marks (a / 2 % 512) 1) (set rows k a) (k + 1)
-  unfolding anyRow
-  list-more =
+      by : (j : ℕ) → j < low .zeros + h → Dec (j < low .zeros) → digit j x ≡ 0
+      by j l (yes k) = z .zeros j k
+      by j l (no k) =
+          let f : j ≡ low .zeros + (j - low .zeros) = omega arith in
+          ap (λ (i : ℕ). digit i x) f ∙ sym (z .after (j - low .zeros)) ∙ low-zeros h (low .rest) none (j - low .zeros) (omega arith)
+
+  pub zeros-stay : (low .rest % (1 * 2 ^ h % 2 ^ 32) ≡ 0 → ⊥) → (x : ℕ) → ZerosOf x (h + h) low → ZerosOf x h low
+  zeros-stay e x z = record { zeros = z .zeros; after = z .after; some = λ f. e (ap (λ (k : ℕ). low .rest % k) power ∙ f) }
+
+pub no-zeros : (x : ℕ) → x < 2 ^ 32 → (x ≡ 0 → ⊥) → ZerosOf x 32 (record { zeros = 0; rest = x })
+no-zeros x l e =
+    record {
+      zeros = λ j h. absurd (not-suc-le-zero h);
+      after = λ j. let f : j ≡ 0 + j = omega arith in ap (λ (k : ℕ). digit k x) f;
+      some = λ f. e (sym (mod-eq-of-lt l) ∙ f);
+    }
+
+pub all-zeros : (x : ℕ) (r : Passed) → r .zeros < 32 → ZerosOf x 1 r → Lowest x (r .zeros)
+unfolding digit
+all-zeros x r l z =
+    let f : r .zeros + 0 ≡ r .zeros = omega arith in
+    let g : r .rest % 2 ≡ 1 = omega (arith, z .some) in
+    record { zeros = z .zeros; is = ap (λ (k : ℕ). digit k x) (sym f) ∙ sym (z .after 0) ∙ g; most = l }
+
+-- ---- a row is marked
+
+module _ (ram : List ℕ) (c n : ℕ) (marks : List ℕ) where
+  -- a marked row that shows the user character, from a row on
+  pub record Showing (p : ℕ) : Type 0 where
+    pub at : ℕ
+    pub from : p ≤ at
+    pub below : at < 512
+    pub marked : isMarked marks at ≡ true
+    pub reads : T (userReads ram c n (2 * at))
+
+  any-at : (k i : ℕ) → i < k → isMarked marks i ≡ true → T (userReads ram c n (2 * i)) → T (anyBelow ram c n marks k)
+  unfolding anyBelow
+  any-at zero i h m t = absurd (not-suc-le-zero h)
+  any-at (suc k) i h m t = by (ℕ-discrete i k) (λ l. any-at k i l m t)
+    where
+      by : Dec (i ≡ k) → (i < k → T (anyBelow ram c n marks k)) → T ((isMarked marks k && userReads ram c n (2 * k)) || anyBelow ram c n marks k)
+      by (yes e) later =
+          or-first (isMarked marks k && userReads ram c n (2 * k)) (anyBelow ram c n marks k)
+          (subst (λ (j : ℕ). T (isMarked marks j && userReads ram c n (2 * j))) e (rw m t))
+      by (no e) later = or-second (isMarked marks k && userReads ram c n (2 * k)) (anyBelow ram c n marks k) (later (omega arith))
+
+  any-of : (k : ℕ) → k ≤ 512 → T (anyBelow ram c n marks k) → Showing 0
+  unfolding anyBelow
+  any-of zero h t = absurd t
+  any-of (suc k) h t =
+      or-cases (isMarked marks k && userReads ram c n (2 * k)) (anyBelow ram c n marks k) t
+      (λ y.
+      record {
+        at = k;
+        from = omega arith;
+        below = omega arith;
+        marked = iff (isMarked marks k) true (λ _. tt) (λ _. and-left (isMarked marks k) (userReads ram c n (2 * k)) y);
+        reads = and-right (isMarked marks k) (userReads ram c n (2 * k)) y;
+      })
+      (any-of k (omega arith))
+
+  pub showing-of : T (anyRow ram c n marks) → Showing 0
+  showing-of = any-of 512 (omega arith)
+
+abbrev markedAt : List ℕ → ℕ → List ℕ
+markedAt marks q = set marks (q / 32) (bitOr (getD marks (q / 32) 0) (1 * 2 ^ (q % 32) % 2 ^ 32))
+
+module _ (marks : List ℕ) (q : ℕ) (h : q < 512) (k : Kept marks) where
+  bit : 1 * 2 ^ (q % 32) % 2 ^ 32 ≡ 1 * 2 ^ (q % 32)
+  bit = shl-exact 1 (q % 32) 32 (omega arith) (omega arith)
+
+  marks-it : isMarked (markedAt marks q) q ≡ true
+  unfolding isMarked
+  marks-it =
+      rw (getD-set-same marks (q / 32) (bitOr (getD marks (q / 32) 0) (1 * 2 ^ (q % 32) % 2 ^ 32)) 0 (omega (arith, k .words)), bit, set-digit)
+
+  leaves-other : (p : ℕ) → (q ≡ p → ⊥) → isMarked (markedAt marks q) p ≡ isMarked marks p
+  unfolding isMarked
+  leaves-other p e =
+      ap (λ (x : ℕ). eqb x 1)
+      (set-at (λ (k x : ℕ). k ≡ p / 32 → digit (p % 32) x ≡ digit (p % 32) (getD marks (p / 32) 0)) marks (q / 32) _ (p / 32)
+      (λ f. rw bit (other-digit (q % 32) (p % 32) (getD marks (q / 32) 0) (λ g. e (omega arith)) ∙ ap (λ (k : ℕ). digit (p % 32) (getD marks k 0)) f))
+      (λ _. refl) refl)
+
+  stays-marked : (p : ℕ) → isMarked marks p ≡ true → isMarked (markedAt marks q) p ≡ true
+  stays-marked p m = by (ℕ-discrete q p)
+    where
+      by : Dec (q ≡ p) → isMarked (markedAt marks q) p ≡ true
+      by (yes e) = rw (sym e) marks-it
+      by (no e) = leaves-other p e ∙ m
+
+  pub marks-row : (a : ℕ) → q ≡ a / 2 % 512 → Marks marks a (markedAt marks q)
+  marks-row a e =
       record {
         kept =
             record {
-              all = length-set marks (a / 2 % 512) 1 ∙ s .all;
-              room = length-set rows k a ∙ s .room;
-              count = omega (arith, s .count, mark-set marks (a / 2 % 512) (omega (arith, s .all)) e);
-              listed = listed-more;
+              words = length-set marks (q / 32) _ ∙ k .words;
+              fits = λ i h.
+                  set-at (λ (_ x : ℕ). x < 2 ^ 32) marks (q / 32) _ i
+                  (or-lt 32 (getD marks (q / 32) 0) (1 * 2 ^ (q % 32) % 2 ^ 32) (k .fits (q / 32) (omega arith)) (omega arith)) (k .fits i h);
             };
         more = λ ram c n.
-            ap (anyRow ram c n (set rows k a)) (add-one k)
-            ∙ ap₂ (λ (x : ℕ) (y : Bool). userReads ram c n x || y) here (any-set ram c n rows k a k (omega arith))
-            ∙ or-comm (userReads ram c n a) (anyRow ram c n rows k);
+            let now = anyRow ram c n (markedAt marks q) in
+            let new = userReads ram c n a in
+            let same : userReads ram c n (2 * q) ≡ new = user-same ram c n (2 * q) a (omega arith) in
+            iff now (anyRow ram c n marks || new) (λ t. let s = showing-of ram c n (markedAt marks q) t in back ram c n s (ℕ-discrete q (s .at)))
+            (λ t.
+            or-cases (anyRow ram c n marks) new t
+            (λ y. let s = showing-of ram c n marks y in any-at ram c n (markedAt marks q) 512 (s .at) (s .below) (stays-marked (s .at) (s .marked)) (s .reads))
+            (λ y. any-at ram c n (markedAt marks q) 512 q h marks-it (rw same y)));
       }
+    where
+      back : (ram : List ℕ) (c n : ℕ) (s : Showing ram c n (markedAt marks q) 0) → Dec (q ≡ s .at) → T (anyRow ram c n marks || userReads ram c n a)
+      back ram c n s (yes f) =
+          or-second (anyRow ram c n marks) (userReads ram c n a)
+          (rw (user-same ram c n a (2 * s .at) (omega arith)) (s .reads))
+      back ram c n s (no f) =
+          or-first (anyRow ram c n marks) (userReads ram c n a)
+          (any-at ram c n marks 512 (s .at) (s .below) (sym (leaves-other (s .at) f) ∙ s .marked) (s .reads))
 
--- ---- nothing is listed yet
+-- ---- the next marked row
 
-none-marked : (n : ℕ) → marked (replicate n 0) ≡ 0
-unfolding marked
-none-marked zero = refl
-none-marked (suc n) = ap (λ (m : ℕ). 0 + m) (none-marked n)
+-- in one word of the marks the digits from a row on are those of the word's rest
+abbrev rest : List ℕ → ℕ → ℕ
+rest marks p = getD marks (p / 32) 0 / 2 ^ (p % 32)
 
-none-at : (n p : ℕ) → getD {A = ℕ} (replicate n 0) p 0 ≡ 0
-none-at zero p = refl
-none-at (suc n) zero = refl
-none-at (suc n) (suc p) = none-at n p
+in-word : (marks : List ℕ) (p i : ℕ) → p ≤ i → i / 32 ≡ p / 32 → isMarked marks i ≡ eqb (digit (i - p) (rest marks p)) 1
+unfolding isMarked
+in-word marks p i l e =
+    let f : p % 32 + (i - p) ≡ i % 32 = omega arith in
+    ap (λ (x : ℕ). eqb x 1)
+    (ap₂ (λ (j k : ℕ). digit j (getD marks k 0)) (sym f) e ∙ sym (shifted-digit (p % 32) (i - p) (getD marks (p / 32) 0)))
 
-pub kept-none : Kept (replicate 512 0) (replicate 512 0) 0
-kept-none =
-    record {
-      all = length-replicate {A = ℕ} 512 0;
-      room = length-replicate {A = ℕ} 512 0;
-      count = sym (none-marked 512);
-      listed = λ p h. absurd (h (none-at 512 p));
-    }
+module _ (marks : List ℕ) (from p : ℕ) (passed : (i : ℕ) → from ≤ i → i < p → isMarked marks i ≡ false) where
+  none-before : (r : ℕ) → ((i : ℕ) → p ≤ i → i < r → isMarked marks i ≡ false) → (i : ℕ) → from ≤ i → i < r → isMarked marks i ≡ false
+  none-before r f i l h = by (decLt i p)
+    where
+      by : Dec (i < p) → isMarked marks i ≡ false
+      by (yes k) = passed i l k
+      by (no k) = f i (omega arith) h
+
+  pub word-passed : rest marks p ≡ 0 → (i : ℕ) → from ≤ i → i < (p / 32 + 1) * 32 → isMarked marks i ≡ false
+  word-passed e =
+      none-before ((p / 32 + 1) * 32) (λ i l h.
+      in-word marks p i l (omega arith) ∙ rw (e, digit-zero))
+
+  pub word-next : p < 512 → from ≤ p → getD marks (p / 32) 0 < 2 ^ 32 → (t : ℕ) → Lowest (rest marks p) t → NextRow marks from (p + t)
+  word-next h l w t s =
+      let inside : p % 32 + t < 32 = lt-of-not-le (λ k. omega (arith, s .is, shifted-digit (p % 32) t (getD marks (p / 32) 0), high-digit 32 _ _ w k)) in
+      let g : p + t - p ≡ t = omega arith in
+      record {
+        from = omega arith;
+        most = omega arith;
+        none = none-before (p + t) (λ i k b. in-word marks p i k (omega arith) ∙ rw (s .zeros (i - p) (omega arith)));
+        is = λ _. in-word marks p (p + t) (omega arith) (omega arith) ∙ rw (g, s .is);
+      }
 
 -- ---- a row is looked through as far as the next one
 
-part-up : (e u z r r′ : Bool) → (T r → T r′) → T (cond e false (u || cond z r false)) → T (cond e false (u || cond z r′ false))
-part-up true u z r r′ f t = t
-part-up false true z r r′ f t = tt
-part-up false false true r r′ f t = f t
-part-up false false false r r′ f t = t
-
-part-whole : (e u z r r′ : Bool) → (T r → T r′) → T (cond e false (u || cond z r false)) → T (cond e false (u || r′))
-part-whole true u z r r′ f t = t
-part-whole false true z r r′ f t = tt
-part-whole false false true r r′ f t = f t
-part-whole false false false r r′ f t = absurd t
-
-part-cover : (e u z r p x : Bool) → T (cond e false (u || r)) → (T r → T (p || x)) → (z ≡ false → T p → T x)
-    → T (cond e false (u || cond z p false) || x)
-part-cover true u z r p x t f g = absurd t
-part-cover false true z r p x t f g = tt
-part-cover false false true r p x t f g = f t
-part-cover false false false r p x t f g = or-cases p x (f t) (g refl) (λ y. y)
-
-part-even : (ram marks : List ℕ) (c n a : ℕ) → partReads ram marks c n (even a) ≡ partReads ram marks c n a
-unfolding partReads
-part-even ram marks c zero a = refl
-part-even ram marks c (suc n) a =
-    let e : even (even a) ≡ even a = omega arith in
-    let f : next (even a) ≡ next a = omega arith in
-    ap₂ (λ (x y : ℕ).
-    cond (endsLine (getD ram (x + 1) 0)) false
-    (eqb (getD ram (x + 1) 0) (userHigh c) || cond (eqb (getD marks (y / 2) 0) 0) (partReads ram marks c n y) false)) e f
-
-part-same : (ram marks : List ℕ) (c n a b : ℕ) → a / 2 % 512 ≡ b / 2 % 512 → partReads ram marks c n a ≡ partReads ram marks c n b
-part-same ram marks c n a b e =
-    sym (part-even ram marks c n a) ∙ ap (λ (p : ℕ). partReads ram marks c n (p * 2)) e ∙ part-even ram marks c n b
-
-part-more : (ram marks : List ℕ) (c m n a : ℕ) → m ≤ n → T (partReads ram marks c m a) → T (partReads ram marks c n a)
-unfolding partReads
-part-more ram marks c zero n a h t = absurd t
-part-more ram marks c (suc m) zero a h t = absurd (not-suc-le-zero h)
-part-more ram marks c (suc m) (suc n) a h t =
-    part-up (endsLine (getD ram (even a + 1) 0)) (eqb (getD ram (even a + 1) 0) (userHigh c)) (eqb (getD marks (next a / 2) 0) 0)
-    (partReads ram marks c m (next a)) (partReads ram marks c n (next a)) (part-more ram marks c m n (next a) (le-of-suc-le-suc h)) t
-
-part-row : (ram marks : List ℕ) (c n a : ℕ) → T (partReads ram marks c n a) → T (userReads ram c n a)
-unfolding partReads userReads
-part-row ram marks c zero a t = t
-part-row ram marks c (suc n) a t =
-    part-whole (endsLine (getD ram (even a + 1) 0)) (eqb (getD ram (even a + 1) 0) (userHigh c)) (eqb (getD marks (next a / 2) 0) 0)
-    (partReads ram marks c n (next a)) (userReads ram c n (next a)) (part-row ram marks c n (next a)) t
-
-part-at : (ram marks : List ℕ) (c n : ℕ) (rows : List ℕ) (k i : ℕ) → i < k → T (partReads ram marks c n (getD rows i 0)) → T (anyPart ram marks c n rows k)
-unfolding anyPart
-part-at ram marks c n rows zero i h t = absurd (not-suc-le-zero h)
-part-at ram marks c n rows (suc k) i h t = by (ℕ-discrete i k) (λ l. part-at ram marks c n rows k i l t)
+user-more : (ram : List ℕ) (c m n a : ℕ) → m ≤ n → T (userReads ram c m a) → T (userReads ram c n a)
+unfolding userReads
+user-more ram c zero n a h t = absurd t
+user-more ram c (suc m) zero a h t = absurd (not-suc-le-zero h)
+user-more ram c (suc m) (suc n) a h t =
+    go (endsLine (getD ram (even a + 1) 0)) (eqb (getD ram (even a + 1) 0) (userHigh c)) (user-more ram c m n (next a) (le-of-suc-le-suc h)) t
   where
-    by : Dec (i ≡ k) → (i < k → T (anyPart ram marks c n rows k)) → T (partReads ram marks c n (getD rows k 0) || anyPart ram marks c n rows k)
-    by (yes e) later = or-first (partReads ram marks c n (getD rows k 0)) (anyPart ram marks c n rows k) (subst (λ (j : ℕ). T (partReads ram marks c n (getD rows j 0))) e t)
-    by (no e) later = or-second (partReads ram marks c n (getD rows k 0)) (anyPart ram marks c n rows k) (later (omega arith))
+    go : (e u : Bool) → (T (userReads ram c m (next a)) → T (userReads ram c n (next a)))
+        → T (cond e false (u || userReads ram c m (next a))) → T (cond e false (u || userReads ram c n (next a)))
+    go true u f t = t
+    go false true f t = tt
+    go false false f t = f t
 
-parts-rows : (ram marks : List ℕ) (c n : ℕ) (rows : List ℕ) (k : ℕ) → T (anyPart ram marks c n rows k) → T (anyRow ram c n rows k)
-unfolding anyPart anyRow
-parts-rows ram marks c n rows zero t = t
-parts-rows ram marks c n rows (suc k) t =
-    or-cases (partReads ram marks c n (getD rows k 0)) (anyPart ram marks c n rows k) t
-    (λ y. or-first (userReads ram c n (getD rows k 0)) (anyRow ram c n rows k) (part-row ram marks c n (getD rows k 0) y))
-    (λ y. or-second (userReads ram c n (getD rows k 0)) (anyRow ram c n rows k) (parts-rows ram marks c n rows k y))
+-- what the first d codes do not show, those after them do
+user-later : (ram : List ℕ) (c d n a : ℕ) → userReads ram c d a ≡ false → T (userReads ram c n a) → T (userReads ram c n (a + 2 * d))
+unfolding userReads
+user-later ram c zero n a f t = let e : a ≡ a + 2 * 0 = omega arith in subst (λ (x : ℕ). T (userReads ram c n x)) e t
+user-later ram c (suc d) zero a f t = absurd t
+user-later ram c (suc d) (suc n) a f t =
+    go (endsLine (getD ram (even a + 1) 0)) (eqb (getD ram (even a + 1) 0) (userHigh c)) (user-later ram c d n (next a)) f t
+  where
+    same : userReads ram c n (next a + 2 * d) ≡ userReads ram c n (a + 2 * suc d)
+    same =
+        let e : (next a + 2 * d) / 2 ≡ (a + 2) / 2 % 512 + d = omega arith in
+        let f : (a + 2) / 2 + d ≡ (a + 2 * suc d) / 2 = omega arith in
+        user-same ram c n (next a + 2 * d) (a + 2 * suc d)
+        (ap (λ (x : ℕ). x % 512) e ∙ mod-add-mod ((a + 2) / 2) 512 d ∙ ap (λ (x : ℕ). x % 512) f)
 
-module _ (ram marks : List ℕ) (c n : ℕ) (rows : List ℕ) (k : ℕ) (s : Kept marks rows k) where
-  -- what a row shows is shown before the next marked one, or by a listed one
-  covered : (m a : ℕ) → m ≤ n → T (userReads ram c m a) → T (partReads ram marks c m a || anyPart ram marks c n rows k)
-  unfolding partReads userReads
-  covered zero a h t = absurd t
-  covered (suc m) a h t =
-      part-cover (endsLine (getD ram (even a + 1) 0)) (eqb (getD ram (even a + 1) 0) (userHigh c)) (eqb (getD marks (next a / 2) 0) 0)
-      (userReads ram c m (next a)) (partReads ram marks c m (next a)) (anyPart ram marks c n rows k) t
-      (covered m (next a) (omega arith))
-      (λ z y.
-      let l : Among rows k (next a / 2) = s .listed (next a / 2) (eqb-false (getD marks (next a / 2) 0) 0 z) in
-      let e : next a / 2 % 512 ≡ next a / 2 = omega arith in
-      part-at ram marks c n rows k (l .at) (l .below)
-      (subst (λ (b : Bool). T b) (part-same ram marks c n (next a) (getD rows (l .at) 0) (e ∙ sym (l .is)))
-      (part-more ram marks c m n (next a) (omega arith) y)))
+    go : (e u : Bool) → (userReads ram c d (next a) ≡ false → T (userReads ram c n (next a)) → T (userReads ram c n (next a + 2 * d)))
+        → cond e false (u || userReads ram c d (next a)) ≡ false → T (cond e false (u || userReads ram c n (next a)))
+        → T (userReads ram c (suc n) (a + 2 * suc d))
+    go true u later f t = absurd t
+    go false true later f t = absurd (true≢false f)
+    go false false later f t = user-more ram c n (suc n) (a + 2 * suc d) (omega arith) (rw same at (later f t))
 
-  rows-parts : (j : ℕ) → j ≤ k → T (anyRow ram c n rows j) → T (anyPart ram marks c n rows k)
-  unfolding anyRow
-  rows-parts zero h t = absurd t
-  rows-parts (suc j) h t =
-      or-cases (userReads ram c n (getD rows j 0)) (anyRow ram c n rows j) t
-      (λ y.
-      or-cases (partReads ram marks c n (getD rows j 0)) (anyPart ram marks c n rows k) (covered n (getD rows j 0) (omega arith) y)
-      (part-at ram marks c n rows k j h) (λ z. z))
-      (rows-parts j (omega arith))
+-- no marked row is passed over
+pub showing-from : (ram : List ℕ) (c n : ℕ) (marks : List ℕ) (p r : ℕ) → NextRow marks p r → Showing ram c n marks p → Showing ram c n marks r
+showing-from ram c n marks p r m s = by (decLt (s .at) r)
+  where
+    by : Dec (s .at < r) → Showing ram c n marks r
+    by (yes e) = absurd (true≢false (sym (s .marked) ∙ m .none (s .at) (s .from) e))
+    by (no e) = record { at = s .at; from = omega arith; below = s .below; marked = s .marked; reads = s .reads }
 
-  pub parts-all : anyPart ram marks c n rows k ≡ anyRow ram c n rows k
-  parts-all =
-      iff (anyPart ram marks c n rows k) (anyRow ram c n rows k) (parts-rows ram marks c n rows k) (rows-parts k (omega arith))
+-- where a row shows the user character and its own codes do not, the next marked row shows it
+module _ (ram : List ℕ) (c n : ℕ) (marks : List ℕ) (row nxt : ℕ) (m : NextRow marks (row + 1) nxt)
+    (own : ℕ) (is : OwnCodes n row nxt own) (unread : userReads ram c own (2 * row) ≡ false) where
+  seen-later : T (userReads ram c n (2 * row)) → (nxt < 512) × T (userReads ram c n (2 * nxt))
+  seen-later t = by (decLt own n)
+    where
+      by : Dec (own < n) → (nxt < 512) × T (userReads ram c n (2 * nxt))
+      by (yes l) =
+          let e : 2 * row + 2 * own ≡ 2 * nxt = omega (arith, is .cut l) in
+          (is .cut l .0, subst (λ (x : ℕ). T (userReads ram c n x)) e (user-later ram c own n (2 * row) unread t))
+      by (no l) =
+          let e : n ≡ own = omega (arith, is .most) in
+          absurd (subst (λ (b : Bool). T b) (ap (λ (k : ℕ). userReads ram c k (2 * row)) e ∙ unread) t)
 
-  pub part-found : (i : ℕ) → i < k → partReads ram marks c n (getD rows i 0) ≡ true → true ≡ anyRow ram c n rows k
-  part-found i h e = sym (T-true (parts-rows ram marks c n rows k (part-at ram marks c n rows k i h (subst (λ (b : Bool). T b) (sym e) tt))))
+  pub showing-next : Showing ram c n marks row → Showing ram c n marks nxt
+  showing-next s = by (ℕ-discrete row (s .at))
+    where
+      by : Dec (row ≡ s .at) → Showing ram c n marks nxt
+      by (yes d) =
+          let l = seen-later (rw d (s .reads)) in
+          record { at = nxt; from = omega arith; below = l .0; marked = m .is (l .0); reads = l .1 }
+      by (no d) =
+          showing-from ram c n marks (row + 1) nxt m
+          (record { at = s .at; from = omega (arith, s .from); below = s .below; marked = s .marked; reads = s .reads })
 
-pub part-none : (ram marks : List ℕ) (c n : ℕ) (rows : List ℕ) (i : ℕ) → anyPart ram marks c n rows i ≡ false → partReads ram marks c n (getD rows i 0) ≡ false
-    → anyPart ram marks c n rows (i + 1) ≡ false
-unfolding anyPart
-part-none ram marks c n rows i e f = ap (anyPart ram marks c n rows) (add-one i) ∙ ap₂ (λ (x y : Bool). x || y) f e
+-- a marked row shows it, or none does
+pub row-shows : (ram : List ℕ) (c n : ℕ) (marks : List ℕ) (row own : ℕ) → own ≤ n → row < 512 → isMarked marks row ≡ true
+    → userReads ram c own (2 * row) ≡ true → true ≡ anyRow ram c n marks
+row-shows ram c n marks row own l h m e =
+    iff true (anyRow ram c n marks) (λ _. any-at ram c n marks 512 row h m (user-more ram c own n (2 * row) l (rw e tt))) (λ _. tt)
 
-pub no-part : (ram marks : List ℕ) (c n : ℕ) (rows : List ℕ) → anyPart ram marks c n rows 0 ≡ false
-unfolding anyPart
-no-part ram marks c n rows = refl
+pub none-showing : (ram : List ℕ) (c n : ℕ) (marks : List ℕ) (row : ℕ) → 512 ≤ row → (T (anyRow ram c n marks) → Showing ram c n marks row)
+    → false ≡ anyRow ram c n marks
+none-showing ram c n marks row h f = iff false (anyRow ram c n marks) absurd (λ t. let s = f t in omega (arith, s .from, s .below))
 
--- ---- the turns along a part
+-- ---- the turns along a row
 
-part-next : (ram marks : List ℕ) (c n a : ℕ) → 0 < n
-    → partReads ram marks c n a
-    ≡ cond (endsLine (getD ram (even a + 1) 0)) false
-    (eqb (getD ram (even a + 1) 0) (userHigh c) || cond (eqb (getD marks (next a / 2) 0) 0) (partReads ram marks c (n - 1) (next a)) false)
-unfolding partReads
-part-next ram marks c zero a h = absurd (not-suc-le-zero h)
-part-next ram marks c (suc n) a h =
-    ap (λ (m : ℕ).
-    cond (endsLine (getD ram (even a + 1) 0)) false
-    (eqb (getD ram (even a + 1) 0) (userHigh c) || cond (eqb (getD marks (next a / 2) 0) 0) (partReads ram marks c m (next a)) false))
+pub one-more : (ram : List ℕ) (c n p : ℕ) → 0 < n → p < 512
+    → userReads ram c n (2 * p)
+    ≡ cond (endsLine (getD ram (2 * p + 1) 0)) false
+    (eqb (getD ram (2 * p + 1) 0) (userHigh c) || userReads ram c (n - 1) (2 * ((p + 1) % 512)))
+unfolding userReads
+one-more ram c zero p pos h = absurd (not-suc-le-zero pos)
+one-more ram c (suc n) p pos h =
+    ap₂ (λ (x y : ℕ). cond (endsLine (getD ram (x + 1) 0)) false (eqb (getD ram (x + 1) 0) (userHigh c) || userReads ram c n y))
+    (code-even p h) (code-next p)
+    ∙ ap (λ (m : ℕ).
+    cond (endsLine (getD ram (2 * p + 1) 0)) false (eqb (getD ram (2 * p + 1) 0) (userHigh c) || userReads ram c m (2 * ((p + 1) % 512))))
     (sym (sub-one (suc n)))
 
--- at the code of a number
-module _ (ram marks : List ℕ) (c n p : ℕ) (pos : 0 < n) (h : p < 512) where
-  one-more : partReads ram marks c n (2 * p)
-      ≡ cond (endsLine (getD ram (2 * p + 1) 0)) false
-      (eqb (getD ram (2 * p + 1) 0) (userHigh c) || cond (eqb (getD marks ((p + 1) % 512) 0) 0) (partReads ram marks c (n - 1) (2 * ((p + 1) % 512))) false)
-  one-more =
-      let f : 2 * ((p + 1) % 512) / 2 ≡ (p + 1) % 512 = omega arith in
-      part-next ram marks c n (2 * p) pos
-      ∙ ap₂ (λ (x y : ℕ).
-      cond (endsLine (getD ram (x + 1) 0)) false
-      (eqb (getD ram (x + 1) 0) (userHigh c) || cond (eqb (getD marks (y / 2) 0) 0) (partReads ram marks c (n - 1) y) false)) (code-even p h) (code-next p)
-      ∙ ap (λ (x : ℕ).
-      cond (endsLine (getD ram (2 * p + 1) 0)) false
-      (eqb (getD ram (2 * p + 1) 0) (userHigh c) || cond (eqb (getD marks x 0) 0) (partReads ram marks c (n - 1) (2 * ((p + 1) % 512))) false)) f
+pub reads-none : (ram : List ℕ) (c n a : ℕ) → n ≤ 0 → false ≡ userReads ram c n a
+unfolding userReads
+reads-none ram c zero a h = refl
+reads-none ram c (suc n) a h = absurd (not-suc-le-zero h)
 
-  pub here-end : getD ram (2 * p + 1) 0 ≡ 255 → false ≡ partReads ram marks c n (2 * p)
-  here-end e = sym (one-more ∙ rw (eq-eqb _ _ e))
+-- ---- no row is marked
 
-  pub here-user : (getD ram (2 * p + 1) 0 ≡ 255 → ⊥) → getD ram (2 * p + 1) 0 ≡ userHigh c → true ≡ partReads ram marks c n (2 * p)
-  here-user e u = sym (one-more ∙ rw (ne-eqb _ _ e, eq-eqb _ _ u))
+none-marked : (p : ℕ) → p < 512 → isMarked (replicate 16 0) p ≡ false
+unfolding isMarked
+none-marked p h = rw (getD-replicate {A = ℕ} 16 (p / 32) 0 0 (omega arith), digit-zero)
 
-  pub here-next : (getD ram (2 * p + 1) 0 ≡ 255 → ⊥) → (getD ram (2 * p + 1) 0 ≡ userHigh c → ⊥) → (getD marks ((p + 1) % 512) 0 ≡ 0 → ⊥)
-      → false ≡ partReads ram marks c n (2 * p)
-  here-next e u m = sym (one-more ∙ rw (ne-eqb _ _ e, ne-eqb _ _ u, ne-eqb _ _ m))
+pub none-kept : Kept (replicate 16 0)
+none-kept = record { words = length-replicate {A = ℕ} 16 0; fits = λ i h. rw (getD-replicate {A = ℕ} 16 i 0 0 h) (omega arith) }
 
-  pub here-other : (getD ram (2 * p + 1) 0 ≡ 255 → ⊥) → (getD ram (2 * p + 1) 0 ≡ userHigh c → ⊥) → getD marks ((p + 1) % 512) 0 ≡ 0
-      → partReads ram marks c (n - 1) (2 * ((p + 1) % 512)) ≡ partReads ram marks c n (2 * p)
-  here-other e u m = sym (one-more ∙ rw (ne-eqb _ _ e, ne-eqb _ _ u, eq-eqb _ _ m))
-
-pub part-start : (ram marks : List ℕ) (c n a : ℕ) → partReads ram marks c n (2 * (a / 2 % 512)) ≡ partReads ram marks c n a
-part-start ram marks c n a = ap (partReads ram marks c n) (sym (code-of a)) ∙ part-even ram marks c n a
-
-pub reads-none : (ram marks : List ℕ) (c n a : ℕ) → n ≤ 0 → false ≡ partReads ram marks c n a
-unfolding partReads
-reads-none ram marks c zero a h = refl
-reads-none ram marks c (suc n) a h = absurd (not-suc-le-zero h)
+pub no-row : (ram : List ℕ) (c n : ℕ) → anyRow ram c n (replicate 16 0) ≡ false
+no-row ram c n =
+    iff (anyRow ram c n (replicate 16 0)) false
+    (λ t. let s = showing-of ram c n (replicate 16 0) t in true≢false (sym (s .marked) ∙ none-marked (s .at) (s .below))) absurd

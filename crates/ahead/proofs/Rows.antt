@@ -20,12 +20,16 @@ use Rattle.glyph.specs.Glyph.{endsLine, glyphOf}
 use Rattle.glyph.specs.Cells.{userHigh}
 use Rattle.glyph.proofs.Cells.{ofSlice, glyph-reads}
 use Rattle.line.specs.Line.{Place, codes}
-use Rattle.ahead.specs.Looking.{pairOf, rowReads, userReads, codeBack, codesTo, Starts}
+use Rattle.ahead.specs.Looking.{pairOf, rowReads, userReads, codesTo, Starts}
 
 pub among-append : (c : ℕ) (xs ys : List ℕ) → among c (xs ++ ys) ≡ among c xs || among c ys
 unfolding among
 among-append c [] ys = refl
 among-append c (x ∷ xs) ys = ap (λ (b : Bool). eqb c x || b) (among-append c xs ys) ∙ sym (or-assoc (eqb c x) (among c xs) (among c ys))
+
+pub cond-same : {A : Type 0} (e : Bool) (x : A) → cond e x x ≡ x
+cond-same true x = refl
+cond-same false x = refl
 
 -- ---- the cells of a row
 
@@ -63,42 +67,7 @@ row-reads ram c (suc n) s a b h =
         ∙ among-append c (cells ram (glyphOf high s)) (cells ram (codes n s (next a)))
         ∙ ap₂ (λ (x y : Bool). x || y) (glyph-reads c s ram high (b (even a + 1)) h) ih
 
--- ---- several lines of a row
-
-merged : (p e b₁ b₂ u r₁ r₂ : Bool)
-    → (p || cond e false ((b₁ && u) || r₁)) || (p || cond e false ((b₂ && u) || r₂)) ≡ p || cond e false (((b₁ || b₂) && u) || (r₁ || r₂))
-merged true e b₁ b₂ u r₁ r₂ = refl
-merged false true b₁ b₂ u r₁ r₂ = refl
-merged false false true b₂ true r₁ r₂ = refl
-merged false false true true false r₁ r₂ = refl
-merged false false true false false r₁ r₂ = refl
-merged false false false true true true r₂ = refl
-merged false false false true true false r₂ = refl
-merged false false false true false r₁ r₂ = refl
-merged false false false false u r₁ r₂ = refl
-
--- a row read with the slice shown on one line, or on another
-pub rows-merge : (ram : List ℕ) (c : ℕ) (b₁ b₂ : Bool) (n a : ℕ) → rowReads ram c b₁ n a || rowReads ram c b₂ n a ≡ rowReads ram c (b₁ || b₂) n a
-unfolding rowReads
-rows-merge ram c b₁ b₂ zero a = refl
-rows-merge ram c b₁ b₂ (suc n) a =
-    merged (eqb (pairOf c) (even a)) (endsLine (getD ram (even a + 1) 0)) b₁ b₂ (eqb (getD ram (even a + 1) 0) (userHigh c))
-    (rowReads ram c b₁ n (next a)) (rowReads ram c b₂ n (next a))
-    ∙ ap (λ (r : Bool).
-    eqb (pairOf c) (even a)
-    || cond (endsLine (getD ram (even a + 1) 0)) false (((b₁ || b₂) && eqb (getD ram (even a + 1) 0) (userHigh c)) || r))
-    (rows-merge ram c b₁ b₂ n (next a))
-
 -- ---- any address of a code stands for its even one
-
-pub reads-even : (ram : List ℕ) (c : ℕ) (b : Bool) (n a : ℕ) → rowReads ram c b n (even a) ≡ rowReads ram c b n a
-unfolding rowReads
-reads-even ram c b zero a = refl
-reads-even ram c b (suc n) a =
-    let e : even (even a) ≡ even a = omega arith in
-    let f : next (even a) ≡ next a = omega arith in
-    ap₂ (λ (x y : ℕ).
-    eqb (pairOf c) x || cond (endsLine (getD ram (x + 1) 0)) false ((b && eqb (getD ram (x + 1) 0) (userHigh c)) || rowReads ram c b n y)) e f
 
 user-even : (ram : List ℕ) (c n a : ℕ) → userReads ram c n (even a) ≡ userReads ram c n a
 unfolding userReads
@@ -145,13 +114,33 @@ reads-split ram c b (suc n) a =
     ∙ parts (eqb (pairOf c) (even a)) (endsLine (getD ram (even a + 1) 0)) b (eqb (getD ram (even a + 1) 0) (userHigh c))
     (rowReads ram c false n (next a)) (userReads ram c n (next a))
 
+-- ---- several lines of a row
+
+merged : (r b₁ b₂ u : Bool) → (r || (b₁ && u)) || (r || (b₂ && u)) ≡ r || ((b₁ || b₂) && u)
+merged true b₁ b₂ u = refl
+merged false true b₂ true = refl
+merged false true true false = refl
+merged false true false false = refl
+merged false false b₂ u = refl
+
+-- a row read with the slice shown on one line, or on another
+pub rows-merge : (ram : List ℕ) (c : ℕ) (b₁ b₂ : Bool) (n a : ℕ) → rowReads ram c b₁ n a || rowReads ram c b₂ n a ≡ rowReads ram c (b₁ || b₂) n a
+rows-merge ram c b₁ b₂ n a =
+    ap₂ (λ (x y : Bool). x || y) (reads-split ram c b₁ n a) (reads-split ram c b₂ n a)
+    ∙ merged (rowReads ram c false n a) b₁ b₂ (userReads ram c n a)
+    ∙ sym (reads-split ram c (b₁ || b₂) n a)
+
 -- ---- which rows read the cell as a code
 
-cond-same : (e : Bool) → cond e false false ≡ false
-cond-same true = refl
-cond-same false = refl
+-- the address j codes before the cell's own
+abbrev codeBack : ℕ → ℕ → ℕ
+codeBack c j = 2 * ((c / 2 + 511 * j) % 512)
 
-pub own : (c : ℕ) → c < 1024 → (c / 2 + 511 * 0) % 512 ≡ c / 2
+-- the code there ends a line
+abbrev pub EndsBack : List ℕ → ℕ → ℕ → Type 0
+EndsBack ram c j = getD ram (codeBack c j + 1) 0 ≡ 255
+
+own : (c : ℕ) → c < 1024 → (c / 2 + 511 * 0) % 512 ≡ c / 2
 own c h =
     let e : c / 2 + 511 * 0 ≡ c / 2 = omega arith in
     mod-eq-of-lt (omega arith) ∙ e
@@ -187,16 +176,6 @@ to-back x y h k = by (decLe y x)
         at (x - y) (x - y) (ap (λ (z : ℕ). z % 512) e ∙ add-mod-right (x - y) 512 ∙ mod-eq-of-lt (omega arith)) (omega arith)
     by (no l) = at (x + 512 - y) (x + 511 - y) (mod-eq-of-lt (omega arith)) (omega arith)
 
-pub on-more : (ram : List ℕ) (c m : ℕ) → ((j : ℕ) → 1 ≤ j → j ≤ m → getD ram (codeBack c j + 1) 0 ≡ 255 → ⊥)
-    → (getD ram (codeBack c (m + 1) + 1) 0 ≡ 255 → ⊥) → (j : ℕ) → 1 ≤ j → j ≤ m + 1 → getD ram (codeBack c j + 1) 0 ≡ 255 → ⊥
-on-more ram c m f g j h k = by (decLe j m)
-  where
-    by : Dec (j ≤ m) → getD ram (codeBack c j + 1) 0 ≡ 255 → ⊥
-    by (yes l) = f j h l
-    by (no l) =
-        let e : m + 1 ≡ j = omega arith in
-        subst (λ (z : ℕ). getD ram (codeBack c z + 1) 0 ≡ 255 → ⊥) e g
-
 -- fewer than 512 codes before its own stands another
 apart : (x d : ℕ) → 1 ≤ d → d < 512 → (x + 511 * d) % 512 ≡ x → ⊥
 apart x d l k e =
@@ -204,12 +183,9 @@ apart x d l k e =
     omega arith
 
 module _ (ram : List ℕ) (c : ℕ) (small : c < 1024) where
-  ends : ℕ → Type 0
-  ends j = getD ram (codeBack c j + 1) 0 ≡ 255
-
   -- no code between ends the line
-  reaches : (d n a : ℕ) → d < n → even a ≡ codeBack c d → ((j : ℕ) → 1 ≤ j → j ≤ d → ends j → ⊥) → rowReads ram c false n a ≡ true
-  unfolding rowReads ends
+  reaches : (d n a : ℕ) → d < n → even a ≡ codeBack c d → ((j : ℕ) → 1 ≤ j → j ≤ d → EndsBack ram c j → ⊥) → rowReads ram c false n a ≡ true
+  unfolding rowReads
   reaches d zero a l e f = absurd (not-suc-le-zero l)
   reaches zero (suc n) a l e f = rw (eq-eqb (pairOf c) (even a) (omega (arith, own c small)))
   reaches (suc d) (suc n) a l e f =
@@ -224,11 +200,11 @@ module _ (ram : List ℕ) (c : ℕ) (small : c < 1024) where
   far zero (suc n) a l k e = absurd (not-suc-le-zero l)
   far (suc d) (suc n) a l k e =
       rw (ne-eqb (pairOf c) (even a) (λ q. apart (c / 2) (suc d) (omega arith) k (omega arith)), far d n (next a) (omega arith) (omega arith) (back-on c d a e))
-      (cond-same (endsLine (getD ram (even a + 1) 0)))
+      (cond-same (endsLine (getD ram (even a + 1) 0)) false)
 
   -- a code between ends the line
-  stops : (m d n a : ℕ) → 1 ≤ m → ends m → m ≤ d → d < 512 → even a ≡ codeBack c d → rowReads ram c false n a ≡ false
-  unfolding rowReads ends
+  stops : (m d n a : ℕ) → 1 ≤ m → EndsBack ram c m → m ≤ d → d < 512 → even a ≡ codeBack c d → rowReads ram c false n a ≡ false
+  unfolding rowReads
   stops m d zero a h t l k e = refl
   stops m zero (suc n) a h t l k e = absurd (omega arith)
   stops m (suc d) (suc n) a h t l k e = by (decLe m d) (λ q. stops m d n (next a) h t q (omega arith) (back-on c d a e))
@@ -238,35 +214,29 @@ module _ (ram : List ℕ) (c : ℕ) (small : c < 1024) where
 
       by : Dec (m ≤ d) → (m ≤ d → rowReads ram c false n (next a) ≡ false)
           → eqb (pairOf c) (even a) || cond (endsLine (getD ram (even a + 1) 0)) false (rowReads ram c false n (next a)) ≡ false
-      by (yes q) after = rw (ne-eqb (pairOf c) (even a) other, after q) (cond-same (endsLine (getD ram (even a + 1) 0)))
+      by (yes q) after = rw (ne-eqb (pairOf c) (even a) other, after q) (cond-same (endsLine (getD ram (even a + 1) 0)) false)
       by (no q) after =
           let y : suc d ≡ m = omega arith in
           let z : even a ≡ codeBack c m = e ∙ ap (codeBack c) y in
           rw (ne-eqb (pairOf c) (even a) other, eq-eqb (getD ram (even a + 1) 0) 255 (subst (λ (x : ℕ). getD ram (x + 1) 0 ≡ 255) (sym z) t))
 
-  pub near-reads : (n m a : ℕ) → Starts ram c n m → rowReads ram c false n a ≡ ltb (codesTo c a) m
-  unfolding ends
-  near-reads n m a s = by (decLt (codesTo c a) m) (decLe n (codesTo c a))
+  to-own : (a : ℕ) → even a ≡ codeBack c (codesTo c a)
+  to-own a =
+      ap (λ (z : ℕ). z * 2) (sym (to-back (c / 2) (a / 2 % 512) (omega arith) (omega arith)))
+      ∙ mul-comm ((c / 2 + 511 * codesTo c a) % 512) 2
+
+  -- a row that starts as many codes before the cell as it has, or more, does not read it
+  pub all-far : (n a : ℕ) → n ≤ codesTo c a → rowReads ram c false n a ≡ false
+  all-far n a k = far (codesTo c a) n a k (omega arith) (to-own a)
+
+  -- back from the cell no code ends a line, up to the m-th or to the n-th
+  pub starts-at : (n m : ℕ) → m ≤ n → ((j : ℕ) → 1 ≤ j → j < m → EndsBack ram c j → ⊥) → (m < n → (1 ≤ m) × EndsBack ram c m) → Starts ram c n m
+  starts-at n m most on stop = record { reads = λ a. by a (decLt (codesTo c a) m) (decLe n (codesTo c a)) }
     where
-      e : even a ≡ codeBack c (codesTo c a)
-      e = ap (λ (z : ℕ). z * 2) (sym (to-back (c / 2) (a / 2 % 512) (omega arith) (omega arith)))
-          ∙ mul-comm ((c / 2 + 511 * codesTo c a) % 512) 2
-
-      by : Dec (codesTo c a < m) → Dec (n ≤ codesTo c a) → rowReads ram c false n a ≡ ltb (codesTo c a) m
-      by (yes l) _ =
-          reaches (codesTo c a) n a (omega (arith, s .most)) e (λ j h k. s .on j h (omega arith)) ∙ sym (lt-ltb (codesTo c a) m l)
-      by (no l) (yes k) = far (codesTo c a) n a k (omega arith) e ∙ sym (le-ltb (codesTo c a) m (omega arith))
-      by (no l) (no k) =
-          let t = s .stop (omega arith) in
-          stops m (codesTo c a) n a (t .0) (t .1) (omega arith) (omega arith) e ∙ sym (le-ltb (codesTo c a) m (omega arith))
-
-  -- a row that starts near reads the cell; another does only as its user character
-  pub row-near : (b : Bool) (n m a : ℕ) → Starts ram c n m → codesTo c a < m → rowReads ram c b n a ≡ true
-  row-near b n m a s l =
-      reads-split ram c b n a
-      ∙ ap (λ (r : Bool). r || (b && userReads ram c n a)) (near-reads n m a s ∙ lt-ltb (codesTo c a) m l)
-
-  pub row-far : (b : Bool) (n m a : ℕ) → Starts ram c n m → m ≤ codesTo c a → rowReads ram c b n a ≡ b && userReads ram c n a
-  row-far b n m a s l =
-      reads-split ram c b n a
-      ∙ ap (λ (r : Bool). r || (b && userReads ram c n a)) (near-reads n m a s ∙ le-ltb (codesTo c a) m l)
+      by : (a : ℕ) → Dec (codesTo c a < m) → Dec (n ≤ codesTo c a) → rowReads ram c false n a ≡ ltb (codesTo c a) m
+      by a (yes l) _ =
+          reaches (codesTo c a) n a (omega arith) (to-own a) (λ j h k. on j h (omega arith)) ∙ sym (lt-ltb (codesTo c a) m l)
+      by a (no l) (yes k) = all-far n a k ∙ sym (le-ltb (codesTo c a) m (omega arith))
+      by a (no l) (no k) =
+          let t = stop (omega arith) in
+          stops m (codesTo c a) n a (t .0) (t .1) (omega arith) (omega arith) (to-own a) ∙ sym (le-ltb (codesTo c a) m (omega arith))

@@ -4,7 +4,7 @@ use Prim.Native.Nat.{ℕ, zero, suc}
 use Rattle.cells.specs.Reading.{Reading, done, bind}
 use Rattle.registers.specs.declared.Settings.{Settings}
 use Rattle.walk.specs.declared.Walk.{Walk}
-use Rattle.line.specs.Line.{Scanned, scan}
+use Rattle.line.specs.Line.{scan}
 
 -- the walk goes on, with the settings as they stand; with no line remaining nothing is read
 unfoldable pub remaining : Settings → ℕ → Walk → Reading Walk

@@ -1,11 +1,20 @@
 -- How the search for a cell looks at a row of codes and at a strip: what the promises of its inner functions cite. The search's own
 -- promise (membership in the cells of the remaining lines) does not speak of these.
+--
+--     codes of RAM   | .. | 255 |  a  |  b  | own | ..     own: the code that the cell is a byte of. 255 ends a line
+--     codes back     | .. |  3  |  2  |  1  |  0  |        rows that start fewer than 3 codes back read the cell as a code (Starts)
+--     marked rows    | r ───────> | s ───> 255 | ..        rows that show the cell's slice; after the last strip each is looked through
+--                                                          for the cell's user character, up to the next one (OwnCodes)
+--
+-- Sought: the cell, the settings, and what follows from both; Posed says that it does.
+-- Looked: the cell was found in a strip, or how few codes back a row must start to read it as a code (Far).
+-- Kept: the marks are sixteen words. Adds: what the cell found, or the marks, say of a part of the frame that was looked at.
 -- Assumes nothing.
-use Prim.Native.Nat.{ℕ, zero, suc, _+_, _-_, _*_, _/_, _%_, _≤_, _<_}
+use Prim.Native.Nat.{ℕ, zero, suc, _+_, _-_, _*_, _/_, _%_, _^_, _≤_, _<_}
 use mathlib.Core.Path.{_≡_}
 use mathlib.Core.Bool.{Bool, true, false, cond, _&&_, _||_}
-use mathlib.Core.List.{List, [], _∷_, _++_}
-use lib.Dec.{eqb}
+use mathlib.Core.List.{List, [], _++_}
+use lib.Dec.{eqb, ltb}
 use lib.ListN.{getD, length}
 use Rattle.limits.specs.Limits.{ramLength}
 use Rattle.cells.specs.Reading.{cells, among}
@@ -21,6 +30,7 @@ use Rattle.glyph.specs.Cells.{ofUser, userHigh, userSlice}
 use Rattle.line.specs.Line.{shownRow}
 use Rattle.ahead.specs.declared.Sought.{Sought}
 use Rattle.ahead.specs.declared.Looked.{Looked}
+use Rattle.ahead.specs.declared.Passed.{Passed}
 use Rattle.ahead.specs.Ahead.{remaining}
 
 -- ---- a row
@@ -30,8 +40,8 @@ abbrev pub pairOf : ℕ → ℕ
 pairOf c = c / 2 * 2
 
 -- the codes that a line reads at the most: none with OSD 0
-abbrev pub codesOf : Settings → ℕ
-codesOf s = cond (s .osd) (charactersOf (s .ld) (s .dd)) 0
+abbrev pub codesAtMost : Settings → ℕ
+codesAtMost s = cond (s .osd) (charactersOf (s .ld) (s .dd)) 0
 
 -- is the cell read by the codes from an address on, n at the most? shown: the cell is of a user character's slice on screen
 unfoldable pub rowReads : List ℕ → ℕ → Bool → ℕ → ℕ → Bool
@@ -46,20 +56,17 @@ userReads ram c zero a = false
 userReads ram c (suc n) a =
     cond (endsLine (getD ram (even a + 1) 0)) false (eqb (getD ram (even a + 1) 0) (userHigh c) || userReads ram c n (next a))
 
--- the address j codes before the cell's own
-abbrev pub codeBack : ℕ → ℕ → ℕ
-codeBack c j = 2 * ((c / 2 + 511 * j) % 512)
-
 -- how many codes before the cell's own an address is
 abbrev pub codesTo : ℕ → ℕ → ℕ
 codesTo c a = (c / 2 + 512 - a / 2 % 512) % 512
 
--- rows that start at the cell's own code, or fewer than m codes before it, read it: back from it no code ends a line, up to the m-th
--- or to the n-th
+-- rows of n codes read the cell as a code exactly if they start at the cell's own code, or fewer than m codes before it
 pub record Starts (ram : List ℕ) (c n m : ℕ) : Type 0 where
-  pub most : m ≤ n
-  pub on : (j : ℕ) → 1 ≤ j → j < m → getD ram (codeBack c j + 1) 0 ≡ 255 → ⊥
-  pub stop : m < n → (1 ≤ m) × (getD ram (codeBack c m + 1) 0 ≡ 255)
+  pub reads : (a : ℕ) → rowReads ram c false n a ≡ ltb (codesTo c a) m
+
+-- only such rows can
+pub record Far (ram : List ℕ) (q : Sought) (m : ℕ) : Type 0 where
+  pub unread : (a : ℕ) → m ≤ codesTo (q .cell) a → rowReads ram (q .cell) false (q .codes) a ≡ false
 
 -- ---- a strip
 
@@ -76,84 +83,85 @@ rowCells ram s (suc k) strip = cells ram (shownRow s (advanced strip)) ++ rowCel
 abbrev pub stripReads : List ℕ → Settings → ℕ → Strip → ℕ → Bool
 stripReads ram s k strip c = among c (rowCells ram s k strip)
 
--- ---- the rows that show the cell's slice
+-- ---- the marked rows: those that show the cell's slice
 
--- how many are marked
-unfoldable pub marked : List ℕ → ℕ
-marked [] = 0
-marked (x ∷ xs) = cond (eqb x 0) 0 1 + marked xs
+-- they are sixteen words of 32 binary digits
+pub record Kept (marks : List ℕ) : Type 0 where
+  pub words : length marks ≡ 16
+  pub fits : (i : ℕ) → i < 16 → getD marks i 0 < 2 ^ 32
 
--- one of the first k addresses of a list is that of the code p
-pub record Among (rows : List ℕ) (k p : ℕ) : Type 0 where
-  pub at : ℕ
-  pub below : at < k
-  pub is : getD rows at 0 / 2 % 512 ≡ p
+-- binary digit j of a number, counted from the lowest
+unfoldable pub digit : ℕ → ℕ → ℕ
+digit zero x = x % 2
+digit (suc j) x = digit j (x / 2)
 
--- every marked row is listed, and there are as many as are marked
-pub record Kept (marks rows : List ℕ) (k : ℕ) : Type 0 where
-  pub all : length marks ≡ 512
-  pub room : length rows ≡ 512
-  pub count : k ≡ marked marks
-  pub listed : (p : ℕ) → (getD marks p 0 ≡ 0 → ⊥) → Among rows k p
+-- a digit for each row, by the number of the code where it starts
+unfoldable pub isMarked : List ℕ → ℕ → Bool
+isMarked marks p = eqb (digit (p % 32) (getD marks (p / 32) 0)) 1
 
--- does one of the first k rows show the cell's user character?
-unfoldable pub anyRow : List ℕ → ℕ → ℕ → List ℕ → ℕ → Bool
-anyRow ram c n rows zero = false
-anyRow ram c n rows (suc k) = userReads ram c n (getD rows k 0) || anyRow ram c n rows k
+-- does one of the first k that are marked show the cell's user character? and one of all?
+unfoldable pub anyBelow : List ℕ → ℕ → ℕ → List ℕ → ℕ → Bool
+anyBelow ram c n marks zero = false
+anyBelow ram c n marks (suc k) = (isMarked marks k && userReads ram c n (2 * k)) || anyBelow ram c n marks k
 
--- is it shown by the codes from an address on that stand before the next marked row? and by those of the first k rows?
-unfoldable pub partReads : List ℕ → List ℕ → ℕ → ℕ → ℕ → Bool
-partReads ram marks c zero a = false
-partReads ram marks c (suc n) a =
-    cond (endsLine (getD ram (even a + 1) 0)) false
-    (eqb (getD ram (even a + 1) 0) (userHigh c) || cond (eqb (getD marks (next a / 2) 0) 0) (partReads ram marks c n (next a)) false)
+abbrev pub anyRow : List ℕ → ℕ → ℕ → List ℕ → Bool
+anyRow ram c n marks = anyBelow ram c n marks 512
 
-unfoldable pub anyPart : List ℕ → List ℕ → ℕ → ℕ → List ℕ → ℕ → Bool
-anyPart ram marks c n rows zero = false
-anyPart ram marks c n rows (suc k) = partReads ram marks c n (getD rows k 0) || anyPart ram marks c n rows k
+-- the row at an address was marked
+pub record Marks (marks : List ℕ) (a : ℕ) (marks′ : List ℕ) : Type 0 where
+  pub kept : Kept marks′
+  pub more : (ram : List ℕ) (c n : ℕ) → anyRow ram c n marks′ ≡ anyRow ram c n marks || userReads ram c n a
 
--- a row is listed
-pub record Listed (rows : List ℕ) (k a : ℕ) (marks′ rows′ : List ℕ) (k′ : ℕ) : Type 0 where
-  pub kept : Kept marks′ rows′ k′
-  pub more : (ram : List ℕ) (c n : ℕ) → anyRow ram c n rows′ k′ ≡ anyRow ram c n rows k || userReads ram c n a
+-- the zeros of x that were passed, and the digits after them, of which one of the first w is set
+pub record ZerosOf (x w : ℕ) (r : Passed) : Type 0 where
+  pub zeros : (j : ℕ) → j < r .zeros → digit j x ≡ 0
+  pub after : (j : ℕ) → digit j (r .rest) ≡ digit (r .zeros + j) x
+  pub some : r .rest % 2 ^ w ≡ 0 → ⊥
+
+-- the lowest digit of x that is set
+pub record Lowest (x r : ℕ) : Type 0 where
+  pub zeros : (j : ℕ) → j < r → digit j x ≡ 0
+  pub is : digit r x ≡ 1
+  pub most : r < 32
+
+-- so many of its n codes a marked row is looked through for: all, or up to the next marked row, which sees the rest
+pub record OwnCodes (n row after own : ℕ) : Type 0 where
+  pub most : own ≤ n
+  pub cut : own < n → (after < 512) × (row + own ≡ after)
+
+-- r is the first marked row from p on, or 512
+pub record NextRow (marks : List ℕ) (p r : ℕ) : Type 0 where
+  pub from : p ≤ r
+  pub most : r ≤ 512
+  pub none : (i : ℕ) → p ≤ i → i < r → isMarked marks i ≡ false
+  pub is : r < 512 → isMarked marks r ≡ true
 
 -- ---- the search
 
--- b says whether a part of the frame reads the cell. It was looked at after k rows were listed: the cell was found, and a listed row
--- shows its user character or b holds; or it was not, and the rows that are now listed show it exactly then
-pub record Adds (ram : List ℕ) (c n : ℕ) (b : Bool) (rows : List ℕ) (k : ℕ) (rows′ : List ℕ) (r : Looked) : Type 0 where
-  pub hit : r .found ≡ true → anyRow ram c n rows k || b ≡ true
-  pub miss : r .found ≡ false → anyRow ram c n rows′ (r .listed) ≡ anyRow ram c n rows k || b
-
--- the cell is one of the RAM, the height one of a strip, and a strip of it that is shown whole shows the cell's slice or not
+-- what is sought follows from the cell and the settings
 pub record Posed (q : Sought) : Type 0 where
   pub cell : q .cell < ramLength
-  pub some : 1 ≤ q .height
-  pub whole : q .whole ≡ userShown (q .cell) beforeFirst (q .height) (q .height) false
+  pub codes : q .codes ≡ codesAtMost (q .settings)
+  pub whole : q .whole ≡ userShown (q .cell) beforeFirst (atLeastOne (q .settings .ch)) (atLeastOne (q .settings .ch)) false
 
--- it is sought in a frame of these settings
-pub record Ready (ram : List ℕ) (s : Settings) (q : Sought) : Type 0 where
-  pub bytes : (i : ℕ) → getD ram i 0 < 256
-  pub starts : Starts ram (q .cell) (codesOf s) (q .starts)
-  pub height : q .height ≡ atLeastOne (s .ch)
+-- the parts of a frame that are looked at: do they read the cell?
+abbrev pub rowRead : List ℕ → Sought → Bool → ℕ → Bool
+rowRead ram q shown a = rowReads ram (q .cell) shown (q .codes) a
 
--- the row at an address was looked at
-abbrev pub RowLooked : Sought → Bool → ℕ → List ℕ → ℕ → List ℕ → Looked → Type 0
-RowLooked q shown a rows k rows′ r =
-    (ram : List ℕ) (n : ℕ) → Starts ram (q .cell) n (q .starts) → Adds ram (q .cell) n (rowReads ram (q .cell) shown n a) rows k rows′ r
+abbrev pub stripRead : List ℕ → Sought → ℕ → Strip → Bool
+stripRead ram q k strip = stripReads ram (q .settings) k strip (q .cell)
 
--- so many lines of a strip
-abbrev pub StripLooked : Sought → Strip → ℕ → List ℕ → ℕ → List ℕ → Looked → Type 0
-StripLooked q strip lines rows k rows′ r =
-    (ram : List ℕ) (s : Settings) → Ready ram s q → Adds ram (q .cell) (codesOf s) (stripReads ram s lines strip (q .cell)) rows k rows′ r
+abbrev pub wholeRead : List ℕ → Sought → ℕ → ℕ → Bool
+wholeRead ram q low high =
+    stripRead ram q (linesLeft (stripOf (q .settings .ch) low high)) (stripOf (q .settings .ch) low high)
 
--- all lines of the strip of a descriptor
-abbrev pub WholeLooked : Sought → ℕ → ℕ → List ℕ → ℕ → List ℕ → Looked → Type 0
-WholeLooked q low high rows k rows′ r =
-    StripLooked q (stripOf (q .height) low high) (linesLeft (stripOf (q .height) low high)) rows k rows′ r
+abbrev pub linesRead : List ℕ → Sought → ℕ → ℕ → Bool
+linesRead ram q left a = among (q .cell) (cells ram (remaining (q .settings) left (record { descriptor = a; strip = Spacing 0 })))
 
--- the lines from a descriptor on
-abbrev pub LinesLooked : List ℕ → Sought → ℕ → ℕ → List ℕ → ℕ → List ℕ → Looked → Type 0
-LinesLooked ram q left a rows k rows′ r =
-    (s : Settings) → Ready ram s q
-    → Adds ram (q .cell) (codesOf s) (among (q .cell) (cells ram (remaining s left (record { descriptor = a; strip = Spacing 0 })))) rows k rows′ r
+-- b says whether such a part reads the cell. It was looked at: the cell was found, and a row marked before shows its user character
+-- or b holds; or it was not, and the rows that are now marked show it exactly then
+pub record Adds (ram : List ℕ) (q : Sought) (b : Bool) (marks marks′ : List ℕ) (r : Looked) : Type 0 where
+  pub kept : Kept marks′
+  pub far : Far ram q (r .near)
+  pub hit : r .found ≡ true → anyRow ram (q .cell) (q .codes) marks || b ≡ true
+  pub miss : r .found ≡ false → anyRow ram (q .cell) (q .codes) marks′ ≡ anyRow ram (q .cell) (q .codes) marks || b

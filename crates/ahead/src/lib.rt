@@ -1,14 +1,14 @@
 // What the frame's remaining lines read. The strips are walked once, each in constant time: a strip's row reads the cell as a code
-// if it starts closely before it; the rows that show the cell's slice are listed, and then looked through for its user character.
+// if it starts closely before it; the rows that show the cell's slice are marked, and then looked through for its user character.
 ghost use mathlib.Core.Path.{_≡_};
-ghost use Prim.Native.Nat.{_≤_, _<_, min, max};
+ghost use Prim.Native.Nat.{ℕ, _+_, _*_, _≤_, _<_, min, max};
 ghost use lib.ListN.{length};
 ghost use Rattle.limits.specs.Limits.{ramLength};
 ghost use Rattle.cells.specs.Reading.{cells, among};
 ghost use Rattle.raster.specs.Raster.{linesAfter};
 ghost use Rattle.walk.specs.Walk.{linesLeft};
 ghost use Rattle.ahead.specs.Ahead.{remaining};
-ghost use Rattle.ahead.specs.Looking.{codesOf, userShown, Starts, Kept, anyRow, Listed, partReads, Posed, Ready, RowLooked, StripLooked, WholeLooked, LinesLooked};
+ghost use Rattle.ahead.specs.Looking.{codesAtMost, userReads, userShown, Starts, Far, Kept, Marks, ZerosOf, Lowest, NextRow, OwnCodes, anyRow, rowRead, stripRead, wholeRead, linesRead, Posed, Adds};
 use raster::ScanLine;
 use registers::Settings;
 use walk::Strip;
@@ -17,18 +17,17 @@ use walk::Walk;
 // What is looked for in each strip.
 pub struct Sought {
     pub cell: u16,
-    // rows that start at so many addresses, the cell's own and those before it, read it as a code
-    pub starts: u16,
-    // CH of strips that begin
-    pub height: u8,
-    // a strip of that height, shown whole, shows the cell's slice
+    pub settings: Settings,
+    // the codes that a line reads at the most
+    pub codes: u16,
+    // a strip that begins, shown whole, shows the cell's slice
     pub whole: bool,
 }
 
-// A strip was looked at: the cell was found, or so many rows are listed.
+// A strip was looked at: the cell was found, or only rows that start fewer codes before it than `near` can read it as a code.
 pub struct Looked {
     pub found: bool,
-    pub listed: u16,
+    pub near: u16,
 }
 
 fn least(a: u16, b: u16) -> u16
@@ -44,8 +43,8 @@ fn most(a: u16, b: u16) -> u16
 }
 
 // The codes that a line reads at the most.
-fn codes(settings: Settings) -> u16
-    ensures { λ r. ⌜ r ≡ codesOf settings ⌝ }
+fn most_codes(settings: Settings) -> u16
+    ensures { λ r. ⌜ r ≡ codesAtMost settings ⌝ }
 {
     if settings.osd {
         return raster::characters(settings.ld, settings.dd);
@@ -59,7 +58,7 @@ fn starts(ram: &[u8], n: u16, cell: u16) -> u16
     requires { ⌜ cell < ramLength ⌝ }
     ensures { λ r. ⌜ Starts (now (ram .entry)) cell n r ⌝ }
 {
-    let own = (cell / 2) as usize;
+    let own = cell as usize / 2;
     let mut m = 0;
     while m < n {
         m += 1;
@@ -82,70 +81,72 @@ fn user_shown(line: ScanLine, k: u16, height: u8, zoom: bool, cell: u16) -> bool
     false
 }
 
-// A row is listed once.
-fn list_row(marks: &mut [u8; 512], rows: &mut [u16; 512], listed: u16, address: u16) -> u16
-    requires { ⌜ Kept (now marks) (now rows) listed ⌝ }
-    ensures { λ r. ⌜ Listed (now (rows .entry)) listed address (now (marks .exit)) (now (rows .exit)) r ⌝ }
+// Rows are marked by a bit each.
+fn mark(marks: &mut [u32; 16], address: u16)
+    requires { ⌜ Kept (now marks) ⌝ }
+    ensures { λ _. ⌜ Marks (now (marks .entry)) address (now (marks .exit)) ⌝ }
 {
-    let p = (address / 2 % 512) as usize;
-    if marks[p] != 0 {
-        return listed;
-    }
-    marks[p] = 1;
-    rows[listed as usize] = address;
-    listed + 1
+    let p = address as usize / 2 % 512;
+    marks[p / 32] = marks[p / 32] | 1u32 << (p % 32) as u32;
 }
 
-// The row at an address: it reads the cell as a code, or is listed where it shows the cell's slice.
+// The row at an address: it reads the cell as a code, or is marked where it shows the cell's slice. Only a row that starts near
+// the cell is reason to look back from there.
 fn look_row(
-    marks: &mut [u8; 512],
-    rows: &mut [u16; 512],
-    listed: u16,
+    ram: &[u8],
+    marks: &mut [u32; 16],
+    near: u16,
     sought: Sought,
     address: u16,
     shown: bool,
 ) -> Looked
-    requires { ⌜ Kept (now marks) (now rows) listed ⌝ }
+    requires { ⌜ length (now ram) ≡ ramLength ⌝ }
     requires { ⌜ Posed sought ⌝ }
-    ensures { λ r. ⌜ Kept (now (marks .exit)) (now (rows .exit)) (r .listed) ⌝ }
-    ensures { λ r. ⌜ RowLooked sought shown address (now (rows .entry)) listed (now (rows .exit)) r ⌝ }
+    requires { ⌜ Kept (now marks) × Far (now ram) sought near ⌝ }
+    ensures { λ r. ⌜ Adds (now (ram .entry)) sought (rowRead (now (ram .entry)) sought shown address) (now (marks .entry)) (now (marks .exit)) r ⌝ }
 {
-    if (sought.cell / 2 + 512 - address / 2 % 512) % 512 < sought.starts {
-        return Looked {
-            found: true,
-            listed: listed,
-        };
+    let back = (sought.cell / 2 + 512 - address / 2 % 512) % 512;
+    let mut reached = near;
+    if back < near {
+        reached = starts(ram, sought.codes, sought.cell);
+        if back < reached {
+            return Looked {
+                found: true,
+                near: reached,
+            };
+        }
     }
     if shown {
+        mark(marks, address);
         return Looked {
             found: false,
-            listed: list_row(marks, rows, listed, address),
+            near: reached,
         };
     }
     Looked {
         found: false,
-        listed: listed,
+        near: reached,
     }
 }
 
 // The next k lines of a strip.
 fn look_strip(
-    marks: &mut [u8; 512],
-    rows: &mut [u16; 512],
-    listed: u16,
+    ram: &[u8],
+    marks: &mut [u32; 16],
+    near: u16,
     sought: Sought,
     strip: Strip,
     k: u16,
 ) -> Looked
-    requires { ⌜ Kept (now marks) (now rows) listed ⌝ }
+    requires { ⌜ length (now ram) ≡ ramLength ⌝ }
     requires { ⌜ Posed sought ⌝ }
+    requires { ⌜ Kept (now marks) × Far (now ram) sought near ⌝ }
     requires { ⌜ k ≤ linesLeft strip ⌝ }
-    ensures { λ r. ⌜ Kept (now (marks .exit)) (now (rows .exit)) (r .listed) ⌝ }
-    ensures { λ r. ⌜ StripLooked sought strip k (now (rows .entry)) listed (now (rows .exit)) r ⌝ }
+    ensures { λ r. ⌜ Adds (now (ram .entry)) sought (stripRead (now (ram .entry)) sought k strip) (now (marks .entry)) (now (marks .exit)) r ⌝ }
 {
     let none = Looked {
         found: false,
-        listed: listed,
+        near: near,
     };
     if k == 0 {
         return none;
@@ -163,91 +164,89 @@ fn look_strip(
                 return none;
             }
             let shown = user_shown(line, k, height, zoom, sought.cell);
-            look_row(marks, rows, listed, sought, address, shown)
+            look_row(ram, marks, near, sought, address, shown)
         }
     }
 }
 
 // The strip of a descriptor, of which all lines are shown.
 fn look_whole(
-    marks: &mut [u8; 512],
-    rows: &mut [u16; 512],
-    listed: u16,
+    ram: &[u8],
+    marks: &mut [u32; 16],
+    near: u16,
     sought: Sought,
     low: u8,
     high: u8,
 ) -> Looked
-    requires { ⌜ Kept (now marks) (now rows) listed ⌝ }
+    requires { ⌜ length (now ram) ≡ ramLength ⌝ }
     requires { ⌜ Posed sought ⌝ }
-    ensures { λ r. ⌜ Kept (now (marks .exit)) (now (rows .exit)) (r .listed) ⌝ }
-    ensures { λ r. ⌜ WholeLooked sought low high (now (rows .entry)) listed (now (rows .exit)) r ⌝ }
+    requires { ⌜ Kept (now marks) × Far (now ram) sought near ⌝ }
+    ensures { λ r. ⌜ Adds (now (ram .entry)) sought (wholeRead (now (ram .entry)) sought low high) (now (marks .entry)) (now (marks .exit)) r ⌝ }
 {
     if walk::shows_codes(high) {
         let address = walk::code_address(low, high);
-        return look_row(marks, rows, listed, sought, address, sought.whole);
+        return look_row(ram, marks, near, sought, address, sought.whole);
     }
     Looked {
         found: false,
-        listed: listed,
+        near: near,
     }
 }
 
 // The lines from a descriptor on. Descriptors go round all of RAM, so within 512 strips they meet the cell or the frame's end.
 fn look_lines(
     ram: &[u8],
-    marks: &mut [u8; 512],
-    rows: &mut [u16; 512],
-    already: u16,
+    marks: &mut [u32; 16],
+    nearest: u16,
     sought: Sought,
     all: u16,
     descriptor: u16,
 ) -> Looked
     requires { ⌜ length (now ram) ≡ ramLength ⌝ }
-    requires { ⌜ Kept (now marks) (now rows) already ⌝ }
     requires { ⌜ Posed sought ⌝ }
-    ensures { λ r. ⌜ Kept (now (marks .exit)) (now (rows .exit)) (r .listed) ⌝ }
-    ensures { λ r. ⌜ LinesLooked (now (ram .entry)) sought all descriptor (now (rows .entry)) already (now (rows .exit)) r ⌝ }
+    requires { ⌜ Kept (now marks) × Far (now ram) sought nearest ⌝ }
+    ensures { λ r. ⌜ Adds (now (ram .entry)) sought (linesRead (now (ram .entry)) sought all descriptor) (now (marks .entry)) (now (marks .exit)) r ⌝ }
 {
     let own = (sought.cell / 2) as usize;
-    let mut p = (descriptor / 2 % 512) as usize;
+    let mut p = descriptor as usize / 2 % 512;
     let mut left = all;
-    let mut listed = already;
+    let mut near = nearest;
     while left > 0 {
         if own == p {
             return Looked {
                 found: true,
-                listed: listed,
+                near: near,
             };
         }
         let low = ram[2 * p];
         let high = ram[2 * p + 1];
-        let lines = walk::strip_lines(sought.height, low, high);
+        let lines = walk::strip_lines(sought.settings.ch, low, high);
         if left < lines {
-            let strip = Strip::of_descriptor(sought.height, low, high);
-            return look_strip(marks, rows, listed, sought, strip, left);
+            let strip = Strip::of_descriptor(sought.settings.ch, low, high);
+            return look_strip(ram, marks, near, sought, strip, left);
         }
-        let looked = look_whole(marks, rows, listed, sought, low, high);
+        let looked = look_whole(ram, marks, near, sought, low, high);
         if looked.found {
             return looked;
         }
-        listed = looked.listed;
+        near = looked.near;
         left -= lines;
         p = (p + 1) % 512;
     }
     Looked {
         found: false,
-        listed: listed,
+        near: near,
     }
 }
 
-// Do the codes of a row, n at the most, show the cell's user character before the next marked row, which sees the rest?
-fn part_reads<'a>(ram: &'a [u8], marks: &'a [u8; 512], address: u16, n: u16, cell: u16) -> bool
+// Do the codes of a row, n at the most, show the cell's user character?
+fn row_reads(ram: &[u8], row: usize, n: usize, cell: u16) -> bool
     requires { ⌜ length (now ram) ≡ ramLength ⌝ }
-    requires { ⌜ cell < ramLength ⌝ }
-    ensures { λ r. ⌜ r ≡ partReads (now (ram .entry)) (now (marks .entry)) cell n address ⌝ }
+    requires { ⌜ (row < 512) × (cell < ramLength) ⌝ }
+    ensures { λ r. ⌜ r ≡ userReads (now (ram .entry)) cell n (2 * row) ⌝ }
 {
     let user = glyph::user_high(cell);
-    let mut p = (address / 2 % 512) as usize;
+    let mut p = row;
     let mut left = n;
     while left > 0 {
         let high = ram[2 * p + 1];
@@ -259,49 +258,102 @@ fn part_reads<'a>(ram: &'a [u8], marks: &'a [u8; 512], address: u16, n: u16, cel
         }
         left -= 1;
         p = (p + 1) % 512;
-        if marks[p] != 0 {
-            return false;
-        }
     }
     false
 }
 
-// Does one of the listed rows show the cell's user character?
-fn rows_read<'a>(
-    ram: &'a [u8],
-    marks: &'a [u8; 512],
-    rows: &'a [u16; 512],
-    listed: u16,
-    n: u16,
-    cell: u16,
-) -> bool
-    requires { ⌜ length (now ram) ≡ ramLength ⌝ }
-    requires { ⌜ cell < ramLength ⌝ }
-    requires { ⌜ Kept (now marks) (now rows) listed ⌝ }
-    ensures { λ r. ⌜ r ≡ anyRow (now (ram .entry)) cell n (now (rows .entry)) listed ⌝ }
+// The zeros at the low end of a word, as far as they were passed, and the word without them. They are passed by halves: the kit's
+// count of them is compiled into a table on RISC-V, and a port has no data of its own.
+pub struct Passed {
+    pub zeros: usize,
+    pub rest: u32,
+}
+
+// Passes h zeros, if there are as many.
+fn pass_zeros(low: Passed, h: u32) -> Passed
+    requires { ⌜ (low .zeros ≤ 32) × (h ≤ 16) ⌝ }
+    ensures { λ r. ⌜ (r .zeros ≤ low .zeros + h) × ((x : ℕ) → ZerosOf x (h + h) low → ZerosOf x h r) ⌝ }
 {
-    let mut i = 0;
-    while i < listed {
-        if part_reads(ram, marks, rows[i as usize], n, cell) {
+    if low.rest % (1 << h) == 0 {
+        return Passed {
+            zeros: low.zeros + h as usize,
+            rest: low.rest >> h,
+        };
+    }
+    low
+}
+
+// The place of the lowest bit that is set.
+fn lowest(x: u32) -> usize
+    requires { ⌜ (x ≡ 0 → ⊥) ⌝ }
+    ensures { λ r. ⌜ Lowest x r ⌝ }
+{
+    let by_16 = pass_zeros(Passed { zeros: 0, rest: x }, 16);
+    let by_8 = pass_zeros(by_16, 8);
+    let by_4 = pass_zeros(by_8, 4);
+    let by_2 = pass_zeros(by_4, 2);
+    let by_1 = pass_zeros(by_2, 1);
+    by_1.zeros
+}
+
+// The first marked row from a row on, or 512.
+fn next_row(marks: &[u32; 16], from: usize) -> usize
+    requires { ⌜ Kept (now marks) × (from ≤ 512) ⌝ }
+    ensures { λ r. ⌜ NextRow (now (marks .entry)) from r ⌝ }
+{
+    let mut p = from;
+    while p < 512 {
+        let rest = marks[p / 32] >> (p % 32) as u32;
+        if rest != 0 {
+            return p + lowest(rest);
+        }
+        p = (p / 32 + 1) * 32;
+    }
+    512
+}
+
+// A row is looked through up to the next marked one, which sees the rest.
+fn own_codes(n: usize, row: usize, next: usize) -> usize
+    requires { ⌜ row ≤ next ⌝ }
+    ensures { λ r. ⌜ OwnCodes n row next r ⌝ }
+{
+    if next >= 512 {
+        return n;
+    }
+    if n < next - row {
+        return n;
+    }
+    next - row
+}
+
+// Does one of the marked rows show the cell's user character?
+fn rows_read<'a>(ram: &'a [u8], marks: &'a [u32; 16], n: u16, cell: u16) -> bool
+    requires { ⌜ length (now ram) ≡ ramLength ⌝ }
+    requires { ⌜ Kept (now marks) × (cell < ramLength) ⌝ }
+    ensures { λ r. ⌜ r ≡ anyRow (now (ram .entry)) cell n (now (marks .entry)) ⌝ }
+{
+    let mut row = next_row(marks, 0);
+    while row < 512 {
+        let next = next_row(marks, row + 1);
+        let own = own_codes(n as usize, row, next);
+        if row_reads(ram, row, own, cell) {
             return true;
         }
-        i += 1;
+        row = next;
     }
     false
 }
 
 // What is looked for, of a cell.
-fn seek(ram: &[u8], settings: Settings, n: u16, cell: u16) -> Sought
-    requires { ⌜ length (now ram) ≡ ramLength ⌝ }
+fn seek(settings: Settings, cell: u16) -> Sought
     requires { ⌜ cell < ramLength ⌝ }
-    requires { ⌜ n ≡ codesOf settings ⌝ }
-    ensures { λ r. ⌜ (r .cell ≡ cell) × (Posed r × Ready (now (ram .entry)) settings r) ⌝ }
+    ensures { λ r. ⌜ (r .cell ≡ cell) × (r .settings ≡ settings) × Posed r ⌝ }
 {
     let height = most(1, settings.ch as u16);
     Sought {
         cell: cell,
-        starts: starts(ram, n, cell),
-        height: height as u8,
+        settings: settings,
+        codes: most_codes(settings),
         whole: user_shown(ScanLine::before_first(), height, height as u8, false, cell),
     }
 }
@@ -312,21 +364,18 @@ pub fn reads(ram: &[u8], settings: Settings, left: u16, walk: Walk, cell: u16) -
     requires { ⌜ cell < ramLength ⌝ }
     ensures { λ r. ⌜ r ≡ among cell (cells (now (ram .entry)) (remaining settings left walk)) ⌝ }
 {
-    let mut marks = [0u8; 512];
-    let mut rows = [0u16; 512];
-    let n = codes(settings);
-    let sought = seek(ram, settings, n, cell);
+    let mut marks = [0u32; 16];
+    let sought = seek(settings, cell);
     let strip = walk.strip;
     let k = least(strip.lines_left(), left);
-    let first = look_strip(&mut marks, &mut rows, 0, sought, strip, k);
+    let first = look_strip(ram, &mut marks, sought.codes, sought, strip, k);
     if first.found {
         return true;
     }
     let looked = look_lines(
         ram,
         &mut marks,
-        &mut rows,
-        first.listed,
+        first.near,
         sought,
         left - k,
         walk.descriptor,
@@ -334,5 +383,5 @@ pub fn reads(ram: &[u8], settings: Settings, left: u16, walk: Walk, cell: u16) -
     if looked.found {
         return true;
     }
-    rows_read(ram, &marks, &rows, looked.listed, n, cell)
+    rows_read(ram, &marks, sought.codes, cell)
 }

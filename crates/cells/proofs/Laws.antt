@@ -2,11 +2,11 @@
 -- agree on the cells read cannot be told apart.
 -- Assumes nothing.
 use Prim.Native.Nat.{ℕ, _+_}
-use mathlib.Core.Path.{_≡_, refl, sym, ap, _∙_, subst}
+use mathlib.Core.Path.{_≡_, refl, ap, _∙_, subst}
 use mathlib.Core.Bool.{Bool, true, false, _||_}
 use mathlib.Core.List.{List, [], _∷_, _++_}
 use lib.Dec.{T, eqb, eqb-refl}
-use lib.ListN.{getD, length, length-append}
+use lib.ListN.{getD}
 use Rattle.cells.specs.Reading.{Reading, done, read, bind, fmap, value, cells, among, Alike}
 
 -- ---- one program after another

@@ -3,13 +3,13 @@
 use Prim.Native.Nat.{ℕ, zero, suc, _-_, _≤_}
 use mathlib.Core.Path.{_≡_, refl, sym, ap, ap₂, _∙_, subst}
 use mathlib.Core.Bool.{Bool, true, false, not, cond, true≢false}
-use mathlib.Core.List.{List, [], _∷_, _++_}
+use mathlib.Core.List.{List, _++_}
 use native.Mathlib.Numerals.{sub-one}
 use borrow.Author.Tests.{ltb-false}
 use lib.Dec.{T, eqb, leb, ltb}
 use lib.ListN.{length, drop}
 use Rattle.runs.proofs.Laws.{as-made-map, kept-by-each, Apart, reordered}
-use Rattle.cells.specs.Reading.{Reading, done, bind, value, cells, among, Alike}
+use Rattle.cells.specs.Reading.{bind, value, cells, among, Alike}
 use Rattle.cells.proofs.Laws.{cells-bind, value-alike, cells-alike, alike-left, alike-right, unread-right}
 use Rattle.refusals.specs.declared.Refusal.{Refusal}
 use Rattle.refusals.specs.declared.Refusal.the-variants.{RamLength, FontLength, LineLength, NoLine, CellRange}
@@ -21,12 +21,11 @@ use Rattle.raster.specs.Raster.{widthOf}
 use Rattle.bus.specs.declared.Event.{Event}
 use Rattle.bus.proofs.Laws.{busEvent-length}
 use Rattle.walk.specs.declared.Walk.{Walk}
-use Rattle.line.specs.Line.{Scanned, scan, paint}
+use Rattle.line.specs.Line.{scan, paint}
 use Rattle.ahead.specs.Ahead.{remaining}
 use Rattle.device.specs.declared.Device.{Device}
-use Rattle.device.specs.declared.Frame.{Frame}
-use Rattle.device.specs.Device.{EventOutcome, hearEvent, DrawOutcome, drawVerdict, drawBy, drawLine, nextScan, pixelsOf, lineOn, lineDrawn, lineWidth, notDrawn, cellsLeft, askCell}
-use Rattle.device.specs.OnePage.{Call, draw, ask, event, State, Answer, drawn, asked, heard, answer, after, isEvent, calls, Quiet, QuietCall, OnePage}
+use Rattle.device.specs.Device.{hearEvent, DrawOutcome, drawVerdict, drawBy, drawLine, nextScan, pixelsOf, lineOn, lineDrawn, lineWidth, notDrawn, cellsLeft, askCell}
+use Rattle.device.specs.OnePage.{Call, draw, ask, event, State, drawn, asked, heard, answer, after, isEvent, calls, Quiet, QuietCall, OnePage}
 use Rattle.device.specs.Use.{EventQuiet, WritesAlone, NoStays}
 use Rattle.device.proofs.Quiet.{quiet-if-write, says-no}
 

@@ -1,9 +1,9 @@
 -- The proof of what a host can act on (specs/Use.antt).
 -- Assumes nothing.
-use Prim.Native.Nat.{ℕ, zero, suc, _-_, _/_, _%_, _^_, _≤_, _<_}
+use Prim.Native.Nat.{ℕ, _-_, _≤_, _<_}
 use mathlib.Core.Path.{_≡_, refl, sym, ap, _∙_, subst}
-use mathlib.Core.Bool.{Bool, true, false, not, cond, true≢false}
-use mathlib.Core.List.{List, [], _∷_}
+use mathlib.Core.Bool.{Bool, true, false, not, cond}
+use mathlib.Core.List.{List}
 use native.Mathlib.Omega.{arith}
 use borrow.Author.Tests.{lt-ltb, le-ltb, le-leb, lt-leb, eqb-false, leb-false}
 use lib.Dec.{T, eqb, leb}
@@ -22,9 +22,8 @@ use Rattle.bus.specs.declared.Effect.the-variants.{Acknowledge, Ignore, Store, 
 use Rattle.bus.specs.declared.BusState.the-variants.{Write}
 use Rattle.bus.specs.declared.Bus.{Bus}
 use Rattle.bus.specs.declared.Step.{Step}
-use Rattle.bus.specs.Bus.{BusOutcome, busEvent, step, byteAt, address, taken, ramWith, registersWith, answerTo, busReply}
+use Rattle.bus.specs.Bus.{BusOutcome, busEvent, step, address, taken, ramWith, registersWith, answerTo, busReply}
 use Rattle.bus.proofs.Laws.{by-event, byte-at}
-use Rattle.device.specs.declared.Device.{Device}
 use Rattle.device.specs.Device.{hearEvent, askCell, cellsLeft}
 use Rattle.device.specs.OnePage.{State, effectOf, Stores, Quiet}
 use Rattle.device.specs.Use.{QuietEvents}

@@ -2,8 +2,8 @@
 -- start of "Walk of a frame", "Refusal numbers" with their order, and the cell question.
 -- Assumes nothing.
 use Prim.Native.Nat.{ℕ, _+_, _-_, _%_}
-use mathlib.Core.Bool.{Bool, true, false, not, cond, _||_}
-use mathlib.Core.List.{List, [], _∷_, _++_}
+use mathlib.Core.Bool.{not, cond, _||_}
+use mathlib.Core.List.{List, _++_}
 use lib.Dec.{eqb, leb, ltb}
 use lib.ListN.{length, drop}
 use Rattle.limits.specs.Limits.{ramLength, fontLength, frameLines}
@@ -18,7 +18,6 @@ use Rattle.bus.specs.Bus.{freshBus, BusOutcome, busEvent, busReply}
 use Rattle.walk.specs.Walk.{walkFrom}
 use Rattle.line.specs.Line.{Scanned, scan, paint}
 use Rattle.ahead.specs.Ahead.{remaining}
-use Rattle.device.specs.declared.Frame.{Frame}
 use Rattle.device.specs.declared.Device.{Device}
 use Rattle.device.specs.declared.EventDone.{EventDone}
 use Rattle.device.specs.declared.StartDone.{StartDone}

@@ -5,7 +5,6 @@ use mathlib.Core.Bool.{Bool}
 use lib.Dec.{ltb}
 use Rattle.limits.specs.Limits.{userCells}
 use Rattle.raster.specs.declared.Slice.{Slice}
-use Rattle.glyph.specs.Glyph.{userCell}
 
 -- it is a cell of the user characters 0 to 25
 abbrev pub ofUser : ℕ → Bool

@@ -1,24 +1,18 @@
 -- The interface for firmware (include/osd.h): each function does on the bytes of the record what the device's function does on the
 -- record that they are read as.
 -- Assumes nothing.
-use Prim.Native.Nat.{ℕ, _+_, _-_, _*_, _%_, _≤_, _<_}
+use Prim.Native.Nat.{ℕ, _+_, _-_, _*_, _≤_, _<_}
 use mathlib.Core.Path.{_≡_}
 use mathlib.Core.Bool.{Bool, not, cond, _&&_}
 use mathlib.Core.List.{List}
 use lib.Dec.{eqb, ltb}
-use lib.ListN.{length, getD, set}
-use lib.Bits.{bitAnd}
+use lib.ListN.{length, set}
 use Rattle.limits.specs.Limits.{ramLength}
 use Rattle.refusals.specs.declared.Refusal.the-variants.{NotAcknowledged}
 use Rattle.refusals.specs.Refusals.{Reply, refused}
-use Rattle.registers.specs.Registers.{kept}
 use Rattle.bus.specs.declared.BusState.{BusState}
 use Rattle.bus.specs.declared.BusState.the-variants.{Slave}
-use Rattle.bus.specs.declared.Event.{Event}
-use Rattle.bus.specs.declared.Step.{Step}
-use Rattle.bus.specs.declared.Effect.{Effect}
-use Rattle.bus.specs.declared.Effect.the-variants.{Acknowledge, Ignore, Store, Load}
-use Rattle.bus.specs.Bus.{eventOf, step, isRegister, BusOutcome, taken}
+use Rattle.bus.specs.Bus.{eventOf, BusOutcome}
 use Rattle.device.specs.Device.{freshDevice, EventOutcome, hearEvent, StartOutcome, startFrame, DrawOutcome, drawLine, askCell}
 use Rattle.layout.specs.Layout.{busAt, registersAt, nextAt, frameAt, recordLength, put, stateNumber, busBytes, nextBytes, frameBytes, deviceBytes, deviceIn}
 

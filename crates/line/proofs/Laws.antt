@@ -1,14 +1,14 @@
 -- The laws of a line: it has W pixels, each below 16; it reads at most 246 cells, each below 1,024.
 -- Assumes nothing.
 use Prim.Native.Nat.{ℕ, zero, suc, _+_, _-_, _*_, _≤_, _<_, min}
-use mathlib.Core.Path.{_≡_, refl, sym, ap, _∙_, subst}
+use mathlib.Core.Path.{_≡_, subst}
 use mathlib.Core.Bool.{Bool, true, false, cond}
 use mathlib.Core.List.{List, [], _∷_, _++_}
 use native.Mathlib.Omega.{arith}
-use lib.ListN.{length, getD, take, replicate, length-append, length-take, length-replicate}
+use lib.ListN.{length, getD, replicate, length-append, length-take, length-replicate}
 use Rattle.facts.proofs.Choice.{either}
-use Rattle.cells.specs.Reading.{Reading, done, read, bind, fmap, value, cells}
-use Rattle.cells.proofs.Bounds.{Gives, Within, AtMost, gives-all, within-done, atMost-done, within-bind, within-fmap, within-cond, atMost-more, atMost-bind, atMost-fmap, atMost-cond}
+use Rattle.cells.specs.Reading.{done}
+use Rattle.cells.proofs.Bounds.{Within, AtMost, gives-all, within-done, atMost-done, within-bind, within-fmap, within-cond, atMost-more, atMost-bind, atMost-fmap, atMost-cond}
 use Rattle.registers.specs.declared.Settings.{Settings}
 use Rattle.registers.specs.declared.Registers.{Registers}
 use Rattle.registers.specs.Registers.{settingsOf}
@@ -19,13 +19,13 @@ use Rattle.raster.proofs.Rules.{slice-range}
 use Rattle.walk.specs.declared.Strip.{Strip}
 use Rattle.walk.specs.declared.Strip.the-variants.{Spacing, Characters}
 use Rattle.walk.specs.declared.Walk.{Walk}
-use Rattle.walk.specs.Walk.{even, next, nextLine, OnLine}
+use Rattle.walk.specs.Walk.{next, nextLine, OnLine}
 use Rattle.walk.proofs.Laws.{even-bound, nextLine-on, nextLine-within, nextLine-most}
 use Rattle.glyph.specs.Glyph.{Glyph, endsLine, glyphOf, bitsOf}
 use Rattle.glyph.proofs.Laws.{glyphOf-within, glyphOf-most}
 use Rattle.paint.specs.Pixels.{plainOf}
 use Rattle.paint.proofs.Laws.{Pixels, pixels-at, pixels-append, pixels-take, pixels-replicate, twelve-length, twelve-pixels}
-use Rattle.line.specs.Line.{Place, codes, rowOf, shownRow, Scanned, scan, character, painted, paint}
+use Rattle.line.specs.Line.{Place, codes, rowOf, shownRow, scan, character, painted, paint}
 
 -- ---- the cells that a line reads
 

@@ -1,13 +1,13 @@
 -- From rows of characters to lines of a strip, and to the frame's next line.
 -- Assumes nothing.
-use Prim.Native.Nat.{ℕ, _+_, _-_, _*_, _/_, _≤_, _<_, min}
+use Prim.Native.Nat.{ℕ, _+_, _-_, _≤_, _<_, min}
 use mathlib.Core.Path.{_≡_, refl, sym, ap, ap₂, _∙_, subst, subst₂}
-use mathlib.Core.Bool.{Bool, true, false, cond}
+use mathlib.Core.Bool.{Bool, true, false}
 use mathlib.Core.List.{List, [], _++_, append-assoc}
 use native.Mathlib.Omega.{arith}
 use lib.ListN.{length, take, drop, replicate, length-append, length-replicate, replicate-append-replicate}
 use lib.Seq.{take-at, drop-at}
-use Rattle.cells.specs.Reading.{Reading, done, fmap, value, cells}
+use Rattle.cells.specs.Reading.{Reading, done, value, cells}
 use Rattle.cells.proofs.Laws.{value-bind, cells-bind, value-fmap, cells-fmap}
 use Rattle.cells.proofs.Bounds.{gives-value, atMost-length}
 use Rattle.registers.specs.declared.Registers.{Registers}
@@ -25,7 +25,7 @@ use Rattle.walk.specs.declared.Walked.{Walked}
 use Rattle.walk.proofs.Laws.{nextLine-on}
 use Rattle.line.specs.declared.Pen.{Pen}
 use Rattle.paint.specs.Pixels.{plainOf}
-use Rattle.line.specs.Line.{Place, rowOf, shownRow, Scanned, scan, painted, paint}
+use Rattle.line.specs.Line.{Place, rowOf, shownRow, Scanned, scan, paint}
 use Rattle.line.specs.Contracts.{roomOf, RowDrawn, CharactersDrawn, StripDrawn, LineDrawn}
 use Rattle.line.proofs.Laws.{line-most}
 use Rattle.line.proofs.Turns.{drop-from, no-room, no-reads, painted-none}

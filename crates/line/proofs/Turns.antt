@@ -18,7 +18,7 @@ use Rattle.cells.proofs.Bounds.{atMost-length}
 use Rattle.raster.specs.declared.Slice.{Slice}
 use Rattle.walk.specs.Walk.{even, next}
 use Rattle.glyph.specs.declared.Word.{Word}
-use Rattle.glyph.specs.Glyph.{Glyph, endsLine, glyphOf, inRam}
+use Rattle.glyph.specs.Glyph.{endsLine, glyphOf, inRam}
 use Rattle.glyph.specs.Words.{wordIn}
 use Rattle.glyph.proofs.Laws.{glyphOf-most, word-low}
 use Rattle.paint.specs.declared.Fours.{Fours}

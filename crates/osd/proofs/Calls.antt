@@ -1,15 +1,14 @@
 -- Each call of the interface, from what the device's function returned: the cases of the definitions.
 -- Assumes nothing.
-use Prim.Native.Nat.{ℕ, _+_, _-_, _%_, _≤_, _<_}
+use Prim.Native.Nat.{ℕ, _+_, _-_, _%_, _≤_}
 use mathlib.Core.Path.{_≡_, refl, sym, ap, ap₂, _∙_}
-use mathlib.Core.Bool.{Bool, true, false, not, cond, _&&_, and-false, true≢false}
+use mathlib.Core.Bool.{Bool, true, false, cond}
 use mathlib.Core.List.{List, [], _∷_}
 use native.Mathlib.Omega.{arith}
-use borrow.Author.Tests.{eq-eqb, ne-eqb, lt-ltb, le-ltb, eqb-true, ltb-false}
-use lib.Dec.{eqb, ltb}
+use borrow.Author.Tests.{eq-eqb, ne-eqb}
+use lib.Dec.{eqb}
 use lib.Bits.{bitAnd}
 use lib.ListN.{length, getD, set}
-use lib.Seq.{set-getD}
 use Rattle.refusals.specs.declared.Refusal.{Refusal}
 use Rattle.refusals.specs.declared.Refusal.the-variants.{RamLength, NotAcknowledged}
 use Rattle.refusals.proofs.Laws.{not-zero}
@@ -28,9 +27,9 @@ use Rattle.device.specs.declared.StartDone.{StartDone}
 use Rattle.device.specs.declared.DrawDone.{DrawDone}
 use Rattle.device.specs.declared.StartAnswer.the-variants as start
 use Rattle.device.specs.declared.DrawAnswer.the-variants as draw
-use Rattle.device.specs.Device.{freshDevice, hearEvent, startOutcome, startFrame, drawOutcome, drawLine, askCell}
-use Rattle.layout.specs.Layout.{busAt, busLength, registersAt, registersLength, nextAt, frameAt, recordLength, part, put, stateNumber, busBytes, nextBytes, frameBytes, deviceBytes, deviceIn}
-use Rattle.facts.proofs.Parts.{getD-part, sets-comm, sets-part, set-part}
+use Rattle.device.specs.Device.{freshDevice, startOutcome, startFrame, drawOutcome, drawLine, askCell}
+use Rattle.layout.specs.Layout.{busAt, busLength, registersAt, registersLength, nextAt, frameAt, recordLength, put, stateNumber, busBytes, nextBytes, frameBytes, deviceBytes, deviceIn}
+use Rattle.facts.proofs.Parts.{sets-comm, sets-part, set-part}
 use Rattle.layout.proofs.Laws.{numbered, put-part}
 use Rattle.interface.specs.Interface as face
 use Rattle.interface.specs.Interface.{answerOf, freshOn, ignoredOn, heardOn, busOn, startedOn, startOn, drawnOn, drawOn, cellOn}

@@ -4,16 +4,17 @@ use Prim.Native.Nat.{ℕ, zero, suc, _+_, _-_, _*_, _/_, _%_, _^_, _≤_, _<_}
 use mathlib.Core.Path.{_≡_, refl, sym, ap, ap₂, _∙_, subst}
 use mathlib.Core.Bool.{Bool, true, false, cond, _&&_}
 use mathlib.Core.List.{List, [], _∷_, _++_}
-use native.Mathlib.Nat.{div-div-eq-div-mul, add-zero, add-suc, suc-add, not-suc-le-zero, le-of-suc-le-suc}
+use native.Mathlib.Nat.{div-div-eq-div-mul}
 use native.Mathlib.Omega.{arith}
 use lib.Arith.{bin-ind}
+use Rattle.facts.proofs.Choice.{either}
 use lib.Bits.{differ, bitAnd, bitXor, xor-step, xor-zero-l, xor-zero-r, xor-lt, and-zero-l, and-zero-r, and-comm, and-mask, and-mod, xor-mod, and-shr, xor-shr}
 use native.Mathlib.Decide.{ℕ-discrete}
 use borrow.Author.Tests.{eq-eqb, ne-eqb, lt-ltb, le-ltb, le-leb, lt-leb}
 use borrow.Rule.Slice.PartMut.{putMid}
 use lib.Dec.{eqb, ltb, leb}
-use lib.ListN.{length, getD, drop, set, length-append, List·getD-append}
-use lib.Seq.{getD-append-add, drop-drop, drop-length}
+use lib.ListN.{length, drop, set}
+use lib.Seq.{drop-drop, drop-length}
 use Rattle.paint.specs.declared.Paint.{Paint}
 use Rattle.paint.specs.declared.Fours.{Fours}
 use Rattle.paint.specs.Pixels.{Ink, inkOf, pixel, columns, shownBits, twelveColumns}
@@ -139,11 +140,8 @@ module _ (fore cast back : ℕ) (hf : fore < 256) (hc : cast < 256) (hb : back <
 
   chosen-solid : (bit left : ℕ) → bit < 2
       → bitXor back (bitAnd (255 * bit) (bitXor back fore)) ≡ cond (eqb bit 1) fore (cond (eqb left 1) back back)
-  chosen-solid zero left h = ap (bitXor back) (and-zero-l (bitXor back fore)) ∙ xor-zero-r back ∙ same (eqb left 1)
-    where
-      same : (t : Bool) → back ≡ cond t back back
-      same true = refl
-      same false = refl
+  chosen-solid zero left h =
+      ap (bitXor back) (and-zero-l (bitXor back fore)) ∙ xor-zero-r back ∙ either (λ (x : ℕ). back ≡ x) (eqb left 1) back back refl refl
   chosen-solid (suc zero) left h = ap (bitXor back) changed ∙ xor-again back fore
   chosen-solid (suc (suc n)) left h = absurd (omega arith)
 
@@ -292,14 +290,10 @@ module _ (plain : ℕ) (hidden : Bool) (low : ℕ) where
   unfolding backs inkOf
   back-is = ap ofPixel (by (ℕ-discrete (low / 8 % 2) 0))
     where
-      either : (t : Bool) → plain ≡ cond t plain plain
-      either true = refl
-      either false = refl
-
       by : Dec (low / 8 % 2 ≡ 0)
           → cond (ltb (low % 16) 8) (8 + low % 16) plain ≡ cond (eqb (low / 8 % 2) 0) (8 + low % 8) (cond (eqb (low / 2 % 2) 0) plain plain)
       by (yes e) = let h : low % 16 < 8 = omega arith in rw (lt-ltb _ _ h, eq-eqb _ _ e) (omega arith)
-      by (no e) = let h : 8 ≤ low % 16 = omega arith in rw (le-ltb _ _ h, ne-eqb _ _ e) (either (eqb (low / 2 % 2) 0))
+      by (no e) = let h : 8 ≤ low % 16 = omega arith in rw (le-ltb _ _ h, ne-eqb _ _ e) (either (λ (x : ℕ). plain ≡ x) (eqb (low / 2 % 2) 0) plain plain refl refl)
 
   paint-is : paintOf plain hidden low ≡ painting shadowInk (shows hidden (low / 16))
   unfolding paintOf fores inkOf shadowInk

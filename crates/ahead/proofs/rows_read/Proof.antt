@@ -1,53 +1,53 @@
--- `rows_read`: no part of a row passed so far shows the user character; the parts are the rows (`parts-all`).
+-- `rows_read`: a marked row that shows the user character, if there is one, is still to come.
 -- Assumes nothing.
-use Prim.Native.Nat.{_-_, _≤_}
-use mathlib.Core.Bool.{false}
+use Prim.Native.Nat.{_-_, _≤_, _<_}
+use mathlib.Core.Bool.{true}
 use mathlib.Core.Path.{_≡_, sym, _∙_}
 use native.Mathlib.Omega.{arith}
 use borrow.Author.Needs.{needs}
-use Rattle.ahead.specs.Looking.{anyPart}
-use Rattle.ahead.proofs.Marks.{kept-most, no-part, part-none, part-found, parts-all}
+use lib.Dec.{T}
+use Rattle.ahead.specs.Looking.{isMarked, anyRow}
+use Rattle.ahead.proofs.Marks.{Showing, showing-of, showing-from, showing-next, row-shows, none-showing}
 use Rattle.ahead.proofs.rows_read.Statement.{statement}
 use Rattle.ahead.proofs.rows_read.Tie as tie
 
 abbrev Inv-loop : tie.InvT-loop
-Inv-loop ram marks rows listed n cell i₀ i = (i ≤ listed) × (anyPart ram marks cell n rows i ≡ false)
+Inv-loop ram marks n cell row₀ row =
+    (row ≤ 512) × (row < 512 → isMarked marks row ≡ true) × (T (anyRow ram cell n marks) → Showing ram cell n marks row)
 
 abbrev μ-loop : tie.MeasureT-loop
-μ-loop ram marks rows listed n cell i₀ i = listed - i
+μ-loop ram marks n cell row₀ row = 512 - row
 
 loop-holds : tie.Need-loop-holds Inv-loop μ-loop
-loop-holds c = (search needs, no-part _ _ _ _ _)
+loop-holds c =
+    let r = c .next-row .ensures in
+    (r .most, r .is, λ t. showing-from _ _ _ _ 0 _ r (showing-of _ _ _ _ t))
 
-cast-part-reads : tie.Need-cast-part-reads Inv-loop μ-loop
-cast-part-reads c = search needs
-
-mul-part-reads : tie.Need-mul-part-reads Inv-loop μ-loop
-mul-part-reads c = search needs
-
-element-copy-out-part-reads : tie.Need-element-copy-out-part-reads Inv-loop μ-loop
-element-copy-out-part-reads c = omega (arith, kept-most _ _ _ (c .before .before .before .pre .1 .1))
-
-part-reads-requires : tie.Need-part-reads-requires Inv-loop μ-loop
-part-reads-requires c κs = search needs
+own-codes-requires : tie.Need-own-codes-requires Inv-loop μ-loop
+own-codes-requires c κs = omega (arith, c .next-row2 .ensures .from)
 
 returns : tie.Need-returns Inv-loop μ-loop
-returns c = part-found _ _ _ _ _ _ (c .before .before .before .before .before .before .pre .1 .1) (c .before .before .before .before .loop .i) (c .before .before .before .loop-test .taken) (sym (c .before .part-reads .ensures) ∙ c .if1 .taken)
-
-add-i : tie.Need-add-i Inv-loop μ-loop
-add-i c = search needs
+returns c =
+    let l = c .before .before .before .before .before .loop in
+    let h = c .before .before .before .before .loop-test .taken in
+    row-shows _ _ _ _ (l .row) _ (c .before .before .own-codes .ensures .most) h (l .inv .1 h) (sym (c .before .row-reads .ensures) ∙ c .if1 .taken)
 
 loop-less : tie.Need-loop-less Inv-loop μ-loop
-loop-less c = search needs
+loop-less c = omega (arith, c .before .before .before .next-row2 .ensures .from, c .before .before .before .before .loop-test .taken)
 
 loop-again : tie.Need-loop-again Inv-loop μ-loop
-loop-again c = (search needs, part-none _ _ _ _ _ (c .before .before .before .before .loop .i) (c .before .before .before .before .loop .inv .1) (sym (c .before .part-reads .ensures) ∙ c .if1 .left))
+loop-again c =
+    let l = c .before .before .before .before .before .loop in
+    let r = c .before .before .before .next-row2 .ensures in (
+      r .most,
+      r .is,
+      λ t.
+          showing-next _ _ _ _ (l .row) _ r _ (c .before .before .own-codes .ensures)
+          (sym (c .before .row-reads .ensures) ∙ c .if1 .left) (l .inv .2 t),
+    )
 
 returns-2 : tie.Need-returns-2 Inv-loop μ-loop
-returns-2 c =
-    let l = c .before .loop in
-    let e : l .i ≡ c .before .before .before .args .listed = omega (arith, l .inv .0, c .loop-test .left) in
-    sym (sym (parts-all _ _ _ _ _ _ (c .before .before .before .pre .1 .1)) ∙ rw e at (l .inv .1))
+returns-2 c = none-showing _ _ _ _ _ (c .loop-test .left) (c .before .loop .inv .2)
 
 pub rows-read-spec : {M : Type 1} → statement M
 rows-read-spec =
@@ -55,13 +55,13 @@ rows-read-spec =
     (tie.spec
     Inv-loop
     μ-loop
+    (λ c κs. search needs)
     loop-holds
-    cast-part-reads
-    mul-part-reads
-    element-copy-out-part-reads
-    part-reads-requires
+    (λ c. search needs)
+    (λ c κs. search needs)
+    own-codes-requires
+    (λ c κs. search needs)
     returns
-    add-i
     loop-less
     loop-again
     returns-2)

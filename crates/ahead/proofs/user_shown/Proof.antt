@@ -7,15 +7,6 @@ use Rattle.raster.specs.Search.{sliceShown}
 use Rattle.ahead.proofs.user_shown.Statement.{statement}
 use Rattle.ahead.proofs.user_shown.Tie as tie
 
-of-user-requires : tie.Need-of-user-requires
-of-user-requires c κs = search needs
-
-user-slice-requires : tie.Need-user-slice-requires
-user-slice-requires c κs = search needs
-
-shows-requires : tie.Need-shows-requires
-shows-requires c κs = search needs
-
 returns : tie.Need-returns
 returns c =
     let u = c .before .before in
@@ -28,4 +19,4 @@ returns-2 c = rw (sym (c .before .of-user .ensures) ∙ c .if1 .left, and-false)
 
 pub user-shown-spec : {M : Type 1} → statement M
 user-shown-spec =
-    tie.close (tie.spec of-user-requires user-slice-requires shows-requires returns returns-2)
+    tie.close (tie.spec (λ c κs. search needs) (λ c κs. search needs) (λ c κs. search needs) returns returns-2)

@@ -1,6 +1,5 @@
 -- `put_cut`: all twelve columns, and the part of them that fits.
 -- Assumes nothing.
-use Prim.Native.Nat.{ℕ}
 use mathlib.Core.Path.{ap, _∙_}
 use lib.ListN.{take, length}
 use denote.Ref.{now}

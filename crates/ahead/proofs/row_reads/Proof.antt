@@ -1,0 +1,64 @@
+-- `row_reads`: each turn passes one code; what is left of the row shows the user character exactly if the row does.
+-- Assumes nothing.
+use Prim.Native.Nat.{_*_, _≤_, _<_}
+use mathlib.Core.Path.{_≡_, refl, sym, _∙_}
+use borrow.Author.Needs.{needs}
+use borrow.Author.Tests.{eq-eqb, ne-eqb}
+use Rattle.ahead.specs.Looking.{userReads}
+use Rattle.ahead.proofs.Marks.{one-more, reads-none}
+use Rattle.ahead.proofs.row_reads.Statement.{statement}
+use Rattle.ahead.proofs.row_reads.Tie as tie
+
+abbrev Inv-loop : tie.InvT-loop
+Inv-loop ram row n cell user p₀ left₀ p left =
+    (p < 512) × (left ≤ n) × (userReads ram cell left (2 * p) ≡ userReads ram cell n (2 * row))
+
+abbrev μ-loop : tie.MeasureT-loop
+μ-loop ram row n cell user p₀ left₀ p left = left
+
+loop-holds : tie.Need-loop-holds Inv-loop μ-loop
+loop-holds c = (search needs, search needs, refl)
+
+returns : tie.Need-returns Inv-loop μ-loop
+returns c =
+    let l = c .before .before .before .loop in
+    sym (one-more _ _ (l .left) (l .p) (c .before .before .loop-test .taken) (l .inv .0) ∙ rw (eq-eqb _ _ (c .if1 .taken))) ∙ l .inv .2
+
+returns-2 : tie.Need-returns-2 Inv-loop μ-loop
+returns-2 c =
+    let l = c .before .before .before .before in
+    sym (one-more _ _ (l .loop .left) (l .loop .p) (c .before .before .before .loop-test .taken) (l .loop .inv .0)
+    ∙ rw (ne-eqb _ _ (c .before .if1 .left), eq-eqb _ _ (c .if2 .taken ∙ l .before .user-high .ensures)))
+    ∙ l .loop .inv .2
+
+loop-again : tie.Need-loop-again Inv-loop μ-loop
+loop-again c =
+    let l = c .before .before .before .before in (
+      search needs,
+      search needs,
+      sym (one-more _ _ (l .loop .left) (l .loop .p) (c .before .before .before .loop-test .taken) (l .loop .inv .0)
+          ∙ rw (ne-eqb _ _ (c .before .if1 .left), ne-eqb _ _ (λ e. c .if2 .left (e ∙ sym (l .before .user-high .ensures)))))
+          ∙ l .loop .inv .2,
+    )
+
+returns-3 : tie.Need-returns-3 Inv-loop μ-loop
+returns-3 c = reads-none _ _ (c .before .loop .left) _ (c .loop-test .left) ∙ c .before .loop .inv .2
+
+pub row-reads-spec : {M : Type 1} → statement M
+row-reads-spec =
+    tie.close
+    (tie.spec
+    Inv-loop
+    μ-loop
+    (λ c κs. search needs)
+    loop-holds
+    (λ c. search needs)
+    (λ c. search needs)
+    (λ c. search needs)
+    returns
+    returns-2
+    (λ c. search needs)
+    (λ c. search needs)
+    (λ c. search needs)
+    loop-again
+    returns-3)
