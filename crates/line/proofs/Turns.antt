@@ -23,7 +23,7 @@ use Rattle.glyph.specs.Words.{wordIn}
 use Rattle.glyph.proofs.Laws.{glyphOf-most, word-low}
 use Rattle.paint.specs.declared.Fours.{Fours}
 use Rattle.paint.specs.Pixels.{twelveColumns}
-use Rattle.paint.specs.Tables.{pixelsOf}
+use Rattle.paint.specs.Tables.{columnPixels}
 use Rattle.line.specs.declared.Pen.{Pen}
 use Rattle.line.proofs.Laws.{codes-most, character-length, painted-length}
 use Rattle.line.specs.declared.Coded.{Coded}
@@ -75,7 +75,7 @@ module _ (ram font : List ℕ) (at : ℕ) (pen : Pen) (w : Word) (h : w ≡ word
 
   -- a character, of the word's low twelve bits
   pub code-shown : ((i : ℕ) → getD ram i 0 < 256) → ((i : ℕ) → getD font i 0 < 256) → w .ends ≡ false
-      → (columns : Fours) → pixelsOf columns ≡ twelveColumns (pen .plain) (pen .hidden) (getD ram at 0) (w .bits % 4096)
+      → (columns : Fours) → columnPixels columns ≡ twelveColumns (pen .plain) (pen .hidden) (getD ram at 0) (w .bits % 4096)
       → CodeShown ram font at pen (record { ended = false; cells = 2 + w .cells; columns = columns })
   unfolding wordIn character
   code-shown b f e columns d =
@@ -302,12 +302,12 @@ module _ (ram font : List ℕ) (address : ℕ) (pen : Pen) (first w : ℕ) (out�
         unfolding shown
         twelve = character-length font (pen .plain) (pen .hidden) (placeAt ram pen a)
 
-        is-shown : pixelsOf (c .columns) ≡ shown
+        is-shown : columnPixels (c .columns) ≡ shown
         unfolding shown
         is-shown = d .pixels on
 
         -- a whole character is drawn
-        pub row-drawn : x + 12 ≤ w → (part : List ℕ) → part ≡ pixelsOf (c .columns)
+        pub row-drawn : x + 12 ≤ w → (part : List ℕ) → part ≡ columnPixels (c .columns)
             → RowUpTo ram font address pen first w out₀ (x + 12) (even (a + 2)) (n + c .cells) (putMid x (x + 12 - x) out part)
         row-drawn fit part p =
             let left : w - x - 12 ≡ w - (x + 12) = omega arith in
@@ -317,7 +317,7 @@ module _ (ram font : List ℕ) (address : ℕ) (pen : Pen) (first w : ℕ) (out�
             (here .1 ∙ ap (λ (k : ℕ). c .cells + length (cells ram (rowIn pen k (even (a + 2))))) left)
 
         -- the last character is cut
-        pub row-cut : w < x + 12 → (part : List ℕ) → part ≡ take (length (take (w - x) (drop x out))) (pixelsOf (c .columns))
+        pub row-cut : w < x + 12 → (part : List ℕ) → part ≡ take (length (take (w - x) (drop x out))) (columnPixels (c .columns))
             → RowDrawn ram font address pen first w out₀ (n + c .cells) (putMid x (w - x) out part)
         row-cut cut part p =
             let none : w - x - 12 ≡ 0 = omega arith in

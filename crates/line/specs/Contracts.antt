@@ -13,7 +13,7 @@ use Rattle.raster.specs.Raster.{widthOf}
 use Rattle.walk.specs.declared.Strip.{Strip}
 use Rattle.walk.specs.declared.Walk.{Walk}
 use Rattle.glyph.specs.Glyph.{endsLine, glyphOf}
-use Rattle.paint.specs.Tables.{pixelsOf}
+use Rattle.paint.specs.Tables.{columnPixels}
 use Rattle.line.specs.declared.Pen.{Pen}
 use Rattle.line.specs.declared.Coded.{Coded}
 use Rattle.line.specs.declared.Line.{Line}
@@ -27,7 +27,7 @@ placeAt ram pen a = record { low = getD ram a 0; glyph = value ram (glyphOf (get
 pub record CodeShown (ram font : List ℕ) (at : ℕ) (pen : Pen) (c : Coded) : Type 0 where
   pub ends : c .ended ≡ endsLine (getD ram (at + 1) 0)
   pub reads : c .cells ≡ 2 + length (cells ram (glyphOf (getD ram (at + 1) 0) (pen .slice)))
-  pub pixels : c .ended ≡ false → pixelsOf (c .columns) ≡ character font (pen .plain) (pen .hidden) (placeAt ram pen at)
+  pub pixels : c .ended ≡ false → columnPixels (c .columns) ≡ character font (pen .plain) (pen .hidden) (placeAt ram pen at)
 
 -- the codes that there is room for, and the pixels of that room
 abbrev pub rowIn : Pen → ℕ → ℕ → Reading (List Place)

@@ -3,6 +3,7 @@ ghost use mathlib.Core.Path.{_≡_};
 ghost use Prim.Native.Nat.{_+_, _≤_, _<_, min};
 ghost use mathlib.Core.List.{_++_};
 ghost use lib.ListN.{length, drop, replicate};
+ghost use Rattle.limits.specs.Limits.{ramLength};
 ghost use Rattle.registers.specs.Registers.{settingsOf};
 ghost use Rattle.raster.specs.Raster.{InCharacter, widthOf};
 ghost use Rattle.walk.specs.Walk.{OnLine};
@@ -53,7 +54,7 @@ fn code_at<'a>(ram: &'a [u8], font: &'a [u8], table: &[u32], at: usize, pen: Pen
     requires { ⌜ now table ≡ rowTable (pen .plain) (pen .hidden) ⌝ }
     requires { ⌜ Lent (now ram) (now font) ⌝ }
     requires { ⌜ InCharacter (pen .slice) ⌝ }
-    requires { ⌜ at + 1 < 1024 ⌝ }
+    requires { ⌜ at + 1 < ramLength ⌝ }
     ensures { λ r. ⌜ CodeShown (now (ram .entry)) (now (font .entry)) at pen r ⌝ }
 {
     let low = ram[at];

@@ -13,12 +13,12 @@ use native.Mathlib.Decide.{ℕ-discrete}
 use borrow.Author.Tests.{eq-eqb, ne-eqb, lt-ltb, le-ltb, le-leb, lt-leb}
 use borrow.Rule.Slice.PartMut.{putMid}
 use lib.Dec.{eqb, ltb, leb}
-use lib.ListN.{length, drop, set}
-use lib.Seq.{drop-drop, drop-length}
+use lib.ListN.{length, drop, set, take, length-append}
+use lib.Seq.{drop-drop, drop-length, take-append-le}
 use Rattle.paint.specs.declared.Paint.{Paint}
 use Rattle.paint.specs.declared.Fours.{Fours}
 use Rattle.paint.specs.Pixels.{Ink, inkOf, pixel, columns, shownBits, twelveColumns}
-use Rattle.paint.specs.Tables.{inFour, facing, casting, ofPixel, fores, backs, shows, paintOf, castsShadow, solid, shadowed, fourOf, inFours, pixelsOf}
+use Rattle.paint.specs.Tables.{inFour, facing, casting, ofPixel, fores, backs, shows, paintOf, castsShadow, solid, shadowed, fourOf, inFours, columnPixels}
 
 -- ---- exclusive or and masks on bytes
 
@@ -273,8 +273,8 @@ columns-four ink bits h =
 
 -- twelve columns made of numbers that are each four of them
 twelve-columns : (ink : Ink) (four : ℕ → ℕ) (bits : ℕ) → bits < 4096 → ((i k bit left : ℕ) → Column k i bit left → lane k (four i) ≡ pixel ink bit left)
-    → pixelsOf (inFours four bits) ≡ columns 12 ink bits 0
-unfolding pixelsOf inFours
+    → columnPixels (inFours four bits) ≡ columns 12 ink bits 0
+unfolding columnPixels inFours
 twelve-columns ink four bits h f =
     let of : (i : ℕ) → fourOf (four i) ≡ fourColumns ink i = λ i. four-columns ink i (four i) (f i) in
     ap₂ (λ (k l : List ℕ). k ++ l) (of (bits / 256)) (ap₂ (λ (k l : List ℕ). k ++ l) (of (bits / 16 % 32)) (of (bits % 32))) ∙ sym (columns-four ink bits h)
@@ -335,17 +335,17 @@ module _ (plain : ℕ) (hidden : Bool) (low : ℕ) where
     unfolding inkOf
     back-small = small (eqb (low / 8 % 2) 0) (eqb (low / 2 % 2) 0) plain h
 
-    drawn-shadowed : castsShadow low ≡ true → pixelsOf (inFours (shadowed (paintOf plain hidden low)) bits) ≡ columns 12 (inkOf plain low) bits 0
+    drawn-shadowed : castsShadow low ≡ true → columnPixels (inFours (shadowed (paintOf plain hidden low)) bits) ≡ columns 12 (inkOf plain low) bits 0
     unfolding shadowInk
     drawn-shadowed e =
-        ap (λ (p : Paint). pixelsOf (inFours (shadowed p) bits)) paint-is
+        ap (λ (p : Paint). columnPixels (inFours (shadowed p) bits)) paint-is
         ∙ twelve-columns shadowInk _ bits k (λ i n bit left. lane-shadowed shadowInk (shows hidden (low / 16)) fore-small (omega arith) back-small n i bit left)
         ∙ ap (λ (x : ℕ). columns 12 (record { fore = inkOf plain low .fore; cast = x; back = inkOf plain low .back }) bits 0) (cast-shadow e)
 
-    drawn-solid : castsShadow low ≡ false → pixelsOf (inFours (solid (paintOf plain hidden low)) bits) ≡ columns 12 (inkOf plain low) bits 0
+    drawn-solid : castsShadow low ≡ false → columnPixels (inFours (solid (paintOf plain hidden low)) bits) ≡ columns 12 (inkOf plain low) bits 0
     unfolding shadowInk solid
     drawn-solid e =
-        ap (λ (p : Paint). pixelsOf (inFours (solid p) bits)) paint-is
+        ap (λ (p : Paint). columnPixels (inFours (solid p) bits)) paint-is
         ∙ twelve-columns (inkOf plain low) _ bits k (λ i n bit left. lane-solid (inkOf plain low) (shows hidden (low / 16)) fore-small cast-small back-small n i bit left (cast-back e))
 
 -- ---- the bits that are shown
@@ -385,17 +385,17 @@ module _ (plain : ℕ) (hidden : Bool) (low word : ℕ) (h : plain < 256) (k : l
 
   -- the code's paint, and the bits that are shown
   inked : (four : Paint → ℕ → ℕ) (c : Fours) → c ≡ inFours (four p) (bitAnd word (p .kept))
-      → pixelsOf (inFours (four (paintOf plain hidden low)) (shownBits hidden low (word % 4096))) ≡ twelveColumns plain hidden low (word % 4096)
-      → pixelsOf c ≡ twelveColumns plain hidden low (word % 4096)
-  inked four c q d = ap pixelsOf (q ∙ ap₂ (λ (x : Paint) (b : ℕ). inFours (four x) b) e (bits-are hidden low word k plain p e)) ∙ d
+      → columnPixels (inFours (four (paintOf plain hidden low)) (shownBits hidden low (word % 4096))) ≡ twelveColumns plain hidden low (word % 4096)
+      → columnPixels c ≡ twelveColumns plain hidden low (word % 4096)
+  inked four c q d = ap columnPixels (q ∙ ap₂ (λ (x : Paint) (b : ℕ). inFours (four x) b) e (bits-are hidden low word k plain p e)) ∙ d
 
   pub character-shadowed : (c : Fours) → c ≡ inFours (shadowed p) (bitAnd word (p .kept)) → castsShadow low ≡ true
-      → pixelsOf c ≡ twelveColumns plain hidden low (word % 4096)
+      → columnPixels c ≡ twelveColumns plain hidden low (word % 4096)
   character-shadowed c q s =
       inked shadowed c q (unfold twelveColumns in drawn-shadowed plain hidden low h _ (bits-most hidden low word k) s)
 
   pub character-solid : (c : Fours) → c ≡ inFours (solid p) (bitAnd word (p .kept)) → castsShadow low ≡ false
-      → pixelsOf c ≡ twelveColumns plain hidden low (word % 4096)
+      → columnPixels c ≡ twelveColumns plain hidden low (word % 4096)
   character-solid c q s = inked solid c q (unfold twelveColumns in drawn-solid plain hidden low h _ (bits-most hidden low word k) s)
 
 -- ---- four stores, and three parts of four
@@ -414,10 +414,23 @@ unfolding fourOf
 four-put l n h = set-four l _ _ _ _ h
 
 pub twelve-put : (out p q r : List ℕ) (c : Fours) → length out ≡ 12 → p ≡ fourOf (c .left) → q ≡ fourOf (c .middle) → r ≡ fourOf (c .right)
-    → putMid 8 4 (putMid 4 4 (putMid 0 4 out p) q) r ≡ pixelsOf c
-unfolding fourOf pixelsOf
+    → putMid 8 4 (putMid 4 4 (putMid 0 4 out p) q) r ≡ columnPixels c
+unfolding fourOf columnPixels
 twelve-put out p q r c h e f g =
     ap₂ (λ (x y : List ℕ). putMid 8 4 (putMid 4 4 (putMid 0 4 out x) y) r) e f
     ∙ ap (putMid 8 4 (putMid 4 4 (putMid 0 4 out (fourOf (c .left))) (fourOf (c .middle)))) g
     ∙ ap (λ (l : List ℕ). fourOf (c .left) ++ (fourOf (c .middle) ++ (fourOf (c .right) ++ l)))
     (ap (drop 4) (drop-drop 4 4 out) ∙ drop-drop 4 8 out ∙ ap (λ (n : ℕ). drop n out) (sym h) ∙ drop-length out)
+
+-- ---- twelve columns with bytes behind them
+
+module _ (part tail : List ℕ) (c : Fours) (e : part ≡ columnPixels c) where
+  twelve-long : length part ≡ 12
+  unfolding columnPixels fourOf
+  twelve-long = ap length e
+
+  pub padded-length : length (part ++ tail) ≡ 12 + length tail
+  padded-length = length-append part tail ∙ ap (λ (n : ℕ). n + length tail) twelve-long
+
+  pub padded-cut : (n : ℕ) → n ≤ 12 → take n (part ++ tail) ≡ take n (columnPixels c)
+  padded-cut n h = take-append-le n part tail (omega (arith, twelve-long)) ∙ ap (take n) e

@@ -85,5 +85,5 @@ unfoldable pub inFours : (ℕ → ℕ) → ℕ → Fours
 inFours four bits = record { left = four (bits / 256); middle = four (bits / 16 % 32); right = four (bits % 32) }
 
 -- their pixels
-unfoldable pub pixelsOf : Fours → List ℕ
-pixelsOf c = fourOf (c .left) ++ (fourOf (c .middle) ++ fourOf (c .right))
+unfoldable pub columnPixels : Fours → List ℕ
+columnPixels c = fourOf (c .left) ++ (fourOf (c .middle) ++ fourOf (c .right))

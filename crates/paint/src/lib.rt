@@ -4,7 +4,7 @@ ghost use mathlib.Core.Bool.{cond};
 ghost use Prim.Native.Nat.{_%_, _≤_, _<_};
 ghost use lib.ListN.{length, take};
 ghost use Rattle.paint.specs.Pixels.{twelveColumns};
-ghost use Rattle.paint.specs.Tables.{HasMasks, rowTable, ofPixel, paintOf, castsShadow, solid, shadowed, fourOf, inFours, pixelsOf};
+ghost use Rattle.paint.specs.Tables.{HasMasks, rowTable, ofPixel, paintOf, castsShadow, solid, shadowed, fourOf, inFours, columnPixels};
 
 // What a code draws four columns with: a byte for a column.
 pub struct Paint {
@@ -266,7 +266,7 @@ fn casts(low: u8) -> bool
 // The twelve columns of a code's low byte and of the low twelve bits of its glyph's word.
 pub fn character(table: &[u32], plain: u8, hidden: bool, low: u8, word: u32) -> Fours
     requires { ⌜ now table ≡ rowTable plain hidden ⌝ }
-    ensures { λ r. ⌜ pixelsOf r ≡ twelveColumns plain hidden low (word % 4096) ⌝ }
+    ensures { λ r. ⌜ columnPixels r ≡ twelveColumns plain hidden low (word % 4096) ⌝ }
 {
     let paint = paint_of(table, plain, hidden, low);
     let bits = word & paint.kept;
@@ -290,21 +290,21 @@ fn put_four(out: &mut [u8], pixels: u32)
 // All twelve columns.
 pub fn put_twelve(out: &mut [u8], columns: Fours)
     requires { ⌜ length (now out) ≡ 12 ⌝ }
-    ensures { λ _. ⌜ now (out .exit) ≡ pixelsOf columns ⌝ }
+    ensures { λ _. ⌜ now (out .exit) ≡ columnPixels columns ⌝ }
 {
     put_four(&mut out[0..4], columns.left);
     put_four(&mut out[4..8], columns.middle);
     put_four(&mut out[8..12], columns.right);
 }
 
-// As many bytes of twelve as there is room for. The remainder changes no index: it keeps the compiler from calling memcpy.
+// As many of the bytes as there is room for. The remainder changes no index: it keeps the compiler from calling memcpy.
 fn copy_cut(out: &mut [u8], whole: &[u8])
-    requires { ⌜ (length (now out) ≤ 12) × (length (now whole) ≡ 12) ⌝ }
+    requires { ⌜ (length (now out) ≤ 12) × (length (now whole) ≡ 16) ⌝ }
     ensures { λ _. ⌜ now (out .exit) ≡ take (length (now (out .entry))) (now (whole .entry)) ⌝ }
 {
     let mut i = 0;
     while i < out.len() {
-        out[i] = whole[i % 12];
+        out[i] = whole[i % 16];
         i += 1;
     }
 }
@@ -312,9 +312,9 @@ fn copy_cut(out: &mut [u8], whole: &[u8])
 // The columns that there is room for.
 pub fn put_cut(out: &mut [u8], columns: Fours)
     requires { ⌜ length (now out) ≤ 12 ⌝ }
-    ensures { λ _. ⌜ now (out .exit) ≡ take (length (now (out .entry))) (pixelsOf columns) ⌝ }
+    ensures { λ _. ⌜ now (out .exit) ≡ take (length (now (out .entry))) (columnPixels columns) ⌝ }
 {
-    let mut whole = [0u8; 12];
-    put_twelve(&mut whole, columns);
+    let mut whole = [0u8; 16];
+    put_twelve(&mut whole[..12], columns);
     copy_cut(out, &whole);
 }
