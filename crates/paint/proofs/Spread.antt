@@ -13,8 +13,8 @@ use native.Mathlib.Decide.{ℕ-discrete}
 use borrow.Author.Tests.{eq-eqb, ne-eqb, lt-ltb, le-ltb, le-leb, lt-leb}
 use borrow.Rule.Slice.PartMut.{putMid}
 use lib.Dec.{eqb, ltb, leb}
-use lib.ListN.{length, drop, set, take, length-append}
-use lib.Seq.{drop-drop, drop-length, take-append-le}
+use lib.ListN.{length, drop, set}
+use lib.Seq.{drop-drop, drop-length}
 use Rattle.paint.specs.declared.Paint.{Paint}
 use Rattle.paint.specs.declared.Fours.{Fours}
 use Rattle.paint.specs.Pixels.{Ink, inkOf, pixel, columns, shownBits, twelveColumns}
@@ -421,16 +421,3 @@ twelve-put out p q r c h e f g =
     ∙ ap (putMid 8 4 (putMid 4 4 (putMid 0 4 out (fourOf (c .left))) (fourOf (c .middle)))) g
     ∙ ap (λ (l : List ℕ). fourOf (c .left) ++ (fourOf (c .middle) ++ (fourOf (c .right) ++ l)))
     (ap (drop 4) (drop-drop 4 4 out) ∙ drop-drop 4 8 out ∙ ap (λ (n : ℕ). drop n out) (sym h) ∙ drop-length out)
-
--- ---- twelve columns with bytes behind them
-
-module _ (part tail : List ℕ) (c : Fours) (e : part ≡ columnPixels c) where
-  twelve-long : length part ≡ 12
-  unfolding columnPixels fourOf
-  twelve-long = ap length e
-
-  pub padded-length : length (part ++ tail) ≡ 12 + length tail
-  padded-length = length-append part tail ∙ ap (λ (n : ℕ). n + length tail) twelve-long
-
-  pub padded-cut : (n : ℕ) → n ≤ 12 → take n (part ++ tail) ≡ take n (columnPixels c)
-  padded-cut n h = take-append-le n part tail (omega (arith, twelve-long)) ∙ ap (take n) e

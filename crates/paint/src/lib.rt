@@ -297,14 +297,16 @@ pub fn put_twelve(out: &mut [u8], columns: Fours)
     put_four(&mut out[8..12], columns.right);
 }
 
-// As many of the bytes as there is room for. The remainder changes no index: it keeps the compiler from calling memcpy.
+// As many of the bytes as there is room for. The test in the loop always holds: it keeps the compiler from calling memcpy.
 fn copy_cut(out: &mut [u8], whole: &[u8])
-    requires { ⌜ (length (now out) ≤ 12) × (length (now whole) ≡ 16) ⌝ }
+    requires { ⌜ (length (now out) ≤ 12) × (length (now whole) ≡ 12) ⌝ }
     ensures { λ _. ⌜ now (out .exit) ≡ take (length (now (out .entry))) (now (whole .entry)) ⌝ }
 {
     let mut i = 0;
     while i < out.len() {
-        out[i] = whole[i % 16];
+        if i < 12 {
+            out[i] = whole[i];
+        }
         i += 1;
     }
 }
@@ -314,7 +316,7 @@ pub fn put_cut(out: &mut [u8], columns: Fours)
     requires { ⌜ length (now out) ≤ 12 ⌝ }
     ensures { λ _. ⌜ now (out .exit) ≡ take (length (now (out .entry))) (columnPixels columns) ⌝ }
 {
-    let mut whole = [0u8; 16];
-    put_twelve(&mut whole[..12], columns);
+    let mut whole = [0u8; 12];
+    put_twelve(&mut whole, columns);
     copy_cut(out, &whole);
 }

@@ -1,10 +1,11 @@
 -- `copy_cut`: what is written and the columns that are left are all twelve.
 -- Assumes nothing.
-use Prim.Native.Nat.{ℕ, _-_, _≤_}
+use Prim.Native.Nat.{ℕ, _+_, _-_, _≤_}
 use mathlib.Core.Path.{_≡_, refl, ap, _∙_}
-use mathlib.Core.List.{_++_}
+use mathlib.Core.List.{List, _++_}
+use mathlib.Core.Logic.{⊎-elim}
 use native.Mathlib.Omega.{arith}
-use lib.ListN.{length, getD, take, drop, length-set}
+use lib.ListN.{length, take, drop, length-set}
 use denote.Ref.{now}
 use Rattle.facts.proofs.Written.{written-more, written-part}
 use borrow.Author.Needs.{needs}
@@ -23,11 +24,16 @@ loop-holds c = (search needs, search needs, refl)
 loop-again : tie.Need-loop-again Inv-loop μ-loop
 loop-again c =
     let l = c .before .before .loop in
-    let s = c .before .before .before in (
+    let s = c .before .before .before in
+    ⊎-elim
+    (λ w. (
       search needs,
-      length-set (l .out) _ _ ∙ l .inv .1,
-      written-more _ (l .out) (l .i) _ 0 (omega arith) (omega arith) (l .inv .2) (ap (λ (n : ℕ). getD (now (s .args .whole)) n 0) (omega arith)),
-    )
+      ap length (w .2) ∙ length-set (l .out) _ _ ∙ l .inv .1,
+      ap (λ (o : List ℕ). take (l .i + 1) o ++ drop (l .i + 1) (now (s .args .whole))) (w .2)
+          ∙ written-more _ (l .out) (l .i) _ 0 (omega arith) (omega arith) (l .inv .2) refl,
+    ))
+    (λ w. absurd (omega (arith, w)))
+    (c .if1 .came)
 
 returns : tie.Need-returns Inv-loop μ-loop
 returns c =
