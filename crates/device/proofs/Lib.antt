@@ -1,5 +1,1 @@
-pub mod Claims
-pub mod OnePage
-pub mod Quiet
-pub mod Reach
-pub mod Witnesses
+pub mod Laws

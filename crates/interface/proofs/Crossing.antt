@@ -30,7 +30,7 @@ use Rattle.bus.proofs.Laws.{by-event, busEvent-length}
 use Rattle.line.proofs.Laws.{paint-length}
 use Rattle.device.specs.declared.Device.{Device}
 use Rattle.device.specs.Device.{freshDevice, EventOutcome, hearEvent, StartOutcome, inFrame, startFrame, DrawOutcome, notDrawn, nextScan, pixelsOf, lineOn, lineWidth, lineDrawn, drawLine, askCell}
-use Rattle.device.proofs.OnePage.{by-draw}
+use Rattle.device.proofs.Laws.{by-draw}
 use Rattle.layout.specs.Layout.{busAt, registersAt, registersLength, nextAt, frameAt, recordLength, part, put, stateNumber, busBytes, nextBytes, frameBytes, deviceIn}
 use Rattle.layout.proofs.Laws.{withBus, withRegisters, read-back, event-back, deaf-back, draw-back, start-back}
 use Rattle.interface.specs.Interface.{answerOf, notTaken, isRecord, Done, freshOn, BusDone, ignoredOn, heardOn, busOn, startedOn, startOn, DrawDone, drawnOn, drawOn, cellOn, Crossing}

@@ -17,10 +17,11 @@ use Rattle.registers.specs.Registers.{settingsOf}
 use Rattle.bus.specs.Bus.{eventOf, BusOutcome, busEvent}
 use Rattle.device.specs.declared.Device.{Device}
 use Rattle.device.specs.Device.{hearEvent, DrawOutcome, drawLine, lineOn, lineDrawn, cellsLeft, askCell}
-use Rattle.device.specs.OnePage as device
-use Rattle.device.specs.Use.{EventQuiet}
-use Rattle.device.proofs.Quiet.{quiet-if-write}
-use Rattle.device.proofs.OnePage.{late, same-draw, by-draw, apart, still-unread}
+use Rattle.device.proofs.Laws.{by-draw}
+use Rattle.calls.specs.OnePage as device
+use Rattle.calls.specs.Use.{EventQuiet}
+use Rattle.calls.proofs.Quiet.{quiet-if-write}
+use Rattle.calls.proofs.OnePage.{late, same-draw, apart, still-unread}
 use Rattle.layout.specs.Layout.{busAt, registersAt, registersLength, frameAt, recordLength, put, stateNumber, busBytes, frameBytes, deviceIn}
 use Rattle.facts.proofs.Parts.{sets-comm}
 use Rattle.interface.specs.Interface.{answerOf, notTaken, BusDone, heardOn, busOn, drawnOn, drawOn, cellOn}

@@ -1,4 +1,4 @@
--- Condition 3 over the bytes that C sees: no frame shows two pages (crate device's specs/OnePage.antt, there over the device record).
+-- Condition 3 over the bytes that C sees: no frame shows two pages (crate calls' specs/OnePage.antt, there over the device record).
 -- For every list of calls of osd_bus, osd_draw and osd_cell whose bus writes are quiet as they are made, all answers, all line
 -- buffers, the RAM and every byte of the record equal those of the run with all draws and questions first, then all bus calls.
 -- It is stated for every record buffer, RAM and font, whatever their bytes and lengths, and for every call: refused ones, kinds above 3
@@ -14,7 +14,7 @@ use Rattle.cells.specs.Reading.{Alike}
 use Rattle.registers.specs.Registers.{settingsOf}
 use Rattle.bus.specs.Bus.{eventOf, step}
 use Rattle.device.specs.Device.{cellsLeft}
-use Rattle.device.specs.OnePage.{Stores}
+use Rattle.calls.specs.OnePage.{Stores}
 use Rattle.layout.specs.Layout.{recordLength, deviceIn}
 use Rattle.interface.specs.Interface.{busOn, drawOn, cellOn}
 

@@ -1,20 +1,17 @@
 -- The proof of condition 3 (specs/OnePage.antt): a quiet event is pushed past each later draw and question, one at a time.
 -- Assumes nothing.
-use Prim.Native.Nat.{ℕ, zero, suc, _-_, _≤_}
+use Prim.Native.Nat.{ℕ, zero, suc, _-_}
 use mathlib.Core.Path.{_≡_, refl, sym, ap, ap₂, _∙_, subst}
-use mathlib.Core.Bool.{Bool, true, false, not, cond, true≢false}
+use mathlib.Core.Bool.{true, false, not, cond, true≢false}
 use mathlib.Core.List.{List, _++_}
 use native.Mathlib.Numerals.{sub-one}
-use borrow.Author.Tests.{ltb-false}
-use lib.Dec.{T, eqb, leb, ltb}
+use lib.Dec.{T, eqb, leb}
 use lib.ListN.{length, drop}
 use Rattle.runs.proofs.Laws.{as-made-map, kept-by-each, Apart, reordered}
 use Rattle.cells.specs.Reading.{bind, value, cells, among, Alike}
 use Rattle.cells.proofs.Laws.{cells-bind, value-alike, cells-alike, alike-left, alike-right, unread-right}
-use Rattle.refusals.specs.declared.Refusal.{Refusal}
-use Rattle.refusals.specs.declared.Refusal.the-variants.{RamLength, FontLength, LineLength, NoLine, CellRange}
-use Rattle.refusals.specs.Refusals.{accepted, refused, Verdict, passed, failed, refuseIf}
-use Rattle.refusals.proofs.Laws.{failed-not}
+use Rattle.refusals.specs.declared.Refusal.the-variants.{RamLength, CellRange}
+use Rattle.refusals.specs.Refusals.{accepted, refused, Verdict, passed, failed}
 use Rattle.registers.specs.declared.Settings.{Settings}
 use Rattle.registers.specs.Registers.{settingsOf}
 use Rattle.raster.specs.Raster.{widthOf}
@@ -23,11 +20,12 @@ use Rattle.bus.proofs.Laws.{busEvent-length}
 use Rattle.walk.specs.declared.Walk.{Walk}
 use Rattle.line.specs.Line.{scan, paint}
 use Rattle.ahead.specs.Ahead.{remaining}
 use Rattle.device.specs.declared.Device.{Device}
-use Rattle.device.specs.Device.{hearEvent, DrawOutcome, drawVerdict, drawBy, drawLine, nextScan, pixelsOf, lineOn, lineDrawn, lineWidth, notDrawn, cellsLeft, askCell}
-use Rattle.device.specs.OnePage.{Call, draw, ask, event, State, drawn, asked, heard, answer, after, isEvent, calls, Quiet, QuietCall, OnePage}
-use Rattle.device.specs.Use.{EventQuiet, WritesAlone, NoStays}
-use Rattle.device.proofs.Quiet.{quiet-if-write, says-no}
+use Rattle.device.specs.Device.{hearEvent, DrawOutcome, drawVerdict, drawBy, drawLine, nextScan, pixelsOf, lineOn, lineDrawn, cellsLeft, askCell}
+use Rattle.device.proofs.Laws.{drawable, by-draw}
+use Rattle.calls.specs.OnePage.{Call, draw, ask, event, State, drawn, asked, heard, answer, after, isEvent, calls, Quiet, QuietCall, OnePage}
+use Rattle.calls.specs.Use.{EventQuiet, WritesAlone, NoStays}
+use Rattle.calls.proofs.Quiet.{quiet-if-write, says-no}
 
 -- ---- the remaining lines: the next one, then the others
 
@@ -47,23 +45,6 @@ cellsLeft-more d ram t =
     ∙ cells-bind ram (nextScan d) (λ x. remaining (settingsOf (d .registers)) (d .frame .left - 1) (x .walk))
 
 -- ---- a draw after a quiet event
-
--- a draw that is not refused has a line left and room for it
-pub record Drawable (d : Device) (line : ℕ) : Type 0 where
-  pub left : T (not (eqb (d .frame .left) 0))
-  pub room : lineWidth d ≤ line
-
-pub drawable : (d : Device) (ram font line : ℕ) → drawVerdict d ram font line ≡ passed → Drawable d line
-unfolding drawVerdict
-drawable d ram font line = by (not (eqb ram 1024)) (not (eqb font 4608)) (eqb (d .frame .left) 0) (ltb line (lineWidth d)) refl refl
-  where
-    by : (a b c s : Bool) → eqb (d .frame .left) 0 ≡ c → ltb line (lineWidth d) ≡ s
-        → refuseIf a RamLength (refuseIf b FontLength (refuseIf c NoLine (refuseIf s LineLength passed))) ≡ passed → Drawable d line
-    by true b c s p q e = absurd (failed-not RamLength e)
-    by false true c s p q e = absurd (failed-not FontLength e)
-    by false false true s p q e = absurd (failed-not NoLine e)
-    by false false false true p q e = absurd (failed-not LineLength e)
-    by false false false false p q e = record { left = subst (λ (b : Bool). T (not b)) (sym p) tt; room = ltb-false line (lineWidth d) q }
 
 -- a draw, with the event made after it
 unfoldable pub late : List ℕ → Event → DrawOutcome → DrawOutcome
@@ -143,19 +124,6 @@ module _ (d : Device) (ram : List ℕ) (e : Event)
       ap₂ (λ (n : ℕ) (l : List ℕ).
       cond (not (eqb n 1024)) (refused RamLength) (cond (leb 1024 c) (refused CellRange) (accepted (cond (among c l) 1 0))))
       (busEvent-length (d .bus) (d .registers) ram e) same-left
-
--- what holds of a refused draw and of an accepted one holds of a draw
-module _ (d : Device) (ram font line : List ℕ) (P : DrawOutcome → Type 0) (no-draw : (r : Refusal) → P (notDrawn d line r)) where
-  by-verdict : (v : Verdict) → (v ≡ passed → P (lineDrawn d ram font line)) → P (drawBy v d ram font line)
-  unfolding drawBy
-  by-verdict passed h = h refl
-  by-verdict (failed r) h = no-draw r
-
-  pub by-draw : (Drawable d (length line) → P (lineDrawn d ram font line)) → P (drawLine d ram font line)
-  unfolding drawLine
-  by-draw h =
-      by-verdict (drawVerdict d (length ram) (length font) (length line))
-      (λ v. h (drawable d (length ram) (length font) (length line) v))
 
 -- ---- a quiet event and a later draw or question
 

@@ -24,9 +24,9 @@ use Rattle.bus.specs.declared.Bus.{Bus}
 use Rattle.bus.specs.declared.Step.{Step}
 use Rattle.bus.specs.Bus.{BusOutcome, busEvent, step, address, taken, ramWith, registersWith, answerTo, busReply}
 use Rattle.bus.proofs.Laws.{by-event, byte-at}
 use Rattle.device.specs.Device.{hearEvent, askCell, cellsLeft}
-use Rattle.device.specs.OnePage.{State, effectOf, Stores, Quiet}
-use Rattle.device.specs.Use.{QuietEvents}
+use Rattle.calls.specs.OnePage.{State, effectOf, Stores, Quiet}
+use Rattle.calls.specs.Use.{QuietEvents}
 
 -- ---- an event is quiet if its effect is
 

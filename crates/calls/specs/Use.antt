@@ -11,8 +11,8 @@ use Rattle.bus.specs.declared.Event.the-variants.{Byte}
 use Rattle.bus.specs.declared.Effect.the-variants.{Store}
 use Rattle.bus.specs.declared.BusState.the-variants.{Write}
 use Rattle.bus.specs.Bus.{address}
 use Rattle.device.specs.Device.{hearEvent, askCell}
-use Rattle.device.specs.OnePage.{Call, draw, ask, event, State, calls, effectOf, Stores, Quiet, QuietRun}
+use Rattle.calls.specs.OnePage.{Call, draw, ask, event, State, calls, effectOf, Stores, Quiet, QuietRun}
 
 pub record QuietEvents : Type 0 where
   -- a data byte to a cell of which the question says no

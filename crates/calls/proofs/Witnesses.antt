@@ -20,11 +20,11 @@ use Rattle.glyph.specs.Glyph.{glyphOf, inRam, bitsOf}
 use Rattle.paint.specs.Pixels.{inkOf, columns, twelveColumns}
 use Rattle.line.specs.Line.{codes, rowOf, shownRow, scan, character, painted, paint}
 use Rattle.ahead.specs.Ahead.{remaining}
 use Rattle.device.specs.Device.{freshDevice, hearEvent, startFrame, inFrame, pixelsOf, lineOn, lineDrawn, drawVerdict, drawBy, drawLine, cellsLeft, askCell}
-use Rattle.device.specs.OnePage.{Call, draw, ask, event, State, Answer, drawn, asked, answer, after, isEvent, calls, effectOf, Stores, QuietCall, QuietRun}
-use Rattle.device.specs.OnePage as one-page
-use Rattle.device.specs.Witnesses.{addressing, write, font, heard, started, traffic, picture, buffer, turning, refusalOf, firstLine, Changes}
-use Rattle.device.specs.Witnesses.{Setting, LD, DD, CH, OSD, FBK, FL, but, ButSetting, remainingOf, ButCell, ready, Seen, Witnesses}
+use Rattle.calls.specs.OnePage.{Call, draw, ask, event, State, Answer, drawn, asked, answer, after, isEvent, calls, effectOf, Stores, QuietCall, QuietRun}
+use Rattle.calls.specs.OnePage as one-page
+use Rattle.calls.specs.Witnesses.{addressing, write, font, heard, started, traffic, picture, buffer, turning, refusalOf, firstLine, Changes}
+use Rattle.calls.specs.Witnesses.{Setting, LD, DD, CH, OSD, FBK, FL, but, ButSetting, remainingOf, ButCell, ready, Seen, Witnesses}
 
 -- ---- tests that show a list to be quiet
 

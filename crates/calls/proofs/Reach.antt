@@ -20,10 +20,10 @@ use Rattle.bus.specs.declared.Effect.{Effect}
 use Rattle.bus.specs.declared.Effect.the-variants.{Acknowledge, Ignore, Store, Load}
 use Rattle.bus.specs.Bus.{BusOutcome, step, isRegister, registersWith, taken}
 use Rattle.bus.proofs.Laws.{by-event}
 use Rattle.device.specs.declared.Device.{Device}
 use Rattle.device.specs.Device.{freshDevice, hearEvent, StartOutcome, inFrame, startFrame, DrawOutcome, lineOn, lineDrawn, drawLine}
-use Rattle.device.proofs.OnePage.{by-draw}
-use Rattle.device.specs.Reach.{Reachable, fresh, reset, event, start, draw, UnusedBits}
+use Rattle.device.proofs.Laws.{by-draw}
+use Rattle.calls.specs.Reach.{Reachable, fresh, reset, event, start, draw, UnusedBits}
 
 -- ---- what each call does to the registers
 

@@ -16,9 +16,9 @@ use Rattle.bus.specs.declared.Event.the-variants.{Start, Byte, Fetch, Stop}
 use Rattle.bus.specs.Bus.{freshRam}
 use Rattle.walk.specs.declared.Walk.{Walk}
 use Rattle.ahead.specs.Ahead.{remaining}
 use Rattle.device.specs.Device.{freshDevice, hearEvent, startFrame, drawLine, cellsLeft}
-use Rattle.device.specs.OnePage.{Call, draw, ask, event, State, Answer, drawn, asked, calls, effectOf, Stores, QuietRun}
-use Rattle.device.specs.OnePage as one-page
+use Rattle.calls.specs.OnePage.{Call, draw, ask, event, State, Answer, drawn, asked, calls, effectOf, Stores, QuietRun}
+use Rattle.calls.specs.OnePage as one-page
 
 -- ---- a host's traffic
 

@@ -1,0 +1,5 @@
+pub mod Claims
+pub mod OnePage
+pub mod Quiet
+pub mod Reach
+pub mod Witnesses

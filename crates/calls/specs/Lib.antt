@@ -1,0 +1,4 @@
+pub mod OnePage
+pub mod Reach
+pub mod Use
+pub mod Witnesses

@@ -1,0 +1,1 @@
+// Lists of the device's calls. This crate has definitions and claims only: see specs/OnePage.antt.

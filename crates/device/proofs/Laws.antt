@@ -1,0 +1,45 @@
+-- Laws of a draw: what its tests say of the device, and what holds of a draw by its verdict.
+-- Assumes nothing.
+use Prim.Native.Nat.{ℕ, _≤_}
+use mathlib.Core.Path.{_≡_, refl, sym, subst}
+use mathlib.Core.Bool.{Bool, true, false, not}
+use mathlib.Core.List.{List}
+use borrow.Author.Tests.{ltb-false}
+use lib.Dec.{T, eqb, ltb}
+use lib.ListN.{length}
+use Rattle.refusals.specs.declared.Refusal.{Refusal}
+use Rattle.refusals.specs.declared.Refusal.the-variants.{RamLength, FontLength, LineLength, NoLine}
+use Rattle.refusals.specs.Refusals.{Verdict, passed, failed, refuseIf}
+use Rattle.refusals.proofs.Laws.{failed-not}
+use Rattle.device.specs.declared.Device.{Device}
+use Rattle.device.specs.Device.{DrawOutcome, drawVerdict, drawBy, drawLine, lineDrawn, lineWidth, notDrawn}
+
+-- a draw that is not refused has a line left and room for it
+pub record Drawable (d : Device) (line : ℕ) : Type 0 where
+  pub left : T (not (eqb (d .frame .left) 0))
+  pub room : lineWidth d ≤ line
+
+pub drawable : (d : Device) (ram font line : ℕ) → drawVerdict d ram font line ≡ passed → Drawable d line
+unfolding drawVerdict
+drawable d ram font line = by (not (eqb ram 1024)) (not (eqb font 4608)) (eqb (d .frame .left) 0) (ltb line (lineWidth d)) refl refl
+  where
+    by : (a b c s : Bool) → eqb (d .frame .left) 0 ≡ c → ltb line (lineWidth d) ≡ s
+        → refuseIf a RamLength (refuseIf b FontLength (refuseIf c NoLine (refuseIf s LineLength passed))) ≡ passed → Drawable d line
+    by true b c s p q e = absurd (failed-not RamLength e)
+    by false true c s p q e = absurd (failed-not FontLength e)
+    by false false true s p q e = absurd (failed-not NoLine e)
+    by false false false true p q e = absurd (failed-not LineLength e)
+    by false false false false p q e = record { left = subst (λ (b : Bool). T (not b)) (sym p) tt; room = ltb-false line (lineWidth d) q }
+
+-- what holds of a refused draw and of an accepted one holds of a draw
+module _ (d : Device) (ram font line : List ℕ) (P : DrawOutcome → Type 0) (no-draw : (r : Refusal) → P (notDrawn d line r)) where
+  by-verdict : (v : Verdict) → (v ≡ passed → P (lineDrawn d ram font line)) → P (drawBy v d ram font line)
+  unfolding drawBy
+  by-verdict passed h = h refl
+  by-verdict (failed r) h = no-draw r
+
+  pub by-draw : (Drawable d (length line) → P (lineDrawn d ram font line)) → P (drawLine d ram font line)
+  unfolding drawLine
+  by-draw h =
+      by-verdict (drawVerdict d (length ram) (length font) (length line))
+      (λ v. h (drawable d (length ram) (length font) (length line) v))
