@@ -1,16 +1,48 @@
--- The laws of digits and digests.
+-- The laws of calls, digits and digests.
 -- Assumes nothing.
 use Prim.Native.Nat.{ℕ, zero, suc, _+_, _-_, _*_, _/_, _%_, _≤_, _<_}
 use mathlib.Core.Path.{_≡_, refl, sym, ap, _∙_}
+use mathlib.Core.Bool.{_||_}
 use mathlib.Core.List.{List, _∷_, _++_}
 use native.Mathlib.Nat.{not-suc-le-zero, mul-le-mul, mod-lt}
 use native.Mathlib.Numerals.{sub-one, add-one}
 use native.Mathlib.Omega.{arith}
+use lib.Dec.{eqb, ltb}
 use lib.ListN.{length, getD, take, drop, set}
 use lib.Seq.{drop-cons, drop-length}
+use Rattle.facts.proofs.Choice.{either}
 use Rattle.facts.proofs.Written.{front-more, front-whole, back-more}
+use Rattle.limits.specs.Limits.{frameLines}
+use Rattle.refusals.specs.Refusals.{Reply}
+use Rattle.device.specs.declared.Device.{Device}
+use Rattle.device.specs.declared.StartDone.{StartDone}
+use Rattle.device.specs.Device.{EventOutcome, StartOutcome, DrawOutcome, startReply, startFrame, startOutcome}
+use Rattle.test_script.specs.declared.Called.{Called}
 use Rattle.test_script.specs.declared.Numbers.{Numbers}
-use Rattle.test_script.specs.Script.{nextOf, noiseOf, mixed, digitOf, digitsOf}
+use Rattle.test_script.specs.Script.{calledOf, outcomeOf, drawnOf, nextOf, noiseOf, mixed, digitOf, digitsOf}
+
+-- ---- a call's two numbers are those of its reply
+
+pub called-as : (d : Device) (p : Reply) {r v : ℕ} → r ≡ p .refusal → v ≡ p .value → record { device = d; refusal = r; value = v } ≡ calledOf d p
+called-as d p e f = λ i. record { device = d; refusal = e i; value = f i }
+
+pub heard-as : (c : Called) (ram : List ℕ) (p : Reply) {o : EventOutcome} → c .refusal ≡ p .refusal → c .value ≡ p .value
+    → record { device = c .device; ram = ram; reply = p } ≡ o → outcomeOf c ram ≡ o
+heard-as c ram p e f h = (λ i. record { device = c .device; ram = ram; reply = record { refusal = e i; value = f i } }) ∙ h
+
+pub drawn-as : (c : Called) (line : List ℕ) (p : Reply) {o : DrawOutcome} → c .refusal ≡ p .refusal → c .value ≡ p .value
+    → record { device = c .device; line = line; reply = p } ≡ o → drawnOf c line ≡ o
+drawn-as c line p e f h = (λ i. record { device = c .device; line = line; reply = record { refusal = e i; value = f i } }) ∙ h
+
+-- a frame start has no number beside its refusal
+start-value : (d : Device) (lines : ℕ) → startFrame d lines .reply .value ≡ 0
+unfolding startFrame
+start-value d lines = either (λ (o : StartOutcome). o .reply .value ≡ 0) (eqb lines 0 || ltb frameLines lines) _ _ refl refl
+
+pub started-as : (d : Device) (lines : ℕ) (s : StartDone) {r : ℕ} → r ≡ startReply (s .answer) .refusal → startOutcome s ≡ startFrame d lines
+    → record { device = s .device; refusal = r; value = 0 } ≡ calledOf (startFrame d lines .device) (startFrame d lines .reply)
+started-as d lines s e h =
+    (λ i. record { device = h i .device; refusal = (e ∙ ap (λ (o : StartOutcome). o .reply .refusal) h) i; value = sym (start-value d lines) i })
 
 -- a number below 2³² and a factor below 2³²: with two numbers of 32 bits more, still below 2⁶⁴
 pub product-small : (x last factor : ℕ) → last < 4294967296 → factor < 4294967296

@@ -1,10 +1,16 @@
--- What the contracts of the test programs' library cite: steps of a script, numbers that look random, digests and digits.
+-- What the contracts of the test programs' library cite: steps of a script, calls, numbers that look random, digests and digits.
 -- Assumes nothing.
 use Prim.Native.Nat.{ℕ, zero, suc, _+_, _-_, _*_, _/_, _%_}
 use mathlib.Core.Bool.{cond}
 use mathlib.Core.List.{List, [], _∷_, _++_}
 use lib.Dec.{eqb, ltb}
 use lib.ListN.{length, getD}
+use Rattle.refusals.specs.Refusals.{Reply, accepted}
+use Rattle.device.specs.declared.Device.{Device}
+use Rattle.device.specs.Device.{freshDevice, EventOutcome, hearEvent, startFrame, DrawOutcome, askCell}
+use Rattle.test_script.specs.declared.Call.{Call}
+use Rattle.test_script.specs.declared.Call.the-variants.{Hear, Start, Ask, Reset}
+use Rattle.test_script.specs.declared.Called.{Called}
 use Rattle.test_script.specs.declared.Numbers.{Numbers}
 use Rattle.test_script.specs.declared.Step.{Step}
 
@@ -19,6 +25,24 @@ stepAt script i =
       c = getD script (4 * i + 3) 0;
     })
     (record { kind = 255; a = 0; b = 0; c = 0 })
+
+-- a device and a reply as a call gives them
+abbrev pub calledOf : Device → Reply → Called
+calledOf d r = record { device = d; refusal = r .refusal; value = r .value }
+
+-- what a call returned and left, in the form of the device's definitions: of a call on the RAM, and of a draw
+abbrev pub outcomeOf : Called → List ℕ → EventOutcome
+outcomeOf c ram = record { device = c .device; ram = ram; reply = record { refusal = c .refusal; value = c .value } }
+
+abbrev pub drawnOf : Called → List ℕ → DrawOutcome
+drawnOf c line = record { device = c .device; line = line; reply = record { refusal = c .refusal; value = c .value } }
+
+-- each call by the device's definition; the bus alone changes the RAM
+unfoldable pub made : Device → List ℕ → Call → EventOutcome
+made d ram (Hear e) = hearEvent d ram e
+made d ram (Start lines) = record { device = startFrame d lines .device; ram = ram; reply = startFrame d lines .reply }
+made d ram (Ask cell) = record { device = d; ram = ram; reply = askCell d ram cell }
+made d ram Reset = record { device = freshDevice; ram = ram; reply = accepted 0 }
 
 -- how much of a buffer is lent, by a choice: all, nothing, one byte less, and else one byte more
 abbrev pub lengthOf : ℕ → ℕ → ℕ

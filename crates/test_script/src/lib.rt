@@ -2,7 +2,9 @@
 ghost use mathlib.Core.Path.{_≡_};
 ghost use Prim.Native.Nat.{_<_};
 ghost use lib.ListN.{length, take};
-ghost use Rattle.test_script.specs.Script.{stepAt, lengthOf, nextOf, noiseOf, mixed, digitOf, digitsOf};
+ghost use Rattle.refusals.specs.Refusals.{accepted};
+ghost use Rattle.device.specs.Device.{hearEvent, startFrame, drawLine, askCell, freshDevice};
+ghost use Rattle.test_script.specs.Script.{stepAt, calledOf, outcomeOf, drawnOf, made, lengthOf, nextOf, noiseOf, mixed, digitOf, digitsOf};
 use bus::Event;
 use device::Device;
 
@@ -59,7 +61,9 @@ pub fn step_at(script: &[u8], i: usize) -> Step
 
 // ---- calls
 
-pub fn make(device: Device, ram: &mut [u8], call: Call) -> Called {
+pub fn make(device: Device, ram: &mut [u8], call: Call) -> Called
+    ensures { λ r. ⌜ outcomeOf r (now (ram .exit)) ≡ made device (now (ram .entry)) call ⌝ }
+{
     match call {
         Call::Hear(event) => hear(device, ram, event),
         Call::Start(lines) => start(device, lines),
@@ -68,7 +72,9 @@ pub fn make(device: Device, ram: &mut [u8], call: Call) -> Called {
     }
 }
 
-fn hear(device: Device, ram: &mut [u8], event: Event) -> Called {
+fn hear(device: Device, ram: &mut [u8], event: Event) -> Called
+    ensures { λ r. ⌜ outcomeOf r (now (ram .exit)) ≡ hearEvent device (now (ram .entry)) event ⌝ }
+{
     let done = device.hear(ram, event);
     let next = done.device;
     let answer = done.answer;
@@ -79,7 +85,9 @@ fn hear(device: Device, ram: &mut [u8], event: Event) -> Called {
     }
 }
 
-fn start(device: Device, lines: u32) -> Called {
+fn start(device: Device, lines: u32) -> Called
+    ensures { λ r. ⌜ r ≡ calledOf (startFrame device lines .device) (startFrame device lines .reply) ⌝ }
+{
     let done = device.start_frame(lines);
     let next = done.device;
     let answer = done.answer;
@@ -90,7 +98,9 @@ fn start(device: Device, lines: u32) -> Called {
     }
 }
 
-fn ask(device: Device, ram: &[u8], cell: u32) -> Called {
+fn ask(device: Device, ram: &[u8], cell: u32) -> Called
+    ensures { λ r. ⌜ r ≡ calledOf device (askCell device (now (ram .entry)) cell) ⌝ }
+{
     let answer = device.ask(ram, cell);
     Called {
         device: device,
@@ -99,7 +109,9 @@ fn ask(device: Device, ram: &[u8], cell: u32) -> Called {
     }
 }
 
-fn reset(device: Device) -> Called {
+fn reset(device: Device) -> Called
+    ensures { λ r. ⌜ r ≡ calledOf freshDevice (accepted 0) ⌝ }
+{
     Called {
         device: device.reset(),
         refusal: 0,
@@ -107,7 +119,9 @@ fn reset(device: Device) -> Called {
     }
 }
 
-pub fn draw<'a>(device: Device, ram: &'a [u8], font: &'a [u8], line: &mut [u8]) -> Called {
+pub fn draw<'a>(device: Device, ram: &'a [u8], font: &'a [u8], line: &mut [u8]) -> Called
+    ensures { λ r. ⌜ drawnOf r (now (line .exit)) ≡ drawLine device (now (ram .entry)) (now (font .entry)) (now (line .entry)) ⌝ }
+{
     let done = device.draw_line(ram, font, line);
     let next = done.device;
     let answer = done.answer;
