@@ -17,7 +17,7 @@ use Rattle.bus.specs.declared.Step.{Step}
 use Rattle.bus.specs.declared.Event.{Event}
 use Rattle.bus.specs.declared.Effect.{Effect}
 use Rattle.bus.specs.declared.Effect.the-variants.{Acknowledge, Ignore, Store, Load}
-use Rattle.bus.specs.Bus.{BusOutcome, busEvent, step, byteAt, fetchAt, ramWith, taken, isRam}
+use Rattle.bus.specs.Bus.{BusOutcome, busEvent, step, byteAt, fetchAt, ramWith, registersWith, taken, isRam, isRegister}
 
 with-length : (f : Effect) (ram : List ℕ) → length (ramWith f ram) ≡ length ram
 unfolding ramWith
@@ -26,16 +26,27 @@ with-length Ignore ram = refl
 with-length (Store a x) ram = either (λ (l : List ℕ). length l ≡ length ram) (isRam a) _ ram (length-set ram a x) refl
 with-length (Load a) ram = refl
 
+pub with-sixteen : (f : Effect) (r : Registers) → length (registersWith f r .bytes) ≡ length (r .bytes)
+unfolding registersWith
+with-sixteen Acknowledge r = refl
+with-sixteen Ignore r = refl
+with-sixteen (Store a x) r = either (λ (s : Registers). length (s .bytes) ≡ length (r .bytes)) (isRegister a) _ r (length-set (r .bytes) _ _) refl
+with-sixteen (Load a) r = refl
+
 -- what holds of a refused event and of a taken one holds of an event
 pub by-event : (P : BusOutcome → Type 0) (b : Bus) (r : Registers) (ram : List ℕ) (e : Event)
     → P (record { bus = b; registers = r; ram = ram; reply = refused RamLength }) → P (taken (step b e) r ram) → P (busEvent b r ram e)
 unfolding busEvent
 by-event P b r ram e h k = either P (not (eqb (length ram) 1024)) _ _ h k
 
--- an event keeps the RAM's length
+-- an event keeps the RAM's length, and the registers'
 pub busEvent-length : (b : Bus) (r : Registers) (ram : List ℕ) (e : Event) → length (busEvent b r ram e .ram) ≡ length ram
 busEvent-length b r ram e =
     by-event (λ (o : BusOutcome). length (o .ram) ≡ length ram) b r ram e refl (unfold taken in with-length (step b e .effect) ram)
+
+pub busEvent-sixteen : (b : Bus) (r : Registers) (ram : List ℕ) (e : Event) → length (busEvent b r ram e .registers .bytes) ≡ length (r .bytes)
+busEvent-sixteen b r ram e =
+    by-event (λ (o : BusOutcome). length (o .registers .bytes) ≡ length (r .bytes)) b r ram e refl (unfold taken in with-sixteen (step b e .effect) r)
 
 -- a state that is known to be s does what s does
 pub byte-at : (b : Bus) (x : ℕ) {s : BusState} → b .state ≡ s → byteAt s b x ≡ byteAt (b .state) b x

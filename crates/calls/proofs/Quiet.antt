@@ -90,10 +90,10 @@ pub quiet-if-write : (s : State) (e : Event) → (Stores (effectOf s e) → Quie
 quiet-if-write s e w = by (effectOf s e) refl
   where
     by : (f : Effect) → effectOf s e ≡ f → Quiet s e
-    by Acknowledge p = quiet-by s e (nothing-stored _ _ _ (effectOf s e) (subst (λ (f : Effect). Stores f → ⊥) (sym p) (unfold Stores in λ t. t)))
-    by Ignore p = quiet-by s e (nothing-stored _ _ _ (effectOf s e) (subst (λ (f : Effect). Stores f → ⊥) (sym p) (unfold Stores in λ t. t)))
+    by Acknowledge p = quiet-as s e Acknowledge p (nothing-stored _ _ _ Acknowledge (unfold Stores in λ t. t))
+    by Ignore p = quiet-as s e Ignore p (nothing-stored _ _ _ Ignore (unfold Stores in λ t. t))
     by (Store a x) p = w (subst Stores (sym p) (unfold Stores in tt))
-    by (Load a) p = quiet-by s e (nothing-stored _ _ _ (effectOf s e) (subst (λ (f : Effect). Stores f → ⊥) (sym p) (unfold Stores in λ t. t)))
+    by (Load a) p = quiet-as s e (Load a) p (nothing-stored _ _ _ (Load a) (unfold Stores in λ t. t))
 
 -- ---- the kinds of events
 

@@ -3,26 +3,23 @@
 -- Assumes nothing.
 use Prim.Native.Nat.{ℕ, zero, suc, _-_, _%_, _≤_, _<_, max}
 use mathlib.Core.Path.{_≡_, refl, sym, _∙_, subst}
-use mathlib.Core.Bool.{Bool, true, false, cond, _||_}
 use mathlib.Core.List.{List, [], _∷_}
 use native.Mathlib.Decide.{decLt}
 use native.Mathlib.Omega.{arith}
-use lib.Dec.{eqb, ltb}
-use lib.ListN.{length, getD, length-set, List·getD-eq-default}
+use lib.ListN.{length, getD, List·getD-eq-default}
 use lib.Bits.{bitAnd, and-le-r, and-zero-l}
-use Rattle.refusals.specs.declared.Refusal.the-variants.{FrameLines}
-use Rattle.refusals.specs.Refusals.{accepted, refused}
+use Rattle.facts.proofs.Choice.{either}
 use Rattle.registers.specs.declared.Registers.{Registers}
-use Rattle.registers.specs.Registers.{kept, freshRegisters, stored}
+use Rattle.registers.specs.Registers.{kept, freshRegisters}
 use Rattle.registers.proofs.Laws.{Masked, fresh-masked, stored-masked}
 use Rattle.bus.specs.declared.Event.{Event}
 use Rattle.bus.specs.declared.Effect.{Effect}
 use Rattle.bus.specs.declared.Effect.the-variants.{Acknowledge, Ignore, Store, Load}
 use Rattle.bus.specs.Bus.{BusOutcome, step, isRegister, registersWith, taken}
-use Rattle.bus.proofs.Laws.{by-event}
+use Rattle.bus.proofs.Laws.{by-event, busEvent-sixteen}
 use Rattle.device.specs.declared.Device.{Device}
 use Rattle.device.specs.Device.{freshDevice, hearEvent, StartOutcome, inFrame, startFrame, DrawOutcome, lineOn, lineDrawn, drawLine}
-use Rattle.device.proofs.Laws.{by-draw}
+use Rattle.device.proofs.Laws.{by-start, by-draw}
 use Rattle.calls.specs.Reach.{Reachable, fresh, reset, event, start, draw, UnusedBits}
 
 -- ---- what each call does to the registers
@@ -35,33 +32,26 @@ record Whole (r : Registers) : Type 0 where
 fresh-whole : Whole freshRegisters
 fresh-whole = record { masked = fresh-masked; sixteen = refl }
 
-with-whole : (f : Effect) (r : Registers) → Whole r → Whole (registersWith f r)
+with-masked : (f : Effect) (r : Registers) → Masked r → Masked (registersWith f r)
 unfolding registersWith
-with-whole Acknowledge r h = h
-with-whole Ignore r h = h
-with-whole (Store a x) r h = by (isRegister a)
-  where
-    by : (t : Bool) → Whole (cond t (stored r (a - 0x3FF0) x) r)
-    by true =
-        record { masked = stored-masked r (a - 0x3FF0) x (h .masked); sixteen = length-set (r .bytes) ((a - 0x3FF0) % 16) _ ∙ h .sixteen }
-    by false = h
-with-whole (Load a) r h = h
+with-masked Acknowledge r h = h
+with-masked Ignore r h = h
+with-masked (Store a x) r h = either Masked (isRegister a) _ _ (stored-masked r (a - 0x3FF0) x h) h
+with-masked (Load a) r h = h
 
 event-whole : (d : Device) (ram : List ℕ) (e : Event) → Whole (d .registers) → Whole (hearEvent d ram e .device .registers)
 unfolding hearEvent
 event-whole d ram e h =
-    by-event (λ (o : BusOutcome). Whole (o .registers)) (d .bus) (d .registers) ram e h
-    (unfold taken in with-whole (step (d .bus) e .effect) (d .registers) h)
+    record {
+      masked =
+          by-event (λ (o : BusOutcome). Masked (o .registers)) (d .bus) (d .registers) ram e (h .masked)
+          (unfold taken in with-masked (step (d .bus) e .effect) (d .registers) (h .masked));
+      sixteen = busEvent-sixteen (d .bus) (d .registers) ram e ∙ h .sixteen;
+    }
 
 start-same : (d : Device) (lines : ℕ) → startFrame d lines .device .registers ≡ d .registers
-unfolding startFrame inFrame
-start-same d lines = by (eqb lines 0 || ltb 2048 lines)
-  where
-    by : (t : Bool)
-        → cond {A = StartOutcome} t (record { device = d; reply = refused FrameLines }) (record { device = inFrame d lines; reply = accepted 0 })
-        .device .registers ≡ d .registers
-    by true = refl
-    by false = refl
+unfolding inFrame
+start-same d lines = by-start (λ (o : StartOutcome). o .device .registers ≡ d .registers) d lines refl refl
 
 draw-same : (d : Device) (ram font line : List ℕ) → drawLine d ram font line .device .registers ≡ d .registers
 unfolding lineDrawn lineOn

@@ -1,18 +1,30 @@
--- Laws of a draw: what its tests say of the device, and what holds of a draw by its verdict.
+-- Laws of a frame start and of a draw: what holds of each by its cases, and what a draw's tests say of the device.
 -- Assumes nothing.
 use Prim.Native.Nat.{ℕ, _≤_}
 use mathlib.Core.Path.{_≡_, refl, sym, subst}
-use mathlib.Core.Bool.{Bool, true, false, not}
+use mathlib.Core.Bool.{Bool, true, false, not, _||_}
 use mathlib.Core.List.{List}
 use borrow.Author.Tests.{ltb-false}
 use lib.Dec.{T, eqb, ltb}
 use lib.ListN.{length}
+use Rattle.limits.specs.Limits.{frameLines}
+use Rattle.facts.proofs.Choice.{either}
 use Rattle.refusals.specs.declared.Refusal.{Refusal}
-use Rattle.refusals.specs.declared.Refusal.the-variants.{RamLength, FontLength, LineLength, NoLine}
-use Rattle.refusals.specs.Refusals.{Verdict, passed, failed, refuseIf}
+use Rattle.refusals.specs.declared.Refusal.the-variants.{RamLength, FontLength, LineLength, NoLine, FrameLines}
+use Rattle.refusals.specs.Refusals.{accepted, refused, Verdict, passed, failed, refuseIf}
 use Rattle.refusals.proofs.Laws.{failed-not}
 use Rattle.device.specs.declared.Device.{Device}
-use Rattle.device.specs.Device.{DrawOutcome, drawVerdict, drawBy, drawLine, lineDrawn, lineWidth, notDrawn}
+use Rattle.device.specs.Device.{StartOutcome, inFrame, startFrame, DrawOutcome, drawVerdict, drawBy, drawLine, lineDrawn, lineWidth, notDrawn}
+
+-- ---- a frame start
+
+-- what holds of a refused frame start and of an accepted one holds of a frame start
+pub by-start : (P : StartOutcome → Type 0) (d : Device) (lines : ℕ) → P (record { device = d; reply = refused FrameLines })
+    → P (record { device = inFrame d lines; reply = accepted 0 }) → P (startFrame d lines)
+unfolding startFrame
+by-start P d lines h k = either P (eqb lines 0 || ltb frameLines lines) _ _ h k
+
+-- ---- a draw
 
 -- a draw that is not refused has a line left and room for it
 pub record Drawable (d : Device) (line : ℕ) : Type 0 where

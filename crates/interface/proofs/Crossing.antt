@@ -2,7 +2,7 @@
 -- Assumes nothing.
 use Prim.Native.Nat.{ℕ, _-_, _≤_}
 use mathlib.Core.Path.{_≡_, refl, sym, ap, _∙_}
-use mathlib.Core.Bool.{Bool, true, false, not, cond, _&&_, _||_}
+use mathlib.Core.Bool.{Bool, true, false, not, cond, _&&_}
 use mathlib.Core.List.{List}
 use native.Mathlib.Omega.{arith}
 use borrow.Author.Tests.{eq-eqb, ne-eqb, le-ltb, eqb-true, not-false}
@@ -11,12 +11,12 @@ use lib.ListN.{length, set, length-append, length-set, length-take, length-drop}
 use lib.Seq.{length-sets}
 use Rattle.facts.proofs.Choice.{either}
 use Rattle.cells.specs.Reading.{value}
-use Rattle.refusals.specs.Refusals.{numberOf, accepted, refused}
+use Rattle.refusals.specs.Refusals.{numberOf, refused}
 use Rattle.refusals.specs.declared.Refusal.{Refusal}
-use Rattle.refusals.specs.declared.Refusal.the-variants.{RamLength, NotAcknowledged, FrameLines}
+use Rattle.refusals.specs.declared.Refusal.the-variants.{RamLength, NotAcknowledged}
 use Rattle.refusals.proofs.Laws.{not-zero}
 use Rattle.registers.specs.declared.Registers.{Registers}
-use Rattle.registers.specs.Registers.{stored, settingsOf}
+use Rattle.registers.specs.Registers.{settingsOf}
 use Rattle.bus.specs.declared.BusState.{BusState}
 use Rattle.bus.specs.declared.BusState.the-variants.{Idle, Deaf, Slave, High, Low, Write, Read}
 use Rattle.bus.specs.declared.Bus.{Bus}
@@ -25,16 +25,16 @@ use Rattle.bus.specs.declared.Event.{Event}
 use Rattle.bus.specs.declared.Event.the-variants.{Start, Byte, Fetch, Stop}
 use Rattle.bus.specs.declared.Effect.{Effect}
 use Rattle.bus.specs.declared.Effect.the-variants.{Acknowledge, Ignore, Store, Load}
-use Rattle.bus.specs.Bus.{eventOf, goes, byteAt, fetchAt, step, isRegister, registersWith, ramWith, answerTo, BusOutcome, taken, busEvent}
-use Rattle.bus.proofs.Laws.{by-event, busEvent-length}
+use Rattle.bus.specs.Bus.{eventOf, goes, byteAt, fetchAt, step, registersWith, ramWith, answerTo, BusOutcome, taken, busEvent}
+use Rattle.bus.proofs.Laws.{by-event, busEvent-length, with-sixteen, busEvent-sixteen}
 use Rattle.line.proofs.Laws.{paint-length}
 use Rattle.device.specs.declared.Device.{Device}
-use Rattle.device.specs.Device.{freshDevice, EventOutcome, hearEvent, StartOutcome, inFrame, startFrame, DrawOutcome, notDrawn, nextScan, pixelsOf, lineOn, lineWidth, lineDrawn, drawLine, askCell}
-use Rattle.device.proofs.Laws.{by-draw}
-use Rattle.layout.specs.Layout.{busAt, registersAt, registersLength, nextAt, frameAt, recordLength, part, put, stateNumber, busBytes, nextBytes, frameBytes, deviceIn}
+use Rattle.device.specs.Device.{freshDevice, EventOutcome, hearEvent, StartOutcome, inFrame, startFrame, DrawOutcome, notDrawn, nextScan, pixelsOf, lineOn, lineWidth, lineDrawn, drawLine}
+use Rattle.device.proofs.Laws.{by-start, by-draw}
+use Rattle.layout.specs.Layout.{busAt, registersAt, registersLength, nextAt, frameAt, recordLength, put, stateNumber, busBytes, nextBytes, frameBytes, deviceIn}
 use Rattle.layout.proofs.Laws.{withBus, withRegisters, read-back, event-back, deaf-back, draw-back, start-back}
-use Rattle.interface.specs.Interface.{answerOf, notTaken, isRecord, Done, freshOn, BusDone, ignoredOn, heardOn, busOn, startedOn, startOn, DrawDone, drawnOn, drawOn, cellOn, Crossing}
-use Rattle.interface.proofs.Laws.{if-taken, ignored-same, fresh-not, bus-is, bus-not-record, bus-not-kind, start-not, draw-not, cell-not}
+use Rattle.interface.specs.Interface.{answerOf, notTaken, isRecord, Done, freshOn, BusDone, ignoredOn, heardOn, busOn, startedOn, startOn, DrawDone, drawnOn, drawOn, Crossing}
+use Rattle.interface.proofs.Laws.{if-taken, ignored-same, fresh-not, bus-is, bus-not-record, bus-not-kind, start-not, draw-not, cell-not, cell-is}
 
 -- ---- an event that is not acknowledged
 
@@ -106,22 +106,9 @@ After xs b r = withBus b (withRegisters r (deviceIn xs))
 sixteen : (xs : List ℕ) → length xs ≡ recordLength → length (deviceIn xs .registers .bytes) ≡ registersLength
 sixteen xs h = simp (length-take, length-drop) (omega arith)
 
-still-sixteen : (xs : List ℕ) (f : Effect) → length xs ≡ recordLength → length (registersWith f (deviceIn xs .registers) .bytes) ≡ registersLength
-unfolding registersWith
-still-sixteen xs Acknowledge h = sixteen xs h
-still-sixteen xs Ignore h = sixteen xs h
-still-sixteen xs (Load a) h = sixteen xs h
-still-sixteen xs (Store a x) h = by (isRegister a)
-  where
-    by : (t : Bool) → length (cond t (stored (deviceIn xs .registers) (a - 0x3FF0) x) (deviceIn xs .registers) .bytes) ≡ registersLength
-    by true = length-set (part registersAt registersLength xs) _ _ ∙ sixteen xs h
-    by false = sixteen xs h
-
 -- the registers after an event are sixteen
 pub heard-sixteen : (xs ram : List ℕ) (e : Event) → length xs ≡ recordLength → length (busEvent (deviceIn xs .bus) (deviceIn xs .registers) ram e .registers .bytes) ≡ registersLength
-heard-sixteen xs ram e h =
-    by-event (λ (o : BusOutcome). length (o .registers .bytes) ≡ registersLength) (deviceIn xs .bus) (deviceIn xs .registers) ram e (sixteen xs h)
-    (unfold taken in still-sixteen xs (step (deviceIn xs .bus) e .effect) h)
+heard-sixteen xs ram e h = busEvent-sixteen (deviceIn xs .bus) (deviceIn xs .registers) ram e ∙ sixteen xs h
 
 ignored-back : (xs : List ℕ) (e : Event) (next : Bus) → length xs ≡ recordLength → Ignored (deviceIn xs .bus) e next
     → deviceIn (ignoredOn (next .state) xs) ≡ After xs next (deviceIn xs .registers)
@@ -133,10 +120,10 @@ heard-back : (xs ram : List ℕ) (next : Bus) (f : Effect) → length xs ≡ rec
     → (T (isIgnore f) → deviceIn (ignoredOn (next .state) xs) ≡ After xs next (deviceIn xs .registers))
     → deviceIn (heardOn xs (taken (record { bus = next; effect = f }) (deviceIn xs .registers) ram) .device) ≡ After xs next (registersWith f (deviceIn xs .registers))
 unfolding heardOn taken registersWith answerTo
-heard-back xs ram next Acknowledge h i = event-back next (deviceIn xs .registers) xs (still-sixteen xs Acknowledge h) h
+heard-back xs ram next Acknowledge h i = event-back next (deviceIn xs .registers) xs (sixteen xs h) h
 heard-back xs ram next Ignore h i = i tt
-heard-back xs ram next (Store a x) h i = event-back next (registersWith (Store a x) (deviceIn xs .registers)) xs (still-sixteen xs (Store a x) h) h
-heard-back xs ram next (Load a) h i = event-back next (deviceIn xs .registers) xs (still-sixteen xs (Load a) h) h
+heard-back xs ram next (Store a x) h i = event-back next (registersWith (Store a x) (deviceIn xs .registers)) xs (with-sixteen (Store a x) (deviceIn xs .registers) ∙ sixteen xs h) h
+heard-back xs ram next (Load a) h i = event-back next (deviceIn xs .registers) xs (sixteen xs h) h
 
 cross-bus : (xs ram : List ℕ) (kind byte : ℕ) → length xs ≡ recordLength → kind ≤ 3
     → deviceIn (busOn xs ram kind byte .device) ≡ hearEvent (deviceIn xs) ram (eventOf kind byte) .device
@@ -155,17 +142,15 @@ cross-bus xs ram kind byte h k =
 start-cases : (xs : List ℕ) (lines : ℕ) → length xs ≡ recordLength
     → let o : StartOutcome = startFrame (deviceIn xs) lines in
     (deviceIn (startedOn xs o .device) ≡ o .device) × ((o .reply .refusal ≡ 0 → ⊥) → startedOn xs o .device ≡ xs)
-unfolding startedOn startFrame inFrame
-start-cases xs lines h = by (eqb lines 0 || ltb 2048 lines)
+unfolding startedOn inFrame
+start-cases xs lines h =
+    by-start (λ (o : StartOutcome). (deviceIn (startedOn xs o .device) ≡ o .device) × ((o .reply .refusal ≡ 0 → ⊥) → startedOn xs o .device ≡ xs))
+    d lines
+    (refl, λ n. refl)
+    (start-back (inFrame d lines .frame) (inFrame d lines .next) xs h, λ n. absurd (n refl))
   where
     d : Device
     d = deviceIn xs
-
-    by : (t : Bool)
-        → let o : StartOutcome = cond t (record { device = d; reply = refused FrameLines }) (record { device = inFrame d lines; reply = accepted 0 }) in
-        (deviceIn (startedOn xs o .device) ≡ o .device) × ((o .reply .refusal ≡ 0 → ⊥) → startedOn xs o .device ≡ xs)
-    by true = (refl, λ n. refl)
-    by false = (start-back (inFrame d lines .frame) (inFrame d lines .next) xs h, λ n. absurd (n refl))
 
 -- W bytes written at the front of a buffer that has them
 line-length : (d : Device) (ram font line : List ℕ) → lineWidth d ≤ length line → length (lineDrawn d ram font line .line) ≡ length line
@@ -314,10 +299,6 @@ draw-whole : (xs ram font line : List ℕ) → length xs ≡ recordLength
 unfolding drawOn drawnOn
 draw-whole xs ram font line h = rw (eq-eqb _ _ h) (draw-cases xs ram font line h .0, refl, refl)
 
-cell-rest : (xs ram : List ℕ) (c : ℕ) → length xs ≡ recordLength → cellOn xs ram c ≡ answerOf (askCell (deviceIn xs) ram c)
-unfolding cellOn
-cell-rest xs ram c h = rw (eq-eqb _ _ h)
-
 fresh-read : (xs : List ℕ) → length xs ≡ recordLength → (deviceIn (freshOn xs .device) ≡ freshDevice) × (freshOn xs .answer ≡ 0)
 unfolding freshOn freshDevice
 fresh-read xs h = rw (eq-eqb _ _ h) (read-back freshDevice refl, refl)
@@ -329,7 +310,7 @@ crossing =
       bus = λ xs ram kind byte h k. (cross-bus xs ram kind byte h k, bus-rest xs ram kind byte h k .0, bus-rest xs ram kind byte h k .1);
       start = start-whole;
       draw = draw-whole;
-      cell = cell-rest;
+      cell = λ xs ram c h. sym (cell-is xs h ram c);
       not-taken = λ xs ram font line kind byte lines c h. (
         sym (fresh-not xs h),
         sym (bus-not-record xs ram kind byte h),

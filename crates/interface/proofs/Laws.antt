@@ -11,11 +11,11 @@ use lib.ListN.{length, getD, set}
 use lib.Seq.{set-getD}
 use Rattle.facts.proofs.Parts.{getD-part}
 use Rattle.bus.specs.Bus.{eventOf, busEvent}
-use Rattle.device.specs.Device.{hearEvent}
+use Rattle.device.specs.Device.{hearEvent, startFrame, drawLine, askCell}
 use Rattle.layout.specs.Layout.{busAt, busLength, recordLength, part, stateNumber, deviceIn}
 use Rattle.layout.proofs.Laws.{numbered}
 use Rattle.interface.specs.Interface as face
-use Rattle.interface.specs.Interface.{notTaken, isRecord, freshOn, ignoredOn, heardOn, busOn, startOn, drawOn, cellOn}
+use Rattle.interface.specs.Interface.{answerOf, notTaken, isRecord, freshOn, ignoredOn, heardOn, busOn, startedOn, startOn, drawnOn, drawOn, cellOn}
 
 -- what holds of a call that the interface's own tests let through, and of one that they do not, holds of the call
 pub if-taken : {A : Type 0} (P : A → Type 0) (t : Bool) (x y : A) → (t ≡ true → P x) → P y → P (cond t x y)
@@ -82,3 +82,18 @@ module _ (xs ram : List ℕ) (kind byte : ℕ) (h : length xs ≡ recordLength) 
   pub bus-is : heardOn xs (busEvent (deviceIn xs .bus) (deviceIn xs .registers) ram (eventOf kind byte)) ≡ busOn xs ram kind byte
   unfolding busOn hearEvent
   bus-is = rw (eq-eqb _ _ h, le-ltb _ _ k)
+
+-- ---- the other calls, on a record that is one
+
+module _ (xs : List ℕ) (h : length xs ≡ recordLength) where
+  pub start-is : (lines : ℕ) → startedOn xs (startFrame (deviceIn xs) lines) ≡ startOn xs lines
+  unfolding startOn
+  start-is lines = rw (eq-eqb _ _ h)
+
+  pub draw-is : (ram font line : List ℕ) → drawnOn xs (drawLine (deviceIn xs) ram font line) ≡ drawOn xs ram font line
+  unfolding drawOn
+  draw-is ram font line = rw (eq-eqb _ _ h)
+
+  pub cell-is : (ram : List ℕ) (cell : ℕ) → answerOf (askCell (deviceIn xs) ram cell) ≡ cellOn xs ram cell
+  unfolding cellOn
+  cell-is ram cell = rw (eq-eqb _ _ h)

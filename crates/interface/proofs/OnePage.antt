@@ -24,9 +24,9 @@ use Rattle.calls.proofs.Quiet.{quiet-if-write}
 use Rattle.calls.proofs.OnePage.{late, same-draw, apart, still-unread}
 use Rattle.layout.specs.Layout.{busAt, registersAt, registersLength, frameAt, recordLength, put, stateNumber, busBytes, frameBytes, deviceIn}
 use Rattle.facts.proofs.Parts.{sets-comm}
-use Rattle.interface.specs.Interface.{answerOf, notTaken, BusDone, heardOn, busOn, drawnOn, drawOn, cellOn}
+use Rattle.interface.specs.Interface.{answerOf, notTaken, BusDone, heardOn, busOn, DrawDone, drawnOn, drawOn, cellOn}
 use Rattle.interface.specs.OnePage.{Call, draw, cell, bus, State, Answer, drawn, asked, heard, answer, after, isEvent, calls, Quiet, QuietCall, QuietRun, OnePageBytes, NoStaysBytes}
-use Rattle.interface.proofs.Laws.{both-tests, bus-is}
+use Rattle.interface.proofs.Laws.{both-tests, bus-is, draw-is}
 use Rattle.interface.proofs.Crossing.{heard-sixteen, crossing}
 
 -- ---- calls that are taken
@@ -165,10 +165,6 @@ apart-bytes xs o d k =
     by true false true = sets-comm xs (1 ∷ []) frame busAt frameAt (omega arith)
     by true false false = refl
 
-draw-is : (xs ram font line : List ℕ) → length xs ≡ recordLength → drawOn xs ram font line .device ≡ drawnOn xs (drawLine (deviceIn xs) ram font line) .device
-unfolding drawOn
-draw-is xs ram font line h = rw (eq-eqb _ _ h)
-
 -- the draw after the quiet event draws the same, the event after the draw does the same; so the bytes are the same
 same-bytes : (xs ram font line : List ℕ) (kind byte : ℕ) → length xs ≡ recordLength → kind ≤ 3
     → device.Quiet (record { device = deviceIn xs; ram = ram }) (eventOf kind byte)
@@ -188,12 +184,14 @@ same-bytes xs ram font line kind byte h k q =
     ap (λ (x : Device). busEvent (x .bus) (x .registers) ram e) (crossing .draw xs ram font line h .0)
     ∙ by-draw (deviceIn xs) ram font line (λ (x : DrawOutcome). busEvent (x .device .bus) (x .device .registers) ram e ≡ o)
     (λ r. refl) (unfold lineDrawn lineOn in λ t. refl) in
+    let drawn-is : (l m : List ℕ) → length l ≡ recordLength → drawnOn l (drawLine (deviceIn l) m font line) .device ≡ drawOn l m font line .device =
+    λ l m n. ap (λ (r : DrawDone). r .device) (draw-is l n m font line) in
     let heard-is : (l : List ℕ) → length l ≡ recordLength → heardOn l (busEvent (deviceIn l .bus) (deviceIn l .registers) ram e) .device ≡ busOn l ram kind byte .device =
     λ l n. ap (λ (r : BusDone). r .device) (bus-is l ram kind byte n k) in
-    draw-is ys (busOn xs ram kind byte .ram) font line (crossing .length-bus xs ram kind byte .0 ∙ h)
+    sym (drawn-is ys (busOn xs ram kind byte .ram) (crossing .length-bus xs ram kind byte .0 ∙ h))
     ∙ ap₂ (λ (l : List ℕ) (x : DrawOutcome). drawnOn l x .device) (sym (heard-is xs h)) drawn-late
     ∙ apart-bytes xs o d (heard-sixteen xs ram e h)
-    ∙ ap₂ (λ (l : List ℕ) (x : BusOutcome). heardOn l x .device) (sym (draw-is xs ram font line h)) (sym heard-late)
+    ∙ ap₂ (λ (l : List ℕ) (x : BusOutcome). heardOn l x .device) (drawn-is xs ram h) (sym heard-late)
     ∙ heard-is zs (crossing .length-draw xs ram font line .0 ∙ h)
 
 -- ---- condition 3

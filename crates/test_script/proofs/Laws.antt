@@ -2,21 +2,18 @@
 -- Assumes nothing.
 use Prim.Native.Nat.{ℕ, zero, suc, _+_, _-_, _*_, _/_, _%_, _≤_, _<_}
 use mathlib.Core.Path.{_≡_, refl, sym, ap, _∙_}
-use mathlib.Core.Bool.{_||_}
 use mathlib.Core.List.{List, _∷_, _++_}
 use native.Mathlib.Nat.{not-suc-le-zero, mul-le-mul, mod-lt}
 use native.Mathlib.Numerals.{sub-one, add-one}
 use native.Mathlib.Omega.{arith}
-use lib.Dec.{eqb, ltb}
 use lib.ListN.{length, getD, take, drop, set}
 use lib.Seq.{drop-cons, drop-length}
-use Rattle.facts.proofs.Choice.{either}
 use Rattle.facts.proofs.Written.{front-more, front-whole, back-more}
-use Rattle.limits.specs.Limits.{frameLines}
 use Rattle.refusals.specs.Refusals.{Reply}
 use Rattle.device.specs.declared.Device.{Device}
 use Rattle.device.specs.declared.StartDone.{StartDone}
 use Rattle.device.specs.Device.{EventOutcome, StartOutcome, DrawOutcome, startReply, startFrame, startOutcome}
+use Rattle.device.proofs.Laws.{by-start}
 use Rattle.test_script.specs.declared.Called.{Called}
 use Rattle.test_script.specs.declared.Numbers.{Numbers}
 use Rattle.test_script.specs.Script.{calledOf, outcomeOf, drawnOf, nextOf, noiseOf, mixed, digitOf, digitsOf}
@@ -36,8 +33,7 @@ drawn-as c line p e f h = (λ i. record { device = c .device; line = line; reply
 
 -- a frame start has no number beside its refusal
 start-value : (d : Device) (lines : ℕ) → startFrame d lines .reply .value ≡ 0
-unfolding startFrame
-start-value d lines = either (λ (o : StartOutcome). o .reply .value ≡ 0) (eqb lines 0 || ltb frameLines lines) _ _ refl refl
+start-value d lines = by-start (λ (o : StartOutcome). o .reply .value ≡ 0) d lines refl refl
 
 pub started-as : (d : Device) (lines : ℕ) (s : StartDone) {r : ℕ} → r ≡ startReply (s .answer) .refusal → startOutcome s ≡ startFrame d lines
     → record { device = s .device; refusal = r; value = 0 } ≡ calledOf (startFrame d lines .device) (startFrame d lines .reply)
