@@ -1,11 +1,11 @@
 -- Each call of the interface, from what the device's function returned: the cases of the definitions.
 -- Assumes nothing.
-use Prim.Native.Nat.{ℕ, _+_, _-_, _%_, _≤_}
+use Prim.Native.Nat.{ℕ, _+_, _-_, _%_, _≤_, _<_}
 use mathlib.Core.Path.{_≡_, refl, sym, ap, ap₂, _∙_}
 use mathlib.Core.Bool.{Bool, true, false, cond}
 use mathlib.Core.List.{List, [], _∷_}
 use native.Mathlib.Omega.{arith}
-use borrow.Author.Tests.{eq-eqb, ne-eqb}
+use borrow.Author.Tests.{eq-eqb, ne-eqb, le-leb, lt-leb}
 use lib.Dec.{eqb}
 use lib.Bits.{bitAnd}
 use lib.ListN.{length, getD, set}
@@ -27,13 +27,13 @@ use Rattle.device.specs.declared.StartDone.{StartDone}
 use Rattle.device.specs.declared.DrawDone.{DrawDone}
 use Rattle.device.specs.declared.StartAnswer.the-variants as start
 use Rattle.device.specs.declared.DrawAnswer.the-variants as draw
-use Rattle.device.specs.Device.{freshDevice, startOutcome, startFrame, drawOutcome, drawLine, askCell}
+use Rattle.device.specs.Device.{freshDevice, startOutcome, startFrame, drawOutcome, drawLine}
 use Rattle.layout.specs.Layout.{busAt, busLength, registersAt, registersLength, nextAt, frameAt, recordLength, put, stateNumber, busBytes, nextBytes, frameBytes, deviceBytes, deviceIn}
 use Rattle.facts.proofs.Parts.{sets-comm, sets-part, set-part}
 use Rattle.layout.proofs.Laws.{numbered, put-part}
 use Rattle.interface.specs.Interface as face
-use Rattle.interface.specs.Interface.{answerOf, freshOn, ignoredOn, heardOn, busOn, startedOn, startOn, drawnOn, drawOn, cellOn}
-use Rattle.interface.proofs.Laws.{state-byte, ignored-same, bus-is}
+use Rattle.interface.specs.Interface.{answerOf, freshOn, ignoredOn, heardOn, busOn, startedOn, startOn, drawnOn, drawOn}
+use Rattle.interface.proofs.Laws.{state-byte, ignored-same, bus-is, start-is, draw-is}
 use Rattle.osd.specs.Steps.{InSpace, stepOn, eventOn, storedOn}
 
 -- ---- fresh, and reset
@@ -45,14 +45,13 @@ fresh-done xs ys h e = rw (eq-eqb _ _ h) (ap (λ (l : List ℕ). record { device
 -- ---- frame start
 
 module _ (xs : List ℕ) (lines : ℕ) (x : Device) (d : StartDone) (h : length xs ≡ recordLength) (u : x ≡ deviceIn xs) (e : startOutcome d ≡ startFrame x lines) where
-  start-is : startedOn xs (startOutcome d) ≡ startOn xs lines
-  unfolding startOn
-  start-is = rw (eq-eqb _ _ h) (ap (startedOn xs) (e ∙ ap (λ (y : Device). startFrame y lines) u))
+  started : startedOn xs (startOutcome d) ≡ startOn xs lines
+  started = ap (startedOn xs) (e ∙ ap (λ (y : Device). startFrame y lines) u) ∙ start-is xs h lines
 
   pub start-done : (ys : List ℕ) → d .answer ≡ start.Started → ys ≡ put frameAt (frameBytes (d .device .frame)) (put nextAt (nextBytes (d .device .next)) xs)
       → _≡_ {A = face.Done} (record { device = ys; answer = 0 }) (startOn xs lines)
   unfolding startedOn
-  start-done ys q p = by ∙ start-is
+  start-done ys q p = by ∙ started
     where
       by : _≡_ {A = face.Done} (record { device = ys; answer = 0 }) (startedOn xs (startOutcome d))
       by = rw q (ap (λ (l : List ℕ). record { device = l; answer = 0 }) p)
@@ -60,7 +59,7 @@ module _ (xs : List ℕ) (lines : ℕ) (x : Device) (d : StartDone) (h : length 
   pub start-refused : (r : Refusal) (a : ℕ) → d .answer ≡ start.Refused r → a ≡ answerOf (refused r)
       → _≡_ {A = face.Done} (record { device = xs; answer = a }) (startOn xs lines)
   unfolding startedOn
-  start-refused r a q p = by ∙ start-is
+  start-refused r a q p = by ∙ started
     where
       by : _≡_ {A = face.Done} (record { device = xs; answer = a }) (startedOn xs (startOutcome d))
       by = rw (q, not-zero r) (ap (λ (n : ℕ). record { device = xs; answer = n }) p)
@@ -69,14 +68,13 @@ module _ (xs : List ℕ) (lines : ℕ) (x : Device) (d : StartDone) (h : length 
 
 module _ (xs ram font line line′ : List ℕ) (x : Device) (d : DrawDone) (h : length xs ≡ recordLength) (u : x ≡ deviceIn xs)
     (e : drawOutcome d line′ ≡ drawLine x ram font line) where
-  draw-is : drawnOn xs (drawOutcome d line′) ≡ drawOn xs ram font line
-  unfolding drawOn
-  draw-is = rw (eq-eqb _ _ h) (ap (drawnOn xs) (e ∙ ap (λ (y : Device). drawLine y ram font line) u))
+  drawn : drawnOn xs (drawOutcome d line′) ≡ drawOn xs ram font line
+  drawn = ap (drawnOn xs) (e ∙ ap (λ (y : Device). drawLine y ram font line) u) ∙ draw-is xs h ram font line
 
   pub draw-done : (ys : List ℕ) (n : ℕ) → d .answer ≡ draw.Drawn n → ys ≡ put frameAt (frameBytes (d .device .frame)) xs
       → _≡_ {A = face.DrawDone} (record { device = ys; line = line′; answer = n }) (drawOn xs ram font line)
   unfolding drawnOn
-  draw-done ys n q p = by ∙ draw-is
+  draw-done ys n q p = by ∙ drawn
     where
       by : _≡_ {A = face.DrawDone} (record { device = ys; line = line′; answer = n }) (drawnOn xs (drawOutcome d line′))
       by = let z : n ≡ 0 + n = omega arith in rw q (λ i. record { device = p i; line = line′; answer = z i })
@@ -84,39 +82,49 @@ module _ (xs ram font line line′ : List ℕ) (x : Device) (d : DrawDone) (h : 
   pub draw-refused : (r : Refusal) (a : ℕ) → d .answer ≡ draw.Refused r → a ≡ answerOf (refused r)
       → _≡_ {A = face.DrawDone} (record { device = xs; line = line′; answer = a }) (drawOn xs ram font line)
   unfolding drawnOn
-  draw-refused r a q p = by ∙ draw-is
+  draw-refused r a q p = by ∙ drawn
     where
       by : _≡_ {A = face.DrawDone} (record { device = xs; line = line′; answer = a }) (drawnOn xs (drawOutcome d line′))
       by = rw (q, not-zero r) (ap (λ (n : ℕ). record { device = xs; line = line′; answer = n }) p)
 
--- ---- cell question
-
-pub cell-done : (xs ram : List ℕ) (cell a : ℕ) → length xs ≡ recordLength → a ≡ answerOf (askCell (deviceIn xs) ram cell) → a ≡ cellOn xs ram cell
-unfolding cellOn
-cell-done xs ram cell a h e = rw (eq-eqb _ _ h) e
-
 -- ---- the registers in their place
 
 -- a store to one of them, or to none
-stored-in-place : (b : Bus) (xs : List ℕ) (a x : ℕ)
-    → storedOn a x (put busAt (busBytes b) xs)
-    ≡ put busAt (busBytes b) (put registersAt (registersWith (Store a x) (deviceIn xs .registers) .bytes) xs)
-unfolding registersWith
-stored-in-place b xs a x = by (isRegister a)
-  where
-    i : ℕ
-    i = (a - 0x3FF0) % 16
+module _ (a x : ℕ) where
+  abbrev place : ℕ
+  place = (a - 0x3FF0) % 16
 
-    v : ℕ
-    v = bitAnd x (getD kept i 0)
+  abbrev setOn : List ℕ → List ℕ
+  setOn xs = cond (isRegister a) (set xs (registersAt + place) (bitAnd x (getD kept place 0))) xs
 
-    by : (t : Bool)
-        → cond t (set (put busAt (busBytes b) xs) (registersAt + i) v) (put busAt (busBytes b) xs)
-        ≡ put busAt (busBytes b) (put registersAt (cond t (stored (deviceIn xs .registers) (a - 0x3FF0) x) (deviceIn xs .registers) .bytes) xs)
-    by true =
-        sets-comm xs (busBytes b) (v ∷ []) busAt (registersAt + i) (omega arith)
-        ∙ ap (put busAt (busBytes b)) (set-part registersAt registersLength i xs v (omega arith))
-    by false = ap (put busAt (busBytes b)) (sym (sets-part registersAt registersLength xs))
+  set-is : (xs : List ℕ) → setOn xs ≡ storedOn a x xs
+  unfolding registersWith
+  set-is xs = by (isRegister a)
+    where
+      by : (t : Bool)
+          → cond t (set xs (registersAt + place) (bitAnd x (getD kept place 0))) xs
+          ≡ put registersAt (cond t (stored (deviceIn xs .registers) (a - 0x3FF0) x) (deviceIn xs .registers) .bytes) xs
+      by true = set-part registersAt registersLength place xs _ (omega arith)
+      by false = sym (sets-part registersAt registersLength xs)
+
+  pub set-register : (xs : List ℕ) → 0x3FF0 ≤ a → a < 0x4000 → set xs (registersAt + (a - 0x3FF0)) (bitAnd x (getD kept (a - 0x3FF0) 0)) ≡ storedOn a x xs
+  set-register xs h k = let few : place ≡ a - 0x3FF0 = omega arith in rw (le-leb _ _ h, few) at set-is xs
+
+  pub set-none : (xs : List ℕ) → a < 0x3FF0 → xs ≡ storedOn a x xs
+  set-none xs h = rw (lt-leb _ _ h) at set-is xs
+
+  -- before the bus's bytes are put, or after
+  stored-in-place : (b : Bus) (xs : List ℕ) → storedOn a x (put busAt (busBytes b) xs) ≡ put busAt (busBytes b) (storedOn a x xs)
+  stored-in-place b xs = sym (set-is (put busAt (busBytes b) xs)) ∙ by (isRegister a) ∙ ap (put busAt (busBytes b)) (set-is xs)
+    where
+      v : ℕ
+      v = bitAnd x (getD kept place 0)
+
+      by : (t : Bool)
+          → cond t (set (put busAt (busBytes b) xs) (registersAt + place) v) (put busAt (busBytes b) xs)
+          ≡ put busAt (busBytes b) (cond t (set xs (registersAt + place) v) xs)
+      by true = sets-comm xs (busBytes b) (v ∷ []) busAt (registersAt + place) (omega arith)
+      by false = refl
 
 -- ---- what the bus asks of the cells
 
@@ -164,7 +172,7 @@ module _ (xs ram ys : List ℕ) (s : Step) (e : ys ≡ put busAt (busBytes (s .b
       → _≡_ {A = face.BusDone} (record { device = zs; ram = ram′; answer = 0 }) (stepOn xs ram s)
   unfolding heardOn taken answerTo
   applied-store a x zs ram′ q p r =
-      let place = p ∙ ap (storedOn a x) e ∙ stored-in-place (s .bus) xs a x in rw q (λ i. record { device = place i; ram = r i; answer = 0 })
+      let place = p ∙ ap (storedOn a x) e ∙ stored-in-place a x (s .bus) xs in rw q (λ i. record { device = place i; ram = r i; answer = 0 })
 
   pub applied-load : (a byte : ℕ) → s .effect ≡ Load a → byte ≡ byteIn a (deviceIn xs .registers) ram
       → _≡_ {A = face.BusDone} (record { device = ys; ram = ram; answer = byte }) (stepOn xs ram s)

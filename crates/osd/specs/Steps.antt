@@ -1,18 +1,14 @@
 -- A bus event on the record's bytes, step by step: what the promises of inner functions cite. The interface's own promises do not speak
 -- of these.
 -- Assumes nothing.
-use Prim.Native.Nat.{ℕ, _+_, _-_, _%_, _<_}
-use mathlib.Core.Bool.{cond}
+use Prim.Native.Nat.{ℕ, _<_}
 use mathlib.Core.List.{List}
-use lib.ListN.{getD, set}
-use lib.Bits.{bitAnd}
-use Rattle.registers.specs.Registers.{kept}
 use Rattle.bus.specs.declared.Event.{Event}
 use Rattle.bus.specs.declared.Step.{Step}
 use Rattle.bus.specs.declared.Effect.{Effect}
 use Rattle.bus.specs.declared.Effect.the-variants.{Acknowledge, Ignore, Store, Load}
-use Rattle.bus.specs.Bus.{step, isRegister, taken}
-use Rattle.layout.specs.Layout.{registersAt, deviceIn}
+use Rattle.bus.specs.Bus.{registersWith, step, taken}
+use Rattle.layout.specs.Layout.{registersAt, put, deviceIn}
 use Rattle.interface.specs.Interface.{BusDone, heardOn}
 
 -- an address that a step of the bus asks for is at most 3FFF
@@ -29,6 +25,6 @@ stepOn xs ram s = heardOn xs (taken s (deviceIn xs .registers) ram)
 abbrev pub eventOn : List ℕ → List ℕ → Event → BusDone
 eventOn xs ram e = stepOn xs ram (step (deviceIn xs .bus) e)
 
--- a store to an address leaves the registers in their place
+-- what a store to an address leaves of the record: the registers after it, in their place
 abbrev pub storedOn : ℕ → ℕ → List ℕ → List ℕ
-storedOn a x xs = cond (isRegister a) (set xs (registersAt + (a - 0x3FF0) % 16) (bitAnd x (getD kept ((a - 0x3FF0) % 16) 0))) xs
+storedOn a x xs = put registersAt (registersWith (Store a x) (deviceIn xs .registers) .bytes) xs

@@ -7,8 +7,7 @@ use borrow.Author.Needs.{needs}
 use Rattle.device.specs.declared.Device.{Device}
 use Rattle.device.specs.Device.{askCell}
 use Rattle.interface.specs.Interface.{answerOf}
-use Rattle.interface.proofs.Laws.{cell-not}
-use Rattle.osd.proofs.Calls.{cell-done}
+use Rattle.interface.proofs.Laws.{cell-not, cell-is}
 use Rattle.osd.proofs.osd_cell.Statement.{statement}
 use Rattle.osd.proofs.osd_cell.Tie as tie
 
@@ -19,9 +18,9 @@ returns-2 : tie.Need-returns-2
 returns-2 c =
     let k = c .before .before .before in
     let a = k .before .before .before .before .before .args in
-    cell-done _ _ _ _ (k .before .before .if1 .left)
-    (c .answer .ensures ∙ ap₂ (λ (r v : ℕ). r * 65536 + v) (c .before .before .refusal .ensures) (c .before .value .ensures)
-    ∙ ap answerOf (k .ask .ensures ∙ ap (λ (d : Device). askCell d (now (a .ram)) (a .cell)) (k .before .device-in .ensures)))
+    c .answer .ensures ∙ ap₂ (λ (r v : ℕ). r * 65536 + v) (c .before .before .refusal .ensures) (c .before .value .ensures)
+    ∙ ap answerOf (k .ask .ensures ∙ ap (λ (d : Device). askCell d (now (a .ram)) (a .cell)) (k .before .device-in .ensures))
+    ∙ cell-is _ (k .before .before .if1 .left) _ _
 
 pub osd-cell-spec : {M : Type 1} → statement M
 osd-cell-spec =
