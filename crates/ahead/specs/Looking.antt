@@ -35,7 +35,7 @@ use Rattle.ahead.specs.Ahead.{remaining}
 
 -- ---- a row
 
--- the two bytes at an even address
+-- the even address of the pair that a cell is a byte of
 abbrev pub pairOf : ℕ → ℕ
 pairOf c = c / 2 * 2
 
@@ -60,7 +60,7 @@ userReads ram c (suc n) a =
 abbrev pub codesTo : ℕ → ℕ → ℕ
 codesTo c a = (c / 2 + 512 - a / 2 % 512) % 512
 
--- rows of n codes read the cell as a code exactly if they start at the cell's own code, or fewer than m codes before it
+-- rows of n codes read the cell as a code exactly if they start fewer than m codes before the cell's own (0: at it)
 pub record Starts (ram : List ℕ) (c n m : ℕ) : Type 0 where
   pub reads : (a : ℕ) → rowReads ram c false n a ≡ ltb (codesTo c a) m
 

@@ -1,7 +1,7 @@
 // What the frame's remaining lines read. The strips are walked once, each in constant time: a strip's row reads the cell as a code
 // if it starts closely before it; the rows that show the cell's slice are marked, and then looked through for its user character.
 ghost use mathlib.Core.Path.{_≡_};
-ghost use Prim.Native.Nat.{ℕ, _+_, _*_, _≤_, _<_, min, max};
+ghost use Prim.Native.Nat.{ℕ, _+_, _*_, _≤_, _<_, min};
 ghost use lib.ListN.{length};
 ghost use Rattle.limits.specs.Limits.{ramLength};
 ghost use Rattle.cells.specs.Reading.{cells, among};
@@ -34,12 +34,6 @@ fn least(a: u16, b: u16) -> u16
     ensures { λ r. ⌜ r ≡ min a b ⌝ }
 {
     if a < b { a } else { b }
-}
-
-fn most(a: u16, b: u16) -> u16
-    ensures { λ r. ⌜ r ≡ max a b ⌝ }
-{
-    if a < b { b } else { a }
 }
 
 // The codes that a line reads at the most.
@@ -349,12 +343,12 @@ fn seek(settings: Settings, cell: u16) -> Sought
     requires { ⌜ cell < ramLength ⌝ }
     ensures { λ r. ⌜ (r .cell ≡ cell) × (r .settings ≡ settings) × Posed r ⌝ }
 {
-    let height = most(1, settings.ch as u16);
+    let height = walk::at_least_one(settings.ch);
     Sought {
         cell: cell,
         settings: settings,
         codes: most_codes(settings),
-        whole: user_shown(ScanLine::before_first(), height, height as u8, false, cell),
+        whole: user_shown(ScanLine::before_first(), height as u16, height, false, cell),
     }
 }
 

@@ -8,15 +8,13 @@ use mathlib.Core.List.{List, [], _∷_, _++_, map}
 use lib.Dec.{eqb}
 use lib.ListN.{length, replicate}
 use Rattle.runs.specs.Runs.{log, end, select, SameRuns}
-use Rattle.cells.specs.Reading.{Role, Reading, sameRole, cellsAs, among, Alike}
+use Rattle.cells.specs.Reading.{Role, sameRole, cellsAs, among, Alike}
 use Rattle.registers.specs.declared.Settings.{Settings}
 use Rattle.registers.specs.Registers.{settingsOf}
 use Rattle.bus.specs.declared.Event.{Event}
 use Rattle.bus.specs.declared.Event.the-variants.{Start, Byte, Fetch, Stop}
 use Rattle.bus.specs.Bus.{freshRam}
-use Rattle.walk.specs.declared.Walk.{Walk}
-use Rattle.ahead.specs.Ahead.{remaining}
-use Rattle.device.specs.Device.{freshDevice, hearEvent, startFrame, drawLine, cellsLeft}
+use Rattle.device.specs.Device.{freshDevice, hearEvent, startFrame, drawLine, linesLeft, cellsLeft}
 use Rattle.calls.specs.OnePage.{Call, draw, ask, event, State, Answer, drawn, asked, calls, effectOf, Stores, QuietRun}
 use Rattle.calls.specs.OnePage as one-page
 
@@ -118,13 +116,9 @@ pub record ButSetting (k : Setting) (s : State) (e : Event) : Type 0 where
   pub settings : settingsOf (hearEvent (s .device) (s .ram) e .device .registers)
       ≡ but k (settingsOf (s .device .registers)) (settingsOf (hearEvent (s .device) (s .ram) e .device .registers))
 
--- the frame's remaining lines: cellsLeft (specs/Device.antt) is all that this program reads
-abbrev pub remainingOf : State → Reading Walk
-remainingOf s = remaining (settingsOf (s .device .registers)) (s .device .frame .left) (s .device .frame .walk)
-
 -- quiet, but for one cell, which the remaining lines read in one role and in no other
 pub record ButCell (r : Role) (c : ℕ) (s : State) (e : Event) : Type 0 where
-  pub reads : (q : Role) → among c (cellsAs q (s .ram) (remainingOf s)) ≡ sameRole q r
+  pub reads : (q : Role) → among c (cellsAs q (s .ram) (linesLeft (s .device))) ≡ sameRole q r
   pub cells : Alike (select (λ x. not (eqb x c)) (cellsLeft (s .device) (s .ram))) (s .ram) (hearEvent (s .device) (s .ram) e .ram)
   pub settings : settingsOf (hearEvent (s .device) (s .ram) e .device .registers) ≡ settingsOf (s .device .registers)
 

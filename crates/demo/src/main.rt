@@ -101,7 +101,8 @@ fn draw_mixed<'a>(
     out: &mut [u8],
 ) -> Device
     requires { ⌜ length (now out) ≡ 3 * length (now line) ⌝ }
-    ensures { λ r. ⌜ lineOutcome r (now (out .exit)) ≡ mixedDraw (drawLine device (now (ram .entry)) (now (font .entry)) (now (line .entry))) y ⌝ }
+    ensures mixed { λ r. ⌜ lineOutcome r (now (out .exit)) ≡ mixedDraw (drawLine device (now (ram .entry)) (now (font .entry)) (now (line .entry))) y ⌝ }
+    ensures pixels { λ _. ⌜ now (line .exit) ≡ drawLine device (now (ram .entry)) (now (font .entry)) (now (line .entry)) .line ⌝ }
 {
     let drawn = device.draw_line(ram, font, line);
     mix_line(line, y, out);

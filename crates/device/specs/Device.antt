@@ -15,6 +15,7 @@ use Rattle.registers.specs.Registers.{freshRegisters, settingsOf, pageOf}
 use Rattle.raster.specs.Raster.{widthOf}
 use Rattle.bus.specs.declared.Event.{Event}
 use Rattle.bus.specs.Bus.{freshBus, BusOutcome, busEvent, busReply}
+use Rattle.walk.specs.declared.Walk.{Walk}
 use Rattle.walk.specs.Walk.{walkFrom}
 use Rattle.line.specs.Line.{Scanned, scan, paint}
 use Rattle.ahead.specs.Ahead.{remaining}
@@ -169,9 +170,13 @@ drawOutcome d line = record { device = d .device; line = line; reply = drawReply
 
 -- ---- cell question
 
--- every cell that these lines read, with RAM and registers as they stand and nothing written on the way
+-- the program that the frame's remaining lines are, with the registers as they stand
+abbrev pub linesLeft : Device → Reading Walk
+linesLeft d = remaining (settingsOf (d .registers)) (d .frame .left) (d .frame .walk)
+
+-- every cell that these lines read, with the RAM as it stands and nothing written on the way
 unfoldable pub cellsLeft : Device → List ℕ → List ℕ
-cellsLeft d ram = cells ram (remaining (settingsOf (d .registers)) (d .frame .left) (d .frame .walk))
+cellsLeft d ram = cells ram (linesLeft d)
 
 -- the cell question (document 01's term). Order of refusals: 1, 8. Without a running frame the cell question answers no
 unfoldable pub askCell : Device → List ℕ → ℕ → Reply

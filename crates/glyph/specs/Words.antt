@@ -14,7 +14,8 @@ use Rattle.glyph.specs.Glyph.{Glyph, font, user, blank, endsLine, fontBy
 abbrev pub inOrder : ℕ → ℕ → ℕ
 inOrder first second = second * 256 + first
 
--- those of a glyph, with all their bits; 0 where it has none
+-- those of a glyph, with all their bits, since the code that looks a glyph up leaves the cut to twelve (`bitsOf`) to who paints; 0 where
+-- it has none
 unfoldable pub wordOf : List ℕ → Glyph → ℕ
 wordOf f (font number s) = cond (eqb s 0) 0 (inOrder (getD f (fontByte number s) 0) (getD f (fontByte number s + 1) 0))
 wordOf f (user first second) = inOrder first second

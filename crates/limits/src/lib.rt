@@ -1,4 +1,4 @@
-// Lengths and limits, each named once. specs/Limits.antt has the same names for definitions.
+// Lengths and limits that code tests, each named once, at the width of the test. specs/Limits.antt has those of definitions.
 
 // Bytes of the lent RAM, and of the lent font.
 pub const RAM_LENGTH: usize = 1024;

@@ -1,6 +1,5 @@
 pub mod Claims
 pub mod Edges
-pub mod Example
 pub mod Laws
 pub mod Rules
 pub mod Strips

@@ -1,6 +1,6 @@
 -- What the line's functions promise of the bytes that they write and the cells that they read, in the definition's terms.
 -- Assumes nothing.
-use Prim.Native.Nat.{ℕ, _+_, _-_, _/_, min}
+use Prim.Native.Nat.{ℕ, _+_, _-_, min}
 use mathlib.Core.Path.{_≡_}
 use mathlib.Core.List.{List, _++_}
 use mathlib.Core.Bool.{false}
@@ -9,7 +9,7 @@ use Rattle.cells.specs.Reading.{Reading, value, cells}
 use Rattle.registers.specs.declared.Registers.{Registers}
 use Rattle.registers.specs.declared.Settings.{Settings}
 use Rattle.registers.specs.Registers.{settingsOf}
-use Rattle.raster.specs.Raster.{widthOf}
+use Rattle.raster.specs.Raster.{widthOf, charactersIn}
 use Rattle.walk.specs.declared.Strip.{Strip}
 use Rattle.walk.specs.declared.Walk.{Walk}
 use Rattle.glyph.specs.Glyph.{endsLine, glyphOf}
@@ -31,7 +31,7 @@ pub record CodeShown (ram font : List ℕ) (at : ℕ) (pen : Pen) (c : Coded) : 
 
 -- the codes that there is room for, and the pixels of that room
 abbrev pub rowIn : Pen → ℕ → ℕ → Reading (List Place)
-rowIn pen room a = codes ((room + 11) / 12) (pen .slice) a
+rowIn pen room a = codes (charactersIn room) (pen .slice) a
 
 abbrev pub roomOf : List ℕ → List ℕ → Pen → ℕ → ℕ → List ℕ
 roomOf ram font pen room a = painted font (pen .plain) (pen .hidden) room (value ram (rowIn pen room a))

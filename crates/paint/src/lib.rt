@@ -25,7 +25,7 @@ pub struct Fours {
     pub right: u32,
 }
 
-// No columns.
+// Stands where there are no columns; nobody reads it.
 pub const NONE: Fours = Fours {
     left: 0,
     middle: 0,
@@ -263,7 +263,8 @@ fn casts(low: u8) -> bool
     true
 }
 
-// The twelve columns of a code's low byte and of the low twelve bits of its glyph's word.
+// The twelve columns of a code's low byte and of the low twelve bits of its glyph's word. What plain and hidden say is in the table;
+// the promise names them.
 pub fn character(table: &[u32], plain: u8, hidden: bool, low: u8, word: u32) -> Fours
     requires { ⌜ now table ≡ rowTable plain hidden ⌝ }
     ensures { λ r. ⌜ columnPixels r ≡ twelveColumns plain hidden low (word % 4096) ⌝ }

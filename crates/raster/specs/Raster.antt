@@ -68,9 +68,13 @@ widthOf ld = 12 * (ld + 1)
 abbrev pub firstPixelOf : ℕ → ℕ
 firstPixelOf dd = 3 * (max 4 dd + 8)
 
--- how many characters there are room to start: those whose first pixel, 12 after the one before, is below W
+-- how many characters start in a room of so many pixels, one every 12
+abbrev pub charactersIn : ℕ → ℕ
+charactersIn room = (room + 11) / 12
+
+-- those of a line: their first pixel is below W
 abbrev pub charactersOf : ℕ → ℕ → ℕ
-charactersOf ld dd = (widthOf ld - firstPixelOf dd + 11) / 12
+charactersOf ld dd = charactersIn (widthOf ld - firstPixelOf dd)
 
 -- hidden time: mode 0 never hides, mode 1 shows f below 32, mode 2 below 16, mode 3 below 48 (H)
 abbrev pub hiddenIn : ℕ → ℕ → Bool

@@ -218,7 +218,8 @@ fn draw_text<'a>(
     line: &mut [u8],
     out: &mut [u8],
 ) -> LineDone
-    ensures { λ r. ⌜ lineOutcome r (now (out .exit)) ≡ textOf (drawLine device (now (ram .entry)) (now (font .entry)) (now (line .entry))) (now (out .entry)) ⌝ }
+    ensures text { λ r. ⌜ lineOutcome r (now (out .exit)) ≡ textOf (drawLine device (now (ram .entry)) (now (font .entry)) (now (line .entry))) (now (out .entry)) ⌝ }
+    ensures pixels { λ _. ⌜ now (line .exit) ≡ drawLine device (now (ram .entry)) (now (font .entry)) (now (line .entry)) .line ⌝ }
 {
     let drawn = device.draw_line(ram, font, line);
     let next = drawn.device;

@@ -45,7 +45,7 @@ pub fn even_address(a: u16) -> u16
     a / 2 % 512 * 2
 }
 
-fn at_least_one(n: u8) -> u8
+pub fn at_least_one(n: u8) -> u8
     ensures { λ r. ⌜ r ≡ atLeastOne n ⌝ }
 {
     if n == 0 {

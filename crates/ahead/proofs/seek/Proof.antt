@@ -10,12 +10,12 @@ use Rattle.ahead.proofs.seek.Tie as tie
 
 user-shown-requires : tie.Need-user-shown-requires
 user-shown-requires c κs =
-    let m = c .before .before .most in
+    let m = c .before .before .at-least-one in
     rw (c .before-first .ensures) (omega (arith, m .ensures), omega (arith, all-after (m .result) false))
 
 returns : tie.Need-returns
 returns c =
-    let m = c .before .before .before .most .ensures in (
+    let m = c .before .before .before .at-least-one .ensures in (
       refl,
       refl,
       record {
@@ -29,7 +29,6 @@ pub seek-spec : {M : Type 1} → statement M
 seek-spec =
     tie.close
     (tie.spec
-    (λ c. search needs)
     (λ c κs. search needs)
     (λ c κs. search needs)
     (λ c κs. search needs)

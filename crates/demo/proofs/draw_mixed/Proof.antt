@@ -9,9 +9,12 @@ use Rattle.demo.proofs.draw_mixed.Tie as tie
 
 returns : tie.Need-returns
 returns c =
-    let d = c .before .before .before .before .before .before .before .before .draw-line in
-    ap (lineOutcome (d .result .device)) (c .before .before .before .mix-line .ensures)
-    ∙ ap (λ (o : DrawOutcome). mixedDraw o (c .before .before .before .before .before .before .before .before .before .before .before .before .before .before .args .y)) (d .ensures)
+    let t = c .before .before .before .before .before .before .before .before in
+    let d = t .draw-line in (
+      ap (lineOutcome (d .result .device)) (c .before .before .before .mix-line .ensures)
+          ∙ ap (λ (o : DrawOutcome). mixedDraw o (t .before .before .before .before .before .before .args .y)) (d .ensures),
+      ap (λ (o : DrawOutcome). o .line) (d .ensures),
+    )
 
 pub draw-mixed-spec : {M : Type 1} → statement M
 draw-mixed-spec =

@@ -35,7 +35,7 @@ returns c =
     let a = c .before .before .before .before .before .before .before .before .before .before .args in
     let w = c .before .before .before .before .before .before in
     ap (λ (m : LineOutcome). lineOutcome (m .device) (m .out ++ drop (3 * w .width-of .result) (now (a .out))))
-    (c .before .before .before .draw-mixed .ensures
+    (c .before .before .before .draw-mixed .ensures .0
     ∙ ap (λ (line : List ℕ). mixedDraw (drawLine (a .device) (now (a .ram)) (now (a .font)) line) (a .y)) (blank _ 768 (array-borrow-prefix-line w)))
     ∙ ap (λ (n : ℕ). let m : LineOutcome = mixedDraw (drawLine (a .device) (now (a .ram)) (now (a .font)) (replicate n 0)) (a .y) in lineOutcome (m .device) (m .out ++ drop (3 * n) (now (a .out))))
     (w .width-of .ensures)

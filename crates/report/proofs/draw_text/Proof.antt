@@ -11,16 +11,23 @@ use Rattle.report.proofs.draw_text.Tie as tie
 
 returns : tie.Need-returns
 returns c =
-    let out = now (c .before .before .before .before .before .before .before .before .before .before .before .args .out) in
-    text-refused (drawOutcome (c .before .before .before .before .before .draw-line .result) _) out (λ z. c .if1 .taken (c .before .refusal .ensures ∙ z))
-    ∙ ap (λ (o : DrawOutcome). textOf o out) (c .before .before .before .before .before .draw-line .ensures)
+    let d = c .before .before .before .before .before .draw-line in
+    let out = now (c .before .before .before .before .before .before .before .before .before .before .before .args .out) in (
+      text-refused (drawOutcome (d .result) _) out (λ z. c .if1 .taken (c .before .refusal .ensures ∙ z))
+          ∙ ap (λ (o : DrawOutcome). textOf o out) (d .ensures),
+      ap (λ (o : DrawOutcome). o .line) (d .ensures),
+    )
 
 returns-2 : tie.Need-returns-2
 returns-2 c =
-    let out = now (c .before .before .before .before .before .before .before .before .before .before .before .before .before .before .before .before .before .args .out) in
-    text-drawn (drawOutcome (c .before .before .before .before .before .before .before .before .before .before .before .draw-line .result) _) out _ (sym (c .before .before .before .before .before .before .before .refusal .ensures) ∙ c .before .before .before .before .before .before .if1 .left)
-    (rw (← c .before .before .before .before .cells .ensures) (c .before .before .line-text .ensures))
-    ∙ ap (λ (o : DrawOutcome). textOf o out) (c .before .before .before .before .before .before .before .before .before .before .before .draw-line .ensures)
+    let t = c .before .before .before .before .before .before in
+    let d = t .before .before .before .before .before .draw-line in
+    let out = now (t .before .before .before .before .before .before .before .before .before .before .before .args .out) in (
+      text-drawn (drawOutcome (d .result) _) out _ (sym (t .before .refusal .ensures) ∙ t .if1 .left)
+          (rw (← c .before .before .before .before .cells .ensures) (c .before .before .line-text .ensures))
+          ∙ ap (λ (o : DrawOutcome). textOf o out) (d .ensures),
+      ap (λ (o : DrawOutcome). o .line) (d .ensures),
+    )
 
 pub draw-text-spec : {M : Type 1} → statement M
 draw-text-spec =

@@ -24,7 +24,7 @@ returns : tie.Need-returns
 returns c =
     let a = c .before .before .before .before .before .before .before .before .before .before .args in
     let w = c .before .before .before .before .before .before in
-    c .before .before .before .draw-text .ensures
+    c .before .before .before .draw-text .ensures .0
     ∙ ap (λ (line : List ℕ). textOf (drawLine (a .device) (now (a .ram)) (now (a .font)) line) (now (a .out)))
     (blank _ 768 (array-borrow-prefix-line w) ∙ ap (λ (n : ℕ). replicate n 0) (w .width-of .ensures))
 
