@@ -40,6 +40,7 @@ ram[:8] = [0x04, 0xC0, 0x20, 0xE0, 0x71, 0x41, 0x00, 0xFF]      # a row that end
 registers = [0xFF, 0x04, 0xD2, 0xA8, 0xFF, 0xFF, 0xFF, 0xFF] + [0xFF] * 8       # unused bits set: W 768, CH 18, OSD, FL 2, P 0
 data = bytes(ram + registers + font + [0, 0] + [0])
 
+# a bad length: 0, 5,649 and 5,651 bytes
 stdout = ''.join(shown(data[:n]) for n in (0, 5649, 5651))
 for lines in (0, 2048, 2049, 65535):
     stdout += shown(data[:5648] + lines.to_bytes(2, 'little'))

@@ -20,7 +20,7 @@ use Rattle.glyph.specs.Glyph.{glyphOf, inRam, bitsOf}
 use Rattle.paint.specs.Pixels.{inkOf, columns, twelveColumns}
 use Rattle.line.specs.Line.{codes, rowOf, shownRow, scan, character, painted, paint}
 use Rattle.ahead.specs.Ahead.{remaining}
-use Rattle.device.specs.Device.{freshDevice, hearEvent, startFrame, inFrame, pixelsOf, lineOn, lineDrawn, drawVerdict, drawBy, drawLine, cellsLeft, askCell, linesLeft}
+use Rattle.device.specs.Device.{freshDevice, hearEvent, startFrame, inFrame, pixelsOf, lineOn, lineDrawn, drawVerdict, drawBy, drawLine, cellsLeft, askCell, remainingOf}
 use Rattle.calls.specs.OnePage.{Call, draw, ask, event, State, Answer, drawn, asked, answer, after, isEvent, calls, effectOf, Stores, QuietCall, QuietRun}
 use Rattle.calls.specs.OnePage as one-page
 use Rattle.calls.specs.Witnesses.{addressing, write, font, heard, started, traffic, picture, buffer, turning, refusalOf, firstLine, Changes}
@@ -162,7 +162,7 @@ each-role P d c s slice = s
 
 -- the cell is read in role q if that is r
 abbrev ReadAs : Role → ℕ → Role → Type 0
-ReadAs r a q = among a (cellsAs q (ready a .ram) (linesLeft (ready a .device))) ≡ sameRole q r
+ReadAs r a q = among a (cellsAs q (ready a .ram) (remainingOf (ready a .device))) ≡ sameRole q r
 
 -- a write that is quiet but for one cell, its own, seen at the first character's first pixel
 by-cell : (r : Role) (a x : ℕ) → Stores (effectOf (ready a) (Byte x)) → ReadAs r a descriptor → ReadAs r a code → ReadAs r a slice

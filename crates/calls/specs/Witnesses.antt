@@ -14,7 +14,7 @@ use Rattle.registers.specs.Registers.{settingsOf}
 use Rattle.bus.specs.declared.Event.{Event}
 use Rattle.bus.specs.declared.Event.the-variants.{Start, Byte, Fetch, Stop}
 use Rattle.bus.specs.Bus.{freshRam}
-use Rattle.device.specs.Device.{freshDevice, hearEvent, startFrame, drawLine, linesLeft, cellsLeft}
+use Rattle.device.specs.Device.{freshDevice, hearEvent, startFrame, drawLine, remainingOf, cellsLeft}
 use Rattle.calls.specs.OnePage.{Call, draw, ask, event, State, Answer, drawn, asked, calls, effectOf, Stores, QuietRun}
 use Rattle.calls.specs.OnePage as one-page
 
@@ -118,7 +118,7 @@ pub record ButSetting (k : Setting) (s : State) (e : Event) : Type 0 where
 
 -- quiet, but for one cell, which the remaining lines read in one role and in no other
 pub record ButCell (r : Role) (c : ℕ) (s : State) (e : Event) : Type 0 where
-  pub reads : (q : Role) → among c (cellsAs q (s .ram) (linesLeft (s .device))) ≡ sameRole q r
+  pub reads : (q : Role) → among c (cellsAs q (s .ram) (remainingOf (s .device))) ≡ sameRole q r
   pub cells : Alike (select (λ x. not (eqb x c)) (cellsLeft (s .device) (s .ram))) (s .ram) (hearEvent (s .device) (s .ram) e .ram)
   pub settings : settingsOf (hearEvent (s .device) (s .ram) e .device .registers) ≡ settingsOf (s .device .registers)
 

@@ -171,12 +171,12 @@ drawOutcome d line = record { device = d .device; line = line; reply = drawReply
 -- ---- cell question
 
 -- the program that the frame's remaining lines are, with the registers as they stand
-abbrev pub linesLeft : Device → Reading Walk
-linesLeft d = remaining (settingsOf (d .registers)) (d .frame .left) (d .frame .walk)
+abbrev pub remainingOf : Device → Reading Walk
+remainingOf d = remaining (settingsOf (d .registers)) (d .frame .left) (d .frame .walk)
 
 -- every cell that these lines read, with the RAM as it stands and nothing written on the way
 unfoldable pub cellsLeft : Device → List ℕ → List ℕ
-cellsLeft d ram = cells ram (linesLeft d)
+cellsLeft d ram = cells ram (remainingOf d)
 
 -- the cell question (document 01's term). Order of refusals: 1, 8. Without a running frame the cell question answers no
 unfoldable pub askCell : Device → List ℕ → ℕ → Reply

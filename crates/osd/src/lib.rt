@@ -50,7 +50,7 @@ fn refuse(refusal: Refusal) -> u32
 pub extern "C" fn osd_device_len() -> u32
     ensures { λ r. ⌜ r ≡ recordLength ⌝ }
 {
-    32
+    DEVICE_LENGTH as u32
 }
 
 #[no_mangle]
