@@ -1,13 +1,11 @@
--- What a reading program can do over any RAM: the answers that it can give, the cells that it can read, and how many.
+-- What a reading program can do over any RAM: the answers that it can give, and the cells that it can read.
 -- Assumes nothing.
-use Prim.Native.Nat.{ℕ, zero, suc, _+_, _≤_, _<_, zero-le, suc-le-suc}
+use Prim.Native.Nat.{ℕ, _<_}
 use mathlib.Core.Path.{_≡_, refl, sym, subst}
 use mathlib.Core.Bool.{Bool, true, false, cond, _||_}
 use mathlib.Core.List.{List, _∷_}
-use native.Mathlib.Nat.{suc-add, le-of-suc-le-suc, not-suc-le-zero}
-use native.Mathlib.Omega.{arith}
 use lib.Dec.{T, eqb, eqb→eq}
-use lib.ListN.{getD, length}
+use lib.ListN.{getD}
 use Rattle.cells.specs.Reading.{Reading, done, read, bind, fmap, value, cells, among}
 
 -- every answer has P
@@ -19,12 +17,6 @@ Gives P (read r c k) = (x : ℕ) → Gives P (k x)
 unfoldable pub Within : {A : Type 0} → ℕ → Reading A → Type 0
 Within n (done a) = Unit
 Within n (read r c k) = (c < n) × ((x : ℕ) → Within n (k x))
-
--- at most n cells are read
-unfoldable pub AtMost : {A : Type 0} → ℕ → Reading A → Type 0
-AtMost n (done a) = Unit
-AtMost zero (read r c k) = ⊥
-AtMost (suc n) (read r c k) = (x : ℕ) → AtMost n (k x)
 
 -- ---- over one RAM
 
@@ -46,21 +38,11 @@ unfolding Within cells
 within-cells n ram (done a) w c t = absurd (unfold among in t)
 within-cells n ram (read r x k) w c t = among-first n c x (cells ram (k (getD ram x 0))) (w .0) (within-cells n ram (k (getD ram x 0)) (w .1 (getD ram x 0)) c) t
 
-pub atMost-length : {A : Type 0} (n : ℕ) (ram : List ℕ) (p : Reading A) → AtMost n p → length (cells ram p) ≤ n
-unfolding AtMost cells
-atMost-length n ram (done a) m = zero-le
-atMost-length zero ram (read r c k) m = absurd m
-atMost-length (suc n) ram (read r c k) m = suc-le-suc (atMost-length n ram (k (getD ram c 0)) (m (getD ram c 0)))
-
 -- ---- a program that reads nothing
 
 pub within-done : {A : Type 0} (n : ℕ) (a : A) → Within n (done a)
 unfolding Within
 within-done n a = tt
-
-pub atMost-done : {A : Type 0} (n : ℕ) (a : A) → AtMost n (done a)
-unfolding AtMost
-atMost-done n a = tt
 
 -- ---- one program after another
 
@@ -92,32 +74,7 @@ unfolding Within fmap
 within-fmap n f (done a) w = tt
 within-fmap n f (read r c k) w = (w .0, λ x. within-fmap n f (k x) (w .1 x))
 
-pub atMost-more : {A : Type 0} (n m : ℕ) (p : Reading A) → n ≤ m → AtMost n p → AtMost m p
-unfolding AtMost
-atMost-more n m (done a) h w = tt
-atMost-more zero m (read r c k) h w = absurd w
-atMost-more (suc n) zero (read r c k) h w = absurd (not-suc-le-zero h)
-atMost-more (suc n) (suc m) (read r c k) h w = λ x. atMost-more n m (k x) (le-of-suc-le-suc h) (w x)
-
-pub atMost-bind : {A B : Type 0} (n m : ℕ) (p : Reading A) (f : A → Reading B)
-    → AtMost n p → ((a : A) → AtMost m (f a)) → AtMost (n + m) (bind p f)
-unfolding AtMost bind
-atMost-bind n m (done a) f w h = atMost-more m (n + m) (f a) (omega arith) (h a)
-atMost-bind zero m (read r c k) f w h = absurd w
-atMost-bind (suc n) m (read r c k) f w h =
-    rw (suc-add n m) (λ x. atMost-bind n m (k x) f (w x) h)
-
-pub atMost-fmap : {A B : Type 0} (n : ℕ) (f : A → B) (p : Reading A) → AtMost n p → AtMost n (fmap f p)
-unfolding AtMost fmap
-atMost-fmap n f (done a) w = tt
-atMost-fmap zero f (read r c k) w = absurd w
-atMost-fmap (suc n) f (read r c k) w = λ x. atMost-fmap n f (k x) (w x)
-
 -- ---- one of two programs, by a test
-
-pub atMost-cond : {A : Type 0} (n : ℕ) (t : Bool) (p q : Reading A) → AtMost n p → AtMost n q → AtMost n (cond t p q)
-atMost-cond n true p q w v = w
-atMost-cond n false p q w v = v
 
 pub within-cond : {A : Type 0} (n : ℕ) (t : Bool) (p q : Reading A) → Within n p → Within n q → Within n (cond t p q)
 within-cond n true p q w v = w

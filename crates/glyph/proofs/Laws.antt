@@ -1,4 +1,4 @@
--- The laws of codes and glyphs: what a glyph reads lies below 1,024, and is at most two cells.
+-- The laws of codes and glyphs: what a glyph reads lies below 1,024, and what its word shows.
 -- Assumes nothing.
 use Prim.Native.Nat.{ℕ, _+_, _%_, _/_, _≤_, _<_}
 use mathlib.Core.Path.{_≡_, refl, ap, _∙_}
@@ -11,7 +11,7 @@ use native.Mathlib.Decide.{ℕ-discrete}
 use lib.ListN.{length, getD, take, drop, length-take, length-drop}
 use lib.Seq.{getD-take, getD-drop}
 use Rattle.cells.specs.Reading.{slice, Reading, done, read, value, cells}
-use Rattle.cells.proofs.Bounds.{Within, AtMost, within-cond, atMost-cond}
+use Rattle.cells.proofs.Bounds.{Within, within-cond}
 use Rattle.raster.specs.declared.Slice.{Slice}
 use Rattle.raster.specs.Raster.{InCharacter}
 use Rattle.glyph.specs.Glyph.{Glyph, font, user, blank, userCell, fontByte, inRam, glyphOf, twelve, bitsOf, slicePart, Lent, Sliced}
@@ -29,11 +29,6 @@ inRam-within number s h = by (ltb number 26) refl
 pub glyphOf-within : (high : ℕ) (s : Slice) → InCharacter s → Within 1024 (glyphOf high s)
 unfolding glyphOf
 glyphOf-within high s h = within-cond 1024 (eqb (high / 128 % 2) 0) _ _ (unfold Within in tt) (inRam-within (high % 128) (s .0) h)
-
-pub glyphOf-most : (high : ℕ) (s : Slice) → AtMost 2 (glyphOf high s)
-unfolding glyphOf inRam AtMost
-glyphOf-most high s =
-    atMost-cond 2 (eqb (high / 128 % 2) 0) _ _ tt (atMost-cond 2 (ltb (high % 128) 26) _ _ (λ first second. tt) tt)
 
 -- ---- the two bytes of a slice are the part that the lookup returns
 

@@ -13,7 +13,7 @@ use Rattle.paint.specs.Pixels.{plainOf}
 use Rattle.line.specs.Line.{scan, character, painted, paint}
 use Rattle.line.specs.Edges.{Holds, mostCodes, secondCut, userCells, table, Each, Edges}
 use Rattle.line.proofs.Laws.{character-length}
-use Rattle.line.proofs.Rules.{scan-codes}
+use Rattle.line.proofs.Counts.{scan-codes}
 
 most : (ld dd n : ℕ) → charactersOf ld dd ≡ n → Holds (mostCodes ld dd n)
 unfolding Holds

@@ -1,18 +1,18 @@
--- The laws of a line: it has W pixels, each below 16; it reads at most 246 cells, each below 1,024.
+-- The laws of a line: it has W pixels, each below 16; each cell that it reads is below 1,024.
 -- Assumes nothing.
-use Prim.Native.Nat.{ℕ, zero, suc, _+_, _-_, _*_, _≤_, _<_, min}
-use mathlib.Core.Path.{_≡_, subst}
+use Prim.Native.Nat.{ℕ, zero, suc, _-_, _<_, min}
+use mathlib.Core.Path.{_≡_}
 use mathlib.Core.Bool.{Bool, true, false, cond}
 use mathlib.Core.List.{List, [], _∷_, _++_}
 use native.Mathlib.Omega.{arith}
 use lib.ListN.{length, getD, replicate, length-append, length-take, length-replicate}
 use Rattle.facts.proofs.Choice.{either}
 use Rattle.cells.specs.Reading.{done}
-use Rattle.cells.proofs.Bounds.{Within, AtMost, gives-all, within-done, atMost-done, within-bind, within-fmap, within-cond, atMost-more, atMost-bind, atMost-fmap, atMost-cond}
+use Rattle.cells.proofs.Bounds.{Within, gives-all, within-done, within-bind, within-fmap, within-cond}
 use Rattle.registers.specs.declared.Settings.{Settings}
 use Rattle.registers.specs.declared.Registers.{Registers}
 use Rattle.registers.specs.Registers.{settingsOf}
-use Rattle.registers.proofs.Laws.{ld-bound, fbk-bound}
+use Rattle.registers.proofs.Laws.{fbk-bound}
 use Rattle.raster.specs.declared.Slice.{Slice}
 use Rattle.raster.specs.Raster.{InCharacter, interpolated, widthOf, firstPixelOf, charactersOf, hiddenIn}
 use Rattle.raster.proofs.Rules.{slice-range}
@@ -20,9 +20,9 @@ use Rattle.walk.specs.declared.Strip.{Strip}
 use Rattle.walk.specs.declared.Strip.the-variants.{Spacing, Characters}
 use Rattle.walk.specs.declared.Walk.{Walk}
 use Rattle.walk.specs.Walk.{next, nextLine, OnLine}
-use Rattle.walk.proofs.Laws.{even-bound, nextLine-on, nextLine-within, nextLine-most}
+use Rattle.walk.proofs.Laws.{even-bound, nextLine-on, nextLine-within}
 use Rattle.glyph.specs.Glyph.{Glyph, endsLine, glyphOf, bitsOf}
-use Rattle.glyph.proofs.Laws.{glyphOf-within, glyphOf-most}
+use Rattle.glyph.proofs.Laws.{glyphOf-within}
 use Rattle.paint.specs.Pixels.{plainOf}
 use Rattle.paint.proofs.Laws.{Pixels, pixels-at, pixels-append, pixels-take, pixels-replicate, twelve-length, twelve-pixels}
 use Rattle.line.specs.Line.{Place, codes, rowOf, shownRow, scan, character, painted, paint}
@@ -55,43 +55,6 @@ unfolding scan shownRow
 scan-within s w =
     within-bind (λ (v : Walk). OnLine (v .strip)) 1024 (nextLine (s .ch) w) _ (nextLine-on (s .ch) w) (nextLine-within (s .ch) w)
     (λ v h. within-fmap 1024 _ _ (within-cond 1024 (s .osd) _ _ (rowOf-within (charactersOf (s .ld) (s .dd)) (v .strip) h) (within-done 1024 [])))
-
--- ---- how many
-
-pub codes-most : (n : ℕ) (s : Slice) (a : ℕ) → AtMost (4 * n) (codes n s a)
-unfolding codes AtMost
-codes-most zero s a = tt
-codes-most (suc n) s a =
-    subst (λ (m : ℕ). AtMost m (codes (suc n) s a)) four
-    (λ low high.
-    atMost-cond (2 + 4 * n) (endsLine high) (done []) _ tt
-    (atMost-bind 2 (4 * n) (glyphOf high s) _ (glyphOf-most high s) (λ g. atMost-fmap (4 * n) _ (codes n s (next a)) (codes-most n s (next a)))))
-  where
-    four : suc (suc (2 + 4 * n)) ≡ 4 * suc n
-    four = omega arith
-
-rowOf-most : (n : ℕ) (s : Strip) → AtMost (4 * n) (rowOf n s)
-unfolding rowOf
-rowOf-most n (Spacing left) = atMost-done (4 * n) []
-rowOf-most n (Characters address height zoom enabled line) =
-    atMost-cond (4 * n) enabled _ _ (codes-most n (interpolated line height zoom) address) (atMost-done _ [])
-
-scan-most : (s : Settings) (w : Walk) → AtMost (2 + 4 * charactersOf (s .ld) (s .dd)) (scan s w)
-unfolding scan shownRow
-scan-most s w =
-    atMost-bind 2 (4 * charactersOf (s .ld) (s .dd)) (nextLine (s .ch) w) _ (nextLine-most (s .ch) w)
-    (λ v. atMost-fmap (4 * charactersOf (s .ld) (s .dd)) _ _
-    (atMost-cond (4 * charactersOf (s .ld) (s .dd)) (s .osd) _ _ (rowOf-most (charactersOf (s .ld) (s .dd)) (v .strip)) (atMost-done _ [])))
-
--- at most 61 characters start on a line
-pub characters-bound : (ld dd : ℕ) → ld < 64 → charactersOf ld dd ≤ 61
-characters-bound ld dd h = omega arith
-
--- a line reads at most 246 cells: 2 of descriptor, 61 codes, 61 user slices
-pub line-most : (r : Registers) (w : Walk) → AtMost 246 (scan (settingsOf r) w)
-line-most r w =
-    atMost-more (2 + 4 * charactersOf (settingsOf r .ld) (settingsOf r .dd)) 246 (scan (settingsOf r) w)
-    (omega (arith, characters-bound (settingsOf r .ld) (settingsOf r .dd) (ld-bound r))) (scan-most (settingsOf r) w)
 
 -- ---- the width
 

@@ -1,4 +1,5 @@
 pub mod Claims
+pub mod Counts
 pub mod Edges
 pub mod Laws
 pub mod Rules

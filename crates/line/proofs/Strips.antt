@@ -9,7 +9,7 @@ use lib.ListN.{length, take, drop, replicate, length-append, length-replicate, r
 use lib.Seq.{take-at, drop-at}
 use Rattle.cells.specs.Reading.{Reading, done, value, cells}
 use Rattle.cells.proofs.Laws.{value-bind, cells-bind, value-fmap, cells-fmap}
-use Rattle.cells.proofs.Bounds.{gives-value, atMost-length}
+use Rattle.cells.proofs.Bounds.{gives-value}
 use Rattle.registers.specs.declared.Registers.{Registers}
 use Rattle.registers.specs.declared.Settings.{Settings}
 use Rattle.registers.specs.Registers.{settingsOf}
@@ -27,7 +27,7 @@ use Rattle.line.specs.declared.Pen.{Pen}
 use Rattle.paint.specs.Pixels.{plainOf}
 use Rattle.line.specs.Line.{Place, rowOf, shownRow, Scanned, scan, paint}
 use Rattle.line.specs.Contracts.{roomOf, RowDrawn, CharactersDrawn, StripDrawn, LineDrawn}
-use Rattle.line.proofs.Laws.{line-most}
+use Rattle.line.proofs.Counts.{line-most}
 use Rattle.line.proofs.Turns.{drop-from, no-room, no-reads, painted-none}
 
 -- ---- the margin and the row
@@ -174,9 +174,6 @@ pub scan-length : (ram : List ℕ) (s : Settings) (w : Walk)
 scan-length ram s w =
     ap length (scan-cells ram s w) ∙ length-append (cells ram (nextLine (s .ch) w)) (cells ram (shownRow s (value ram (nextLine (s .ch) w) .strip)))
 
-pub line-bound : (ram : List ℕ) (r : Registers) (w : Walk) → length (cells ram (scan (settingsOf r) w)) ≤ 246
-line-bound ram r w = atMost-length 246 ram (scan (settingsOf r) w) (line-most r w)
-
 -- the walk's next line and a line of its strip are the frame's next line
 module _ (ram font : List ℕ) (r : Registers) (w : Walk) (f : ℕ) (out : List ℕ) (n : ℕ) (out′ : List ℕ) where
   taken : StripDrawn ram font (settingsOf r) (value ram (nextLine (settingsOf r .ch) w) .strip) f out n out′
@@ -202,4 +199,4 @@ module _ (ram font : List ℕ) (r : Registers) (w : Walk) (f : ℕ) (out : List 
   -- its cells are at most 246
   pub line-cells : (s : Settings) (k : Walked) → s ≡ settingsOf r → k ≡ walked ram (s .ch) w → StripDrawn ram font s (k .walk .strip) f out n out′
       → k .cells + n ≤ 246
-  line-cells s k e q d = omega (arith, line-drawn s k e q d .reads, line-bound ram r w)
+  line-cells s k e q d = omega (arith, line-drawn s k e q d .reads, line-most r w ram)

@@ -1,6 +1,6 @@
 -- The turns of the line's loops: what one turn adds to the bytes that are written.
 -- Assumes nothing.
-use Prim.Native.Nat.{ℕ, zero, suc, _+_, _-_, _/_, _%_, _*_, _≤_, _<_}
+use Prim.Native.Nat.{ℕ, zero, suc, _+_, _-_, _/_, _%_, _≤_, _<_}
 use mathlib.Core.Path.{_≡_, refl, sym, ap, ap₂, _∙_}
 use mathlib.Core.List.{List, [], _∷_, _++_, append-nil, append-assoc}
 use native.Mathlib.Omega.{arith}
@@ -14,18 +14,18 @@ use borrow.Author.Tests.{eqb-true}
 use lib.Seq.{take-all, take-at, drop-length, drop-drop}
 use Rattle.cells.specs.Reading.{code, Reading, done, read, bind, fmap, value, cells}
 use Rattle.cells.proofs.Laws.{value-bind, cells-bind, value-fmap, cells-fmap}
-use Rattle.cells.proofs.Bounds.{atMost-length}
 use Rattle.raster.specs.declared.Slice.{Slice}
 use Rattle.walk.specs.Walk.{even, next}
 use Rattle.glyph.specs.declared.Word.{Word}
 use Rattle.glyph.specs.Glyph.{endsLine, glyphOf, inRam}
 use Rattle.glyph.specs.Words.{wordIn}
-use Rattle.glyph.proofs.Laws.{glyphOf-most, word-low}
+use Rattle.glyph.proofs.Laws.{word-low}
 use Rattle.paint.specs.declared.Fours.{Fours}
 use Rattle.paint.specs.Pixels.{twelveColumns}
 use Rattle.paint.specs.Tables.{columnPixels}
 use Rattle.line.specs.declared.Pen.{Pen}
-use Rattle.line.proofs.Laws.{codes-most, character-length, painted-length}
+use Rattle.line.proofs.Laws.{character-length, painted-length}
+use Rattle.line.proofs.Counts.{glyph-most, codes-most}
 use Rattle.line.specs.declared.Coded.{Coded}
 use Rattle.line.specs.Contracts.{placeAt, CodeShown, RowDrawn, rowIn, roomOf}
 use Rattle.line.specs.Line.{Place, character, codes, painted}
@@ -40,8 +40,7 @@ fill-done out out₀ i v e h =
 
 -- a code reads at most four cells
 pub code-few : (ram font : List ℕ) (at : ℕ) (pen : Pen) (c : Coded) → CodeShown ram font at pen c → c .cells ≤ 4
-code-few ram font at pen c d =
-    omega (arith, d .reads, atMost-length 2 ram (glyphOf (getD ram (at + 1) 0) (pen .slice)) (glyphOf-most (getD ram (at + 1) 0) (pen .slice)))
+code-few ram font at pen c d = omega (arith, d .reads, glyph-most (getD ram (at + 1) 0) (pen .slice) ram)
 
 -- the end of line has no slice
 no-slice : (high : ℕ) (s : Slice) (ram : List ℕ) → endsLine high ≡ true → length (cells ram (glyphOf high s)) ≡ 0
@@ -60,8 +59,7 @@ module _ (ram font : List ℕ) (at : ℕ) (pen : Pen) (w : Word) (h : w ≡ word
 
   -- the count of its cells fits
   pub word-fits : Fits w32 (2 + w .cells)
-  word-fits =
-      omega (arith, word-reads, atMost-length 2 ram (glyphOf (getD ram (at + 1) 0) (pen .slice)) (glyphOf-most (getD ram (at + 1) 0) (pen .slice)))
+  word-fits = omega (arith, word-reads, glyph-most (getD ram (at + 1) 0) (pen .slice) ram)
 
   -- the end of line
   pub code-ended : (columns : Fours) → w .ends ≡ true → CodeShown ram font at pen (record { ended = true; cells = 2; columns = columns })
@@ -216,8 +214,7 @@ module _ (ram font : List ℕ) (address : ℕ) (pen : Pen) (first w : ℕ) (out�
 
   -- no row reads more than 256 cells
   pub row-bound : (x a n : ℕ) (out : List ℕ) → w ≤ 768 → RowUpTo ram font address pen first w out₀ x a n out → n ≤ 256
-  row-bound x a n out h i =
-      omega (arith, i .count, atMost-length (4 * ((w - first + 11) / 12)) ram (rowIn pen (w - first) address) (codes-most ((w - first + 11) / 12) (pen .slice) address))
+  row-bound x a n out h i = omega (arith, i .count, codes-most ((w - first + 11) / 12) (pen .slice) address ram)
 
   -- the room is full
   pub row-full : (x a n : ℕ) (out : List ℕ) → RowUpTo ram font address pen first w out₀ x a n out → w ≤ x → RowDrawn ram font address pen first w out₀ n out

@@ -1,5 +1,4 @@
--- The laws of the walk: addresses lie below 1,024, a line of the walk reads at most one descriptor, and the strip on
--- screen is at one of its lines.
+-- The laws of the walk: addresses lie below 1,024, and the strip on screen is at one of its lines.
 -- Assumes nothing.
 use Prim.Native.Nat.{ℕ, _+_, _-_, _≤_, _<_}
 use mathlib.Core.Path.{_≡_, refl, sym, ap, _∙_}
@@ -11,7 +10,7 @@ use lib.Dec.{eqb}
 use lib.ListN.{getD}
 use Rattle.facts.proofs.Choice.{either}
 use Rattle.cells.specs.Reading.{descriptor, done, read, fmap, value, cells}
-use Rattle.cells.proofs.Bounds.{Gives, Within, AtMost, gives-fmap, within-fmap, within-cond, atMost-fmap, atMost-cond}
+use Rattle.cells.proofs.Bounds.{Gives, Within, gives-fmap, within-fmap, within-cond}
 use Rattle.raster.specs.declared.ScanLine.{ScanLine}
 use Rattle.raster.specs.Raster.{beforeFirst}
 use Rattle.raster.proofs.Laws.{some-after, one-less, last-none, following-in}
@@ -32,17 +31,9 @@ pub begun-within : (ch : ℕ) (w : Walk) → Within 1024 (begun ch w)
 unfolding begun Within
 begun-within ch w = within-cond 1024 (over (w .strip)) _ _ (omega arith, λ low. (even-bound (w .descriptor), λ high. tt)) tt
 
-pub begun-most : (ch : ℕ) (w : Walk) → AtMost 2 (begun ch w)
-unfolding begun AtMost
-begun-most ch w = atMost-cond 2 (over (w .strip)) _ _ (λ low high. tt) tt
-
 pub nextLine-within : (ch : ℕ) (w : Walk) → Within 1024 (nextLine ch w)
 unfolding nextLine
 nextLine-within ch w = within-fmap 1024 _ (begun ch w) (begun-within ch w)
-
-pub nextLine-most : (ch : ℕ) (w : Walk) → AtMost 2 (nextLine ch w)
-unfolding nextLine
-nextLine-most ch w = atMost-fmap 2 _ (begun ch w) (begun-most ch w)
 
 -- ---- the lines that a strip has left
 
