@@ -7,6 +7,7 @@ use mathlib.Core.List.{List, [], _++_, append-assoc}
 use native.Mathlib.Omega.{arith}
 use lib.ListN.{length, take, drop, replicate, length-append, length-replicate, replicate-append-replicate}
 use lib.Seq.{take-at, drop-at}
+use borrow.Rule.Slice.PartMut.{post-is}
 use Rattle.cells.specs.Reading.{Reading, done, value, cells}
 use Rattle.cells.proofs.Laws.{value-bind, cells-bind, value-fmap, cells-fmap}
 use Rattle.cells.proofs.Bounds.{gives-value}
@@ -28,7 +29,7 @@ use Rattle.paint.specs.Pixels.{plainOf}
 use Rattle.line.specs.Line.{Place, rowOf, shownRow, Scanned, scan, paint}
 use Rattle.line.specs.Contracts.{roomOf, RowDrawn, CharactersDrawn, StripDrawn, LineDrawn}
 use Rattle.line.proofs.Counts.{line-most}
-use Rattle.line.proofs.Turns.{drop-from, no-room, no-reads, painted-none}
+use Rattle.line.proofs.Turns.{no-room, no-reads, painted-none}
 
 -- ---- the margin and the row
 
@@ -42,9 +43,9 @@ module _ (ram font : List ℕ) (address : ℕ) (pen : Pen) (x w : ℕ) (out : Li
       ap (take x) e ∙ take-at (replicate x (pen .plain)) (drop x out) x (length-replicate x (pen .plain)) ∙ ap (λ (k : ℕ). replicate k (pen .plain)) (sym m)
       in
       let back : drop w margin ≡ drop w out =
-      drop-from margin x w (omega arith)
+      sym (post-is x w margin (omega arith))
       ∙ ap (drop (w - x)) (ap (drop x) e ∙ drop-at (replicate x (pen .plain)) (drop x out) x (length-replicate x (pen .plain)))
-      ∙ sym (drop-from out x w (omega arith))
+      ∙ post-is x w out (omega arith)
       in
       record {
         pixels =

@@ -7,11 +7,11 @@ use native.Mathlib.Omega.{arith}
 use mathlib.Core.Bool.{Bool, true, false, cond, true≢false}
 use mir.Syntax.{w32}
 use mir.Val.{Fits}
-use lib.ListN.{length, getD, take, drop, replicate, length-append, length-take, length-drop, take-append-drop}
-use borrow.Rule.Slice.PartMut.{putMid, same-len-mid, drop-put}
+use lib.ListN.{length, getD, take, drop, replicate, length-append, length-take, take-append-drop}
+use borrow.Rule.Slice.PartMut.{putMid, same-len-mid, post-is, mid-len, drop-put}
 use Rattle.raster.proofs.Laws.{characters-more}
 use borrow.Author.Tests.{eqb-true}
-use lib.Seq.{take-all, take-at, drop-length, drop-drop}
+use lib.Seq.{take-all, take-at, drop-length}
 use Rattle.cells.specs.Reading.{code, Reading, done, read, bind, fmap, value, cells}
 use Rattle.cells.proofs.Laws.{value-bind, cells-bind, value-fmap, cells-fmap}
 use Rattle.raster.specs.declared.Slice.{Slice}
@@ -158,15 +158,6 @@ pub no-reads : (ram : List ℕ) (pen : Pen) (room a : ℕ) → room ≡ 0 → le
 unfolding codes cells
 no-reads ram pen room a e = rw e
 
-pub drop-from : (l : List ℕ) (e w : ℕ) → e ≤ w → drop w l ≡ drop (w - e) (drop e l)
-drop-from l e w h =
-    let m : e + (w - e) ≡ w = omega arith in
-    sym (drop-drop (w - e) e l ∙ ap (λ (k : ℕ). drop k l) m)
-
--- a whole character's part has twelve bytes
-pub part-twelve : (out : List ℕ) (x : ℕ) → x + 12 ≤ length out → length (take (x + 12 - x) (drop x out)) ≡ 12
-part-twelve out x h = simp (length-take, length-drop) (omega arith)
-
 -- the room that begins with an end of line, and with a character
 module _ (ram font : List ℕ) (pen : Pen) (room a : ℕ) (p : even a ≡ a) (some : 0 < room) where
   -- the row begins with one more code
@@ -244,7 +235,7 @@ module _ (ram font : List ℕ) (address : ℕ) (pen : Pen) (first w : ℕ) (out�
         in
         record {
           upto = k;
-          long = same-len-mid x (e - x) out part (l ∙ sym (simp (length-take, length-drop) (omega (arith, i .long)))) ∙ i .long;
+          long = same-len-mid x (e - x) out part (l ∙ sym (mid-len x e out (omega (arith, i .long)))) ∙ i .long;
           paired = p;
           front =
               ap (λ (y : List ℕ). y ++ roomOf ram font pen (w - e) b) before
@@ -252,9 +243,9 @@ module _ (ram font : List ℕ) (address : ℕ) (pen : Pen) (first w : ℕ) (out�
               ∙ ap (λ (y : List ℕ). take x out ++ y) (sym room)
               ∙ i .front;
           back =
-              drop-from (putMid x (e - x) out part) e w k
+              sym (post-is e w (putMid x (e - x) out part) k)
               ∙ ap (drop (w - e)) (drop-put x e out part h (omega (arith, i .long)) l)
-              ∙ sym (drop-from out e w k)
+              ∙ post-is e w out k
               ∙ i .back;
           count = omega (arith, i .count, reads);
         }
@@ -270,10 +261,6 @@ module _ (ram font : List ℕ) (address : ℕ) (pen : Pen) (first w : ℕ) (out�
         (omega (arith, q, no-reads ram pen (w - w) a none)))
         (omega arith)
 
-    -- the part from x to w has that length
-    room-long : length (take (w - x) (drop x out)) ≡ w - x
-    room-long = simp (length-take, length-drop) (omega (arith, i .long))
-
     module _ (more : x < w) (c : Coded) (d : CodeShown ram font a pen c) where
       -- the line ends: the room is filled with plain
       pub row-ended : c .ended ≡ true → (fill : List ℕ) → fill ≡ replicate (length (take (w - x) (drop x out))) (pen .plain)
@@ -281,7 +268,7 @@ module _ (ram font : List ℕ) (address : ℕ) (pen : Pen) (first w : ℕ) (out�
       row-ended off fill f =
           let end = sym (d .ends) ∙ off in
           let here = room-ended ram font pen (w - x) a (i .paired) (omega arith) end in
-          last (c .cells) fill (f ∙ ap (λ (k : ℕ). replicate k (pen .plain)) room-long ∙ sym (here .0))
+          last (c .cells) fill (f ∙ ap (λ (k : ℕ). replicate k (pen .plain)) (mid-len x w out (omega (arith, i .long))) ∙ sym (here .0))
           (omega (arith, here .1, d .reads, no-slice (getD ram (a + 1) 0) (pen .slice) ram end))
 
       module _ (on : c .ended ≡ false) where
@@ -319,6 +306,6 @@ module _ (ram font : List ℕ) (address : ℕ) (pen : Pen) (first w : ℕ) (out�
         row-cut cut part p =
             let none : w - x - 12 ≡ 0 = omega arith in
             last (c .cells) part
-            (p ∙ ap₂ take room-long is-shown
+            (p ∙ ap₂ take (mid-len x w out (omega (arith, i .long))) is-shown
             ∙ sym (here .0 ∙ ap (λ (y : List ℕ). take (w - x) shown ++ y) (no-room ram font pen (w - x - 12) (even (a + 2)) none) ∙ append-nil (take (w - x) shown)))
             (omega (arith, here .1, no-reads ram pen (w - x - 12) (even (a + 2)) none))

@@ -4,7 +4,7 @@ use Prim.Native.Nat.{_-_, _%_, _≤_}
 use mathlib.Core.Path.{_≡_}
 use native.Mathlib.Omega.{arith}
 use lib.ListN.{length-take, length-drop}
-use Rattle.line.proofs.Turns.{part-twelve, RowUpTo, row-holds, code-few, row-bound, row-drawn, row-ended, row-cut, row-full}
+use Rattle.line.proofs.Turns.{RowUpTo, row-holds, code-few, row-bound, row-drawn, row-ended, row-cut, row-full}
 use borrow.Author.Needs.{needs}
 use Rattle.line.proofs.draw_row.Statement.{statement}
 use Rattle.line.proofs.draw_row.Tie as tie
@@ -49,7 +49,8 @@ returns-2 c =
 put-twelve-requires : tie.Need-put-twelve-requires Inv-loop μ-loop
 put-twelve-requires c κs =
     let l = c .before .before .before .before .before .before .before .loop in
-    part-twelve (l .out) (l .x) (omega (arith, l .inv .0 .long, c .before .before .before .before .before .before .before .before .before .before .before .before .before .pre .0 .1, c .before .if2 .left, l .inv .2))
+    simp (length-take, length-drop)
+    (omega (arith, l .inv .0 .long, c .before .before .before .before .before .before .before .before .before .before .before .before .before .pre .0 .1, c .before .if2 .left, l .inv .2))
 
 loop-again : tie.Need-loop-again Inv-loop μ-loop
 loop-again c =
