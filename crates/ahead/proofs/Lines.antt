@@ -11,7 +11,7 @@ use lib.Dec.{eqb}
 use lib.ListN.{getD}
 use Rattle.facts.proofs.Pairs.{pair-is}
 use Rattle.cells.specs.Reading.{descriptor, Reading, done, read, bind, fmap, value, cells, among}
-use Rattle.cells.proofs.Laws.{cells-bind}
+use Rattle.cells.proofs.Laws.{cells-bind, among-append}
 use Rattle.registers.specs.declared.Settings.{Settings}
 use Rattle.raster.specs.declared.ScanLine.{ScanLine}
 use Rattle.raster.specs.declared.Slice.{Slice}
@@ -30,7 +30,7 @@ use Rattle.line.specs.Line.{Place, Scanned, codes, rowOf, shownRow, scan}
 use Rattle.line.proofs.Strips.{scan-value, scan-cells}
 use Rattle.ahead.specs.Ahead.{remaining}
 use Rattle.ahead.specs.Looking.{rowReads, userShown, rowCells, stripReads, pairOf, codesAtMost}
-use Rattle.ahead.proofs.Rows.{Bytes, among-append, cond-same, row-reads, rows-merge, first-two}
+use Rattle.ahead.proofs.Rows.{Bytes, cond-same, row-reads, rows-merge, first-two}
 
 -- ---- the rows of a strip
 

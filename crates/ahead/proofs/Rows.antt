@@ -2,7 +2,7 @@
 -- Assumes nothing.
 use Prim.Native.Nat.{ℕ, zero, suc, _+_, _-_, _*_, _/_, _%_, _≤_, _<_}
 use mathlib.Core.Path.{_≡_, refl, sym, ap, ap₂, _∙_, subst}
-use mathlib.Core.Bool.{Bool, true, false, cond, _&&_, _||_, and-false, or-true, or-assoc}
+use mathlib.Core.Bool.{Bool, true, false, cond, _&&_, _||_, and-false, or-true}
 use mathlib.Core.List.{List, [], _∷_, _++_}
 use native.Mathlib.Decide.{decLt, decLe}
 use native.Mathlib.Nat.{not-suc-le-zero, mod-eq-of-lt, mod-add-mod, add-mod-right, mul-add-mod-self-left, mul-comm}
@@ -12,7 +12,7 @@ use lib.Dec.{eqb, ltb}
 use lib.ListN.{getD}
 use Rattle.facts.proofs.Pairs.{pair-is}
 use Rattle.cells.specs.Reading.{Reading, done, bind, fmap, cells, among}
-use Rattle.cells.proofs.Laws.{cells-bind, cells-fmap}
+use Rattle.cells.proofs.Laws.{cells-bind, cells-fmap, among-append}
 use Rattle.raster.specs.declared.Slice.{Slice}
 use Rattle.raster.specs.Raster.{InCharacter}
 use Rattle.walk.specs.Walk.{even, next}
@@ -21,11 +21,6 @@ use Rattle.glyph.specs.Cells.{userHigh}
 use Rattle.glyph.proofs.Cells.{ofSlice, glyph-reads}
 use Rattle.line.specs.Line.{Place, codes}
 use Rattle.ahead.specs.Looking.{pairOf, rowReads, userReads, codesTo, Starts}
-
-pub among-append : (c : ℕ) (xs ys : List ℕ) → among c (xs ++ ys) ≡ among c xs || among c ys
-unfolding among
-among-append c [] ys = refl
-among-append c (x ∷ xs) ys = ap (λ (b : Bool). eqb c x || b) (among-append c xs ys) ∙ sym (or-assoc (eqb c x) (among c xs) (among c ys))
 
 pub cond-same : {A : Type 0} (e : Bool) (x : A) → cond e x x ≡ x
 cond-same true x = refl

@@ -1,11 +1,12 @@
 -- What a reading program can do over any RAM: the answers that it can give, and the cells that it can read.
 -- Assumes nothing.
 use Prim.Native.Nat.{ℕ, _<_}
-use mathlib.Core.Path.{_≡_, refl, sym, subst}
-use mathlib.Core.Bool.{Bool, true, false, cond, _||_}
-use mathlib.Core.List.{List, _∷_}
+use mathlib.Core.Path.{sym, subst}
+use mathlib.Core.Bool.{Bool, true, false, cond}
+use mathlib.Core.List.{List}
 use lib.Dec.{T, eqb, eqb→eq}
 use lib.ListN.{getD}
+use Rattle.facts.proofs.Tests.{or-cases}
 use Rattle.cells.specs.Reading.{Reading, done, read, bind, fmap, value, cells, among}
 
 -- every answer has P
@@ -25,18 +26,12 @@ unfolding Gives value
 gives-value P ram (done a) g = g
 gives-value P ram (read r c k) g = gives-value P ram (k (getD ram c 0)) (g (getD ram c 0))
 
-among-first : (n c x : ℕ) (xs : List ℕ) → x < n → (T (among c xs) → c < n) → T (among c (x ∷ xs)) → c < n
-unfolding among
-among-first n c x xs h f t = by (eqb c x) refl t
-  where
-    by : (b : Bool) → eqb c x ≡ b → T (b || among c xs) → c < n
-    by true e t = subst (λ (m : ℕ). m < n) (sym (eqb→eq c x (subst T (sym e) tt))) h
-    by false e t = f t
-
 pub within-cells : {A : Type 0} (n : ℕ) (ram : List ℕ) (p : Reading A) → Within n p → (c : ℕ) → T (among c (cells ram p)) → c < n
-unfolding Within cells
-within-cells n ram (done a) w c t = absurd (unfold among in t)
-within-cells n ram (read r x k) w c t = among-first n c x (cells ram (k (getD ram x 0))) (w .0) (within-cells n ram (k (getD ram x 0)) (w .1 (getD ram x 0)) c) t
+unfolding Within cells among
+within-cells n ram (done a) w c t = absurd t
+within-cells n ram (read r x k) w c t =
+    or-cases (eqb c x) _ t (λ e. subst (λ (m : ℕ). m < n) (sym (eqb→eq c x e)) (w .0))
+    (within-cells n ram (k (getD ram x 0)) (w .1 (getD ram x 0)) c)
 
 -- ---- a program that reads nothing
 

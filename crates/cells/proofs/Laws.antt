@@ -1,12 +1,13 @@
 -- The laws of reading programs that everything later rests on: the reads of one program after another, and that two RAMs which
 -- agree on the cells read cannot be told apart.
 -- Assumes nothing.
-use Prim.Native.Nat.{ℕ, _+_}
-use mathlib.Core.Path.{_≡_, refl, ap, _∙_, subst}
-use mathlib.Core.Bool.{Bool, true, false, _||_}
+use Prim.Native.Nat.{ℕ}
+use mathlib.Core.Path.{_≡_, refl, sym, ap, _∙_}
+use mathlib.Core.Bool.{Bool, true, false, _||_, or-assoc, true≢false}
 use mathlib.Core.List.{List, [], _∷_, _++_}
-use lib.Dec.{T, eqb, eqb-refl}
+use lib.Dec.{eqb, eqb-refl}
 use lib.ListN.{getD}
+use Rattle.facts.proofs.Tests.{or-first, or-second}
 use Rattle.cells.specs.Reading.{Reading, done, read, bind, fmap, value, cells, among, Alike}
 
 -- ---- one program after another
@@ -34,53 +35,36 @@ cells-fmap ram f (read r c k) = ap (λ (l : List ℕ). c ∷ l) (cells-fmap ram 
 
 -- ---- membership
 
-or-right : (a b : Bool) → T b → T (a || b)
-or-right true b t = tt
-or-right false b t = t
-
-or-left : (a b : Bool) → T a → T (a || b)
-or-left true b t = tt
-or-left false b t = absurd t
-
-or-map : (a b b′ : Bool) → (T b → T b′) → T (a || b) → T (a || b′)
-or-map true b b′ f t = tt
-or-map false b b′ f t = f t
-
-pub among-left : (c : ℕ) (xs ys : List ℕ) → T (among c xs) → T (among c (xs ++ ys))
+pub among-append : (c : ℕ) (xs ys : List ℕ) → among c (xs ++ ys) ≡ among c xs || among c ys
 unfolding among
-among-left c [] ys t = absurd t
-among-left c (x ∷ xs) ys t = or-map (eqb c x) (among c xs) (among c (xs ++ ys)) (among-left c xs ys) t
-
-pub among-right : (c : ℕ) (xs ys : List ℕ) → T (among c ys) → T (among c (xs ++ ys))
-unfolding among
-among-right c [] ys t = t
-among-right c (x ∷ xs) ys t = or-right (eqb c x) (among c (xs ++ ys)) (among-right c xs ys t)
+among-append c [] ys = refl
+among-append c (x ∷ xs) ys = ap (λ (b : Bool). eqb c x || b) (among-append c xs ys) ∙ sym (or-assoc (eqb c x) (among c xs) (among c ys))
 
 -- a cell that is not among all is not among the last
 pub unread-right : (c : ℕ) (xs ys : List ℕ) → among c (xs ++ ys) ≡ false → among c ys ≡ false
-unread-right c xs ys e = by (among c ys) (λ t. subst T e (among-right c xs ys t))
+unread-right c xs ys e = by (among c xs) (among c ys) (sym (among-append c xs ys) ∙ e)
   where
-    by : (b : Bool) → (T b → ⊥) → b ≡ false
-    by true n = absurd (n tt)
-    by false n = refl
+    by : (a b : Bool) → a || b ≡ false → b ≡ false
+    by true b q = absurd (true≢false q)
+    by false b q = q
 
 -- ---- two RAMs that agree
 
 pub alike-left : (xs ys : List ℕ) (ram ram′ : List ℕ) → Alike (xs ++ ys) ram ram′ → Alike xs ram ram′
 unfolding Alike
-alike-left xs ys ram ram′ h c t = h c (among-left c xs ys t)
+alike-left xs ys ram ram′ h c t = h c (rw (among-append c xs ys) (or-first (among c xs) (among c ys) t))
 
 pub alike-right : (xs ys : List ℕ) (ram ram′ : List ℕ) → Alike (xs ++ ys) ram ram′ → Alike ys ram ram′
 unfolding Alike
-alike-right xs ys ram ram′ h c t = h c (among-right c xs ys t)
+alike-right xs ys ram ram′ h c t = h c (rw (among-append c xs ys) (or-second (among c xs) (among c ys) t))
 
 first : (x : ℕ) (xs : List ℕ) (ram ram′ : List ℕ) → Alike (x ∷ xs) ram ram′ → getD ram′ x 0 ≡ getD ram x 0
 unfolding Alike among
-first x xs ram ram′ h = h x (or-left (eqb x x) (among x xs) (eqb-refl x))
+first x xs ram ram′ h = h x (or-first (eqb x x) (among x xs) (eqb-refl x))
 
 rest : (x : ℕ) (xs : List ℕ) (ram ram′ : List ℕ) → Alike (x ∷ xs) ram ram′ → Alike xs ram ram′
 unfolding Alike among
-rest x xs ram ram′ h c t = h c (or-right (eqb c x) (among c xs) t)
+rest x xs ram ram′ h c t = h c (or-second (eqb c x) (among c xs) t)
 
 -- over RAMs that agree on the cells read, the program answers the same
 pub value-alike : {A : Type 0} (ram ram′ : List ℕ) (p : Reading A) → Alike (cells ram p) ram ram′ → value ram′ p ≡ value ram p
