@@ -2,7 +2,6 @@
 -- Assumes nothing.
 use Prim.Native.Nat.{ℕ, _<_}
 use mathlib.Core.Path.{sym, subst}
-use mathlib.Core.Bool.{Bool, true, false, cond}
 use mathlib.Core.List.{List}
 use lib.Dec.{T, eqb, eqb→eq}
 use lib.ListN.{getD}
@@ -68,9 +67,3 @@ pub within-fmap : {A B : Type 0} (n : ℕ) (f : A → B) (p : Reading A) → Wit
 unfolding Within fmap
 within-fmap n f (done a) w = tt
 within-fmap n f (read r c k) w = (w .0, λ x. within-fmap n f (k x) (w .1 x))
-
--- ---- one of two programs, by a test
-
-pub within-cond : {A : Type 0} (n : ℕ) (t : Bool) (p q : Reading A) → Within n p → Within n q → Within n (cond t p q)
-within-cond n true p q w v = w
-within-cond n false p q w v = v

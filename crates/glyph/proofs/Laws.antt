@@ -10,8 +10,9 @@ use lib.Dec.{ltb, eqb}
 use native.Mathlib.Decide.{ℕ-discrete}
 use lib.ListN.{length, getD, take, drop, length-take, length-drop}
 use lib.Seq.{getD-take, getD-drop}
+use Rattle.facts.proofs.Choice.{either}
 use Rattle.cells.specs.Reading.{slice, Reading, done, read, value, cells}
-use Rattle.cells.proofs.Bounds.{Within, within-cond}
+use Rattle.cells.proofs.Bounds.{Within}
 use Rattle.raster.specs.declared.Slice.{Slice}
 use Rattle.raster.specs.Raster.{InCharacter}
 use Rattle.glyph.specs.Glyph.{Glyph, font, user, blank, userCell, fontByte, inRam, glyphOf, twelve, bitsOf, slicePart, Lent, Sliced}
@@ -28,7 +29,7 @@ inRam-within number s h = by (ltb number 26) refl
 
 pub glyphOf-within : (high : ℕ) (s : Slice) → InCharacter s → Within 1024 (glyphOf high s)
 unfolding glyphOf
-glyphOf-within high s h = within-cond 1024 (eqb (high / 128 % 2) 0) _ _ (unfold Within in tt) (inRam-within (high % 128) (s .0) h)
+glyphOf-within high s h = either (Within 1024) (eqb (high / 128 % 2) 0) _ _ (unfold Within in tt) (inRam-within (high % 128) (s .0) h)
 
 -- ---- the two bytes of a slice are the part that the lookup returns
 

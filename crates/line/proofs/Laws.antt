@@ -2,13 +2,13 @@
 -- Assumes nothing.
 use Prim.Native.Nat.{ℕ, zero, suc, _-_, _<_, min}
 use mathlib.Core.Path.{_≡_}
-use mathlib.Core.Bool.{Bool, true, false, cond}
-use mathlib.Core.List.{List, [], _∷_, _++_}
+use mathlib.Core.Bool.{Bool}
+use mathlib.Core.List.{List, [], _∷_}
 use native.Mathlib.Omega.{arith}
-use lib.ListN.{length, getD, replicate, length-append, length-take, length-replicate}
+use lib.ListN.{length, getD, length-append, length-take, length-replicate}
 use Rattle.facts.proofs.Choice.{either}
 use Rattle.cells.specs.Reading.{done}
-use Rattle.cells.proofs.Bounds.{Within, gives-all, within-done, within-bind, within-fmap, within-cond}
+use Rattle.cells.proofs.Bounds.{Within, gives-all, within-done, within-bind, within-fmap}
 use Rattle.registers.specs.declared.Settings.{Settings}
 use Rattle.registers.specs.declared.Registers.{Registers}
 use Rattle.registers.specs.Registers.{settingsOf}
@@ -37,7 +37,7 @@ codes-within (suc n) s a h = (
   λ low. (
     even-bound a,
     λ high.
-        within-cond 1024 (endsLine high) (done []) _ tt
+        either (Within 1024) (endsLine high) (done []) _ tt
         (within-bind (λ (g : Glyph). Unit {0}) 1024 (glyphOf high s) _ (gives-all (λ (g : Glyph). Unit {0}) (λ g. tt) (glyphOf high s))
         (glyphOf-within high s h) (λ g t. within-fmap 1024 _ (codes n s (next a)) (codes-within n s (next a) h))),
   ),
@@ -47,14 +47,14 @@ rowOf-within : (n : ℕ) (s : Strip) → OnLine s → Within 1024 (rowOf n s)
 unfolding rowOf OnLine
 rowOf-within n (Spacing left) h = within-done 1024 []
 rowOf-within n (Characters address height zoom enabled line) h =
-    within-cond 1024 enabled _ _ (codes-within n (interpolated line height zoom) address (slice-range line height zoom h)) (within-done 1024 [])
+    either (Within 1024) enabled _ _ (codes-within n (interpolated line height zoom) address (slice-range line height zoom h)) (within-done 1024 [])
 
 -- every cell that a line reads is below 1,024
 pub scan-within : (s : Settings) (w : Walk) → Within 1024 (scan s w)
 unfolding scan shownRow
 scan-within s w =
     within-bind (λ (v : Walk). OnLine (v .strip)) 1024 (nextLine (s .ch) w) _ (nextLine-on (s .ch) w) (nextLine-within (s .ch) w)
-    (λ v h. within-fmap 1024 _ _ (within-cond 1024 (s .osd) _ _ (rowOf-within (charactersOf (s .ld) (s .dd)) (v .strip) h) (within-done 1024 [])))
+    (λ v h. within-fmap 1024 _ _ (either (Within 1024) (s .osd) _ _ (rowOf-within (charactersOf (s .ld) (s .dd)) (v .strip) h) (within-done 1024 [])))
 
 -- ---- the width
 
@@ -71,15 +71,9 @@ painted-length font plain hidden room (p ∷ ps) =
 -- a drawn line has exactly W pixels
 pub paint-length : (s : Settings) (font : List ℕ) (f : ℕ) (row : List Place) → length (paint s font f row) ≡ widthOf (s .ld)
 unfolding paint
-paint-length s font f row = by (s .osd)
-  where
-    by : (t : Bool)
-        → length (cond t
-        (replicate (min (firstPixelOf (s .dd)) (widthOf (s .ld))) (plainOf (s .fbk))
-        ++ painted font (plainOf (s .fbk)) (hiddenIn (s .fl) f) (widthOf (s .ld) - firstPixelOf (s .dd)) row)
-        (replicate (widthOf (s .ld)) 0)) ≡ widthOf (s .ld)
-    by true = simp (length-append, length-replicate, painted-length) (omega arith)
-    by false = length-replicate (widthOf (s .ld)) 0
+paint-length s font f row =
+    either (λ (l : List ℕ). length l ≡ widthOf (s .ld)) (s .osd) _ _ (simp (length-append, length-replicate, painted-length) (omega arith))
+    (length-replicate (widthOf (s .ld)) 0)
 
 -- ---- the pixels
 

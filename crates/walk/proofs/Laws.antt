@@ -10,7 +10,7 @@ use lib.Dec.{eqb}
 use lib.ListN.{getD}
 use Rattle.facts.proofs.Choice.{either}
 use Rattle.cells.specs.Reading.{descriptor, done, read, fmap, value, cells}
-use Rattle.cells.proofs.Bounds.{Gives, Within, gives-fmap, within-fmap, within-cond}
+use Rattle.cells.proofs.Bounds.{Gives, Within, gives-fmap, within-fmap}
 use Rattle.raster.specs.declared.ScanLine.{ScanLine}
 use Rattle.raster.specs.Raster.{beforeFirst}
 use Rattle.raster.proofs.Laws.{some-after, one-less, last-none, following-in}
@@ -29,7 +29,7 @@ even-bound a = omega arith
 
 pub begun-within : (ch : ℕ) (w : Walk) → Within 1024 (begun ch w)
 unfolding begun Within
-begun-within ch w = within-cond 1024 (over (w .strip)) _ _ (omega arith, λ low. (even-bound (w .descriptor), λ high. tt)) tt
+begun-within ch w = either (Within 1024) (over (w .strip)) _ _ (omega arith, λ low. (even-bound (w .descriptor), λ high. tt)) tt
 
 pub nextLine-within : (ch : ℕ) (w : Walk) → Within 1024 (nextLine ch w)
 unfolding nextLine
