@@ -1,16 +1,17 @@
 -- The laws of codes and glyphs: what a glyph reads lies below 1,024, and what its word shows.
 -- Assumes nothing.
 use Prim.Native.Nat.{ℕ, _+_, _%_, _/_, _≤_, _<_}
-use mathlib.Core.Path.{_≡_, refl, ap, _∙_}
+use mathlib.Core.Path.{_≡_, refl}
 use mathlib.Core.Bool.{Bool, true, false, cond}
+use native.Mathlib.Nat.{add-zero}
 use native.Mathlib.Omega.{arith}
 use borrow.Author.Tests.{ltb-true, eq-eqb, ne-eqb, lt-ltb, le-ltb}
 use mathlib.Core.List.{List}
 use lib.Dec.{ltb, eqb}
 use native.Mathlib.Decide.{ℕ-discrete}
 use lib.ListN.{length, getD, take, drop, length-take, length-drop}
-use lib.Seq.{getD-take, getD-drop}
 use Rattle.facts.proofs.Choice.{either}
+use Rattle.facts.proofs.Parts.{getD-part}
 use Rattle.cells.specs.Reading.{slice, Reading, done, read, value, cells}
 use Rattle.cells.proofs.Bounds.{Within}
 use Rattle.raster.specs.declared.Slice.{Slice}
@@ -33,13 +34,6 @@ glyphOf-within high s h = either (Within 1024) (eqb (high / 128 % 2) 0) _ _ (unf
 
 -- ---- the two bytes of a slice are the part that the lookup returns
 
--- the two bytes of a part
-part-first : (l : List ℕ) (a : ℕ) → getD (take 2 (drop a l)) 0 0 ≡ getD l a 0
-part-first l a = getD-take 2 (drop a l) 0 0 (omega arith) ∙ getD-drop a l 0 0 ∙ ap (λ (n : ℕ). getD l n 0) (omega arith)
-
-part-second : (l : List ℕ) (a : ℕ) → getD (take 2 (drop a l)) 1 0 ≡ getD l (a + 1) 0
-part-second l a = getD-take 2 (drop a l) 1 0 (omega arith) ∙ getD-drop a l 1 0
-
 part-length : (l : List ℕ) (a : ℕ) → a + 2 ≤ length l → length (take 2 (drop a l)) ≡ 2
 part-length l a h = simp (length-take, length-drop) (omega arith)
 
@@ -59,6 +53,10 @@ slicePart-length ram f high s l h = by (ℕ-discrete (high / 128 % 2) 0)
 unfoldable pub wordAt : List ℕ → ℕ
 wordAt part = inOrder (getD part 0 0) (getD part 1 0)
 
+part-word : (l : List ℕ) (a : ℕ) → wordAt (take 2 (drop a l)) ≡ inOrder (getD l a 0) (getD l (a + 1) 0)
+unfolding wordAt
+part-word l a = rw (getD-part l a 2 0 0 (omega arith), getD-part l a 2 1 0 (omega arith), add-zero)
+
 module _ (ram f : List ℕ) (high : ℕ) (s : Slice) where
   -- slice 0 of a font character
   pub word-none : high < 128 → s .0 ≡ 0 → record { bits = 0; cells = 0; ends = false } ≡ wordIn ram f high s
@@ -68,20 +66,19 @@ module _ (ram f : List ℕ) (high : ℕ) (s : Slice) where
   -- a font character
   pub word-font : high < 128 → (s .0 ≡ 0 → ⊥)
       → record { bits = wordAt (slicePart ram f high (s .0)); cells = 0; ends = false } ≡ wordIn ram f high s
-  unfolding wordAt slicePart wordIn glyphOf value cells wordOf
+  unfolding slicePart wordIn glyphOf value cells wordOf
   word-font h z =
-      rw (eq-eqb (high / 128 % 2) 0 (omega arith), ne-eqb _ _ z, part-first, part-second, ne-eqb high 255 (λ e. omega arith))
+      rw (eq-eqb (high / 128 % 2) 0 (omega arith), ne-eqb _ _ z, part-word, ne-eqb high 255 (λ e. omega arith))
 
   -- a user character
   pub word-user : 128 ≤ high → high < 154
       → record { bits = wordAt (slicePart ram f high (s .0)); cells = 2; ends = false } ≡ wordIn ram f high s
-  unfolding wordAt slicePart wordIn glyphOf inRam value cells wordOf
+  unfolding slicePart wordIn glyphOf inRam value cells wordOf
   word-user l h =
       rw (
         ne-eqb (high / 128 % 2) 0 (λ e. omega arith),
         lt-ltb (high % 128) 26 (omega arith),
-        part-first,
-        part-second,
+        part-word,
         ne-eqb high 255 (λ e. omega arith),
       )
 
