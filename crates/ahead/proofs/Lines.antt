@@ -217,7 +217,7 @@ strip-passed ram s n a t k c e =
     ∙ among-append c (rowCells ram s k t) (cells ram (remaining s (n - k) (at a (Spacing 0))))
 
 -- a descriptor is passed: its two cells, and then the lines of its strip
-pub descriptor-passed : (ram : List ℕ) (s : Settings) (n a : ℕ) (t : Strip) → 1 ≤ n → over t ≡ true
+descriptor-passed : (ram : List ℕ) (s : Settings) (n a : ℕ) (t : Strip) → 1 ≤ n → over t ≡ true
     → cells ram (remaining s n (at a t))
     ≡ even a
     ∷ (even a + 1)

@@ -40,12 +40,6 @@ within-done n a = tt
 
 -- ---- one program after another
 
-pub gives-bind : {A B : Type 0} (P : A → Type 0) (Q : B → Type 0) (p : Reading A) (f : A → Reading B)
-    → Gives P p → ((a : A) → P a → Gives Q (f a)) → Gives Q (bind p f)
-unfolding Gives bind
-gives-bind P Q (done a) f g h = h a g
-gives-bind P Q (read r c k) f g h = λ x. gives-bind P Q (k x) f (g x) h
-
 pub gives-fmap : {A B : Type 0} (P : A → Type 0) (Q : B → Type 0) (f : A → B) (p : Reading A)
     → Gives P p → ((a : A) → P a → Q (f a)) → Gives Q (fmap f p)
 unfolding Gives fmap

@@ -7,7 +7,7 @@ use mathlib.Core.List.{List}
 use native.Mathlib.Decide.{ℕ-discrete, decLt}
 use native.Mathlib.Omega.{arith}
 use borrow.Author.Tests.{eq-eqb, ne-eqb, lt-ltb, le-ltb}
-use lib.Dec.{T, eqb, ltb, eqb→eq, ltb→lt, lt→ltb}
+use lib.Dec.{T, eqb, eqb→eq, ltb→lt, lt→ltb}
 use Rattle.facts.proofs.Pairs.{pair-is}
 use Rattle.facts.proofs.Tests.{iff, and-left, and-right, and-both, eq-T}
 use Rattle.cells.specs.Reading.{cells, among}

@@ -170,7 +170,7 @@ scan-cells ram s w =
     cells-bind ram (nextLine (s .ch) w) _
     ∙ ap (λ (l : List ℕ). cells ram (nextLine (s .ch) w) ++ l) (cells-fmap ram _ (shownRow s (value ram (nextLine (s .ch) w) .strip)))
 
-pub scan-length : (ram : List ℕ) (s : Settings) (w : Walk)
+scan-length : (ram : List ℕ) (s : Settings) (w : Walk)
     → length (cells ram (scan s w)) ≡ length (cells ram (nextLine (s .ch) w)) + length (cells ram (shownRow s (value ram (nextLine (s .ch) w) .strip)))
 scan-length ram s w =
     ap length (scan-cells ram s w) ∙ length-append (cells ram (nextLine (s .ch) w)) (cells ram (shownRow s (value ram (nextLine (s .ch) w) .strip)))

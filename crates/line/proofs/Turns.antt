@@ -87,7 +87,7 @@ module _ (ram font : List ℕ) (at : ℕ) (pen : Pen) (w : Word) (h : w ≡ word
       }
 
 -- a row from an address is the row from the even address of its two bytes
-pub codes-even : (n : ℕ) (s : Slice) (a : ℕ) → codes n s (even a) ≡ codes n s a
+codes-even : (n : ℕ) (s : Slice) (a : ℕ) → codes n s (even a) ≡ codes n s a
 unfolding codes
 codes-even zero s a = refl
 codes-even (suc n) s a =

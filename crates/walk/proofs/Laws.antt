@@ -27,7 +27,7 @@ even-bound a = omega arith
 
 -- ---- the descriptor of a line
 
-pub begun-within : (ch : ℕ) (w : Walk) → Within 1024 (begun ch w)
+begun-within : (ch : ℕ) (w : Walk) → Within 1024 (begun ch w)
 unfolding begun Within
 begun-within ch w = either (Within 1024) (over (w .strip)) _ _ (omega arith, λ low. (even-bound (w .descriptor), λ high. tt)) tt
 
@@ -38,12 +38,12 @@ nextLine-within ch w = within-fmap 1024 _ (begun ch w) (begun-within ch w)
 -- ---- the lines that a strip has left
 
 -- a strip is over where it has none
-pub over-none : (s : Strip) → over s ≡ eqb (linesLeft s) 0
+over-none : (s : Strip) → over s ≡ eqb (linesLeft s) 0
 unfolding over linesLeft
 over-none (Spacing left) = refl
 over-none (Characters address height zoom enabled line) = last-none line height zoom
 
-pub over-left : (s : Strip) → over s ≡ false → 1 ≤ linesLeft s
+over-left : (s : Strip) → over s ≡ false → 1 ≤ linesLeft s
 over-left s e = omega (arith, eqb-false (linesLeft s) 0 (sym (over-none s) ∙ e))
 
 pub left-over : (s : Strip) → 1 ≤ linesLeft s → over s ≡ false
@@ -65,13 +65,6 @@ stripOf-some ch low high =
     either (λ (s : Strip). 1 ≤ linesLeft s) (isSpacing high) _ _ (omega arith) (some-after (atLeastOne ch) (zoomedBy high) (omega arith))
 
 -- ---- the strip of a descriptor
-
--- a height that was taken as 1 is 1
-pub stripOf-height : (ch low high : ℕ) → stripOf (atLeastOne ch) low high ≡ stripOf ch low high
-unfolding stripOf
-stripOf-height ch low high =
-    let e : atLeastOne (atLeastOne ch) ≡ atLeastOne ch = omega arith in
-    ap (λ (h : ℕ). cond (isSpacing high) (Spacing (atLeastOne low)) (Characters (codesAt low high) h (zoomedBy high) (enabledBy high) beforeFirst)) e
 
 -- codes are read on its lines
 pub codes-shown : (ch low high : ℕ) → showsCodes high ≡ true
