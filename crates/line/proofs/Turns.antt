@@ -12,7 +12,7 @@ use borrow.Rule.Slice.PartMut.{putMid, same-len-mid, post-is, mid-len, drop-put}
 use Rattle.raster.proofs.Laws.{characters-more}
 use borrow.Author.Tests.{eqb-true}
 use lib.Seq.{take-all, take-at, drop-length}
-use Rattle.cells.specs.Reading.{code, Reading, done, read, bind, fmap, value, cells}
+use Rattle.cells.specs.Reading.{code, done, read, bind, fmap, value, cells}
 use Rattle.cells.proofs.Laws.{value-bind, cells-bind, value-fmap, cells-fmap}
 use Rattle.raster.specs.declared.Slice.{Slice}
 use Rattle.walk.specs.Walk.{even, next}
@@ -28,7 +28,7 @@ use Rattle.line.proofs.Laws.{character-length, painted-length}
 use Rattle.line.proofs.Counts.{glyph-most, codes-most}
 use Rattle.line.specs.declared.Coded.{Coded}
 use Rattle.line.specs.Contracts.{placeAt, CodeShown, RowDrawn, rowIn, roomOf}
-use Rattle.line.specs.Line.{Place, character, codes, painted}
+use Rattle.line.specs.Line.{character, codes, painted}
 
 -- ---- filling
 
@@ -100,49 +100,23 @@ codes-even (suc n) s a =
     (done [])
     (bind (glyphOf high s) λ g. fmap (λ places. (record { low = low; glyph = g }) ∷ places) (codes n s c))) e f
 
--- what stands after a code's two bytes, where it does not end the line
-after : ℕ → Slice → ℕ → ℕ → ℕ → Reading (List Place)
-after n s a low high = bind (glyphOf high s) λ g. fmap (λ places. (record { low = low; glyph = g }) ∷ places) (codes n s (next a))
-
-module _ (ram : List ℕ) (n : ℕ) (s : Slice) (a : ℕ) where
-  -- the code that ends the line
-  codes-ended : endsLine (getD ram (even a + 1) 0) ≡ true
-      → (value ram (codes (suc n) s a) ≡ []) × (length (cells ram (codes (suc n) s a)) ≡ 2)
-  unfolding codes value cells after
-  codes-ended e = (
-    ap (λ (t : Bool). value ram (cond t (done []) (after n s a (getD ram (even a) 0) (getD ram (even a + 1) 0)))) e,
-    ap (λ (t : Bool). suc (suc (length (cells ram (cond t (done []) (after n s a (getD ram (even a) 0) (getD ram (even a + 1) 0))))))) e,
-  )
-
-  -- a code with a character
-  codes-on : endsLine (getD ram (even a + 1) 0) ≡ false
-      → (value ram (codes (suc n) s a)
-      ≡ (record { low = getD ram (even a) 0; glyph = value ram (glyphOf (getD ram (even a + 1) 0) s) }) ∷ value ram (codes n s (next a)))
-      × (length (cells ram (codes (suc n) s a))
-      ≡ 2 + length (cells ram (glyphOf (getD ram (even a + 1) 0) s)) + length (cells ram (codes n s (next a))))
-  unfolding codes value cells after
-  codes-on e = (
-    ap (λ (t : Bool). value ram (cond t (done []) (after n s a (getD ram (even a) 0) (getD ram (even a + 1) 0)))) e
-        ∙ value-bind ram (glyphOf (getD ram (even a + 1) 0) s) _
-        ∙ value-fmap ram _ (codes n s (next a)),
-    ap (λ (t : Bool). suc (suc (length (cells ram (cond t (done []) (after n s a (getD ram (even a) 0) (getD ram (even a + 1) 0))))))) e
-        ∙ ap (λ (l : List ℕ). suc (suc (length l))) (cells-bind ram (glyphOf (getD ram (even a + 1) 0) s) _)
-        ∙ simp (cells-fmap, length-append) (omega arith),
-  )
-
--- ---- the room of a line
-
+-- a row of one more code, from an even address
 module _ (ram : List ℕ) (n : ℕ) (s : Slice) (a : ℕ) (p : even a ≡ a) where
-  -- the same, where the address is even
+  -- the code ends the line
   ended-here : endsLine (getD ram (a + 1) 0) ≡ true → (value ram (codes (suc n) s a) ≡ []) × (length (cells ram (codes (suc n) s a)) ≡ 2)
-  ended-here e = codes-ended ram n s a (rw p e)
+  unfolding codes value cells
+  ended-here e = (rw (value, p, e), rw (p, e))
 
+  -- it has a character
   on-here : endsLine (getD ram (a + 1) 0) ≡ false
       → (value ram (codes (suc n) s a)
       ≡ (record { low = getD ram a 0; glyph = value ram (glyphOf (getD ram (a + 1) 0) s) }) ∷ value ram (codes n s (next a)))
       × (length (cells ram (codes (suc n) s a))
       ≡ 2 + length (cells ram (glyphOf (getD ram (a + 1) 0) s)) + length (cells ram (codes n s (next a))))
-  on-here e = rw p at (codes-on ram n s a (rw p e))
+  unfolding codes value cells
+  on-here e = (rw (value, p, e, value-bind, value-fmap), rw (p, e, cells-bind, cells-fmap, length-append (cells ram (glyphOf (getD ram (a + 1) 0) s)) _) (omega arith))
+
+-- ---- the room of a line
 
 -- where no character is left, the room is plain
 pub painted-none : (font : List ℕ) (plain : ℕ) (hidden : Bool) (room : ℕ) → painted font plain hidden room [] ≡ replicate room plain
