@@ -4,7 +4,7 @@ use Prim.Native.Nat.{ℕ, zero, suc, _+_, _-_, _/_, _%_, _≤_, _<_}
 use mathlib.Core.Path.{_≡_, refl, sym, ap, ap₂, _∙_}
 use mathlib.Core.List.{List, [], _∷_, _++_, append-nil, append-assoc}
 use native.Mathlib.Omega.{arith}
-use mathlib.Core.Bool.{Bool, true, false, cond, true≢false}
+use mathlib.Core.Bool.{Bool, true, false, true≢false}
 use mir.Syntax.{w32}
 use mir.Val.{Fits}
 use lib.ListN.{length, getD, take, drop, replicate, length-append, length-take, take-append-drop}
@@ -12,7 +12,7 @@ use borrow.Rule.Slice.PartMut.{putMid, same-len-mid, post-is, mid-len, drop-put}
 use Rattle.raster.proofs.Laws.{characters-more}
 use borrow.Author.Tests.{eqb-true}
 use lib.Seq.{take-all, take-at, drop-length}
-use Rattle.cells.specs.Reading.{code, done, read, bind, fmap, value, cells}
+use Rattle.cells.specs.Reading.{value, cells}
 use Rattle.cells.proofs.Laws.{value-bind, cells-bind, value-fmap, cells-fmap}
 use Rattle.raster.specs.declared.Slice.{Slice}
 use Rattle.walk.specs.Walk.{even, next}
@@ -93,12 +93,7 @@ codes-even zero s a = refl
 codes-even (suc n) s a =
     let e : even (even a) ≡ even a = omega arith in
     let f : next (even a) ≡ next a = omega arith in
-    ap₂ (λ (b c : ℕ).
-    read code b λ low.
-    read code (b + 1) λ high.
-    cond (endsLine high)
-    (done [])
-    (bind (glyphOf high s) λ g. fmap (λ places. (record { low = low; glyph = g }) ∷ places) (codes n s c))) e f
+    rw (e, f)
 
 -- a row of one more code, from an even address
 module _ (ram : List ℕ) (n : ℕ) (s : Slice) (a : ℕ) (p : even a ≡ a) where
@@ -114,7 +109,10 @@ module _ (ram : List ℕ) (n : ℕ) (s : Slice) (a : ℕ) (p : even a ≡ a) whe
       × (length (cells ram (codes (suc n) s a))
       ≡ 2 + length (cells ram (glyphOf (getD ram (a + 1) 0) s)) + length (cells ram (codes n s (next a))))
   unfolding codes value cells
-  on-here e = (rw (value, p, e, value-bind, value-fmap), rw (p, e, cells-bind, cells-fmap, length-append (cells ram (glyphOf (getD ram (a + 1) 0) s)) _) (omega arith))
+  on-here e = (
+    rw (value, p, e, value-bind, value-fmap),
+    rw (p, e, cells-bind, cells-fmap, length-append (cells ram (glyphOf (getD ram (a + 1) 0) s)) _) (omega arith),
+  )
 
 -- ---- the room of a line
 
