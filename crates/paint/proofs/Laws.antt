@@ -1,6 +1,6 @@
 -- The laws of pixels: a character has twelve, each below 16.
 -- Assumes nothing.
-use Prim.Native.Nat.{ℕ, zero, suc, _/_, _%_, _^_, _<_}
+use Prim.Native.Nat.{ℕ, zero, suc, _/_, _%_, _^_, _≤_, _<_}
 use mathlib.Core.Path.{_≡_, refl, ap}
 use mathlib.Core.Bool.{Bool, true, false}
 use mathlib.Core.List.{List, [], _∷_, _++_}
@@ -22,9 +22,6 @@ unfolding twelveColumns
 twelve-length plain hidden low bits = columns-length 12 (inkOf plain low) (shownBits hidden low bits) 0
 
 -- ---- each below 16
-
-abbrev Pixel : ℕ → Type 0
-Pixel x = x < 16
 
 -- every number of the list is a pixel
 pub data Pixels : List ℕ → Type 0 where
@@ -49,30 +46,34 @@ pub pixels-replicate : (n x : ℕ) → x < 16 → Pixels (replicate n x)
 pixels-replicate zero x h = none
 pixels-replicate (suc n) x h = more h (pixels-replicate n x h)
 
--- the pixels that a code draws with are pixels
-record Inks (ink : Ink) : Type 0 where
-  fore : ink .fore < 16
-  cast : ink .cast < 16
-  back : ink .back < 16
+abbrev Below : ℕ → ℕ → Type 0
+Below m x = x < m
 
-background-below : (plain low : ℕ) (beside : Bool) → plain < 16 → background plain low beside < 16
-background-below plain low beside h =
-    either Pixel (eqb (low / 8 % 2) 0) _ _ (omega arith)
-    (either Pixel (eqb (low / 2 % 2) 0) _ _ h (either Pixel beside _ _ (omega arith) h))
+-- the pixels that a code draws with lie below m
+pub record Inks (m : ℕ) (ink : Ink) : Type 0 where
+  pub fore : ink .fore < m
+  pub cast : ink .cast < m
+  pub back : ink .back < m
 
-ink-below : (plain low : ℕ) → plain < 16 → Inks (inkOf plain low)
+-- they do if the plain pixel does, from 16 on
+background-below : (m plain low : ℕ) (beside : Bool) → 16 ≤ m → plain < m → background plain low beside < m
+background-below m plain low beside l h =
+    either (Below m) (eqb (low / 8 % 2) 0) _ _ (omega arith)
+    (either (Below m) (eqb (low / 2 % 2) 0) _ _ h (either (Below m) beside _ _ (omega arith) h))
+
+pub ink-below : (m plain low : ℕ) → 16 ≤ m → plain < m → Inks m (inkOf plain low)
 unfolding inkOf
-ink-below plain low h =
-    record { fore = omega arith; cast = background-below plain low true h; back = background-below plain low false h }
+ink-below m plain low l h =
+    record { fore = omega arith; cast = background-below m plain low true l h; back = background-below m plain low false l h }
 
-columns-pixels : (n : ℕ) (ink : Ink) (bits left : ℕ) → Inks ink → Pixels (columns n ink bits left)
+columns-pixels : (n : ℕ) (ink : Ink) (bits left : ℕ) → Inks 16 ink → Pixels (columns n ink bits left)
 unfolding columns
 columns-pixels zero ink bits left h = none
 columns-pixels (suc n) ink bits left h =
     more
-    (either Pixel (eqb (bits / 2 ^ n % 2) 1) _ _ (h .fore) (either Pixel (eqb left 1) _ _ (h .cast) (h .back)))
+    (either (Below 16) (eqb (bits / 2 ^ n % 2) 1) _ _ (h .fore) (either (Below 16) (eqb left 1) _ _ (h .cast) (h .back)))
     (columns-pixels n ink bits (bits / 2 ^ n % 2) h)
 
 pub twelve-pixels : (plain : ℕ) (hidden : Bool) (low bits : ℕ) → plain < 16 → Pixels (twelveColumns plain hidden low bits)
 unfolding twelveColumns
-twelve-pixels plain hidden low bits h = columns-pixels 12 (inkOf plain low) (shownBits hidden low bits) 0 (ink-below plain low h)
+twelve-pixels plain hidden low bits h = columns-pixels 12 (inkOf plain low) (shownBits hidden low bits) 0 (ink-below 16 plain low (omega arith) h)

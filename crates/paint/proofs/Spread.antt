@@ -19,6 +19,7 @@ use Rattle.paint.specs.declared.Paint.{Paint}
 use Rattle.paint.specs.declared.Fours.{Fours}
 use Rattle.paint.specs.Pixels.{Ink, inkOf, pixel, columns, shownBits, twelveColumns}
 use Rattle.paint.specs.Tables.{inFour, facing, casting, ofPixel, fores, backs, shows, paintOf, castsShadow, solid, shadowed, fourOf, inFours, columnPixels}
+use Rattle.paint.proofs.Laws.{Inks, ink-below}
 
 -- ---- exclusive or and masks on bytes
 
@@ -110,12 +111,12 @@ and-whole : (a : ℕ) → a < 256 → bitAnd 255 a ≡ a
 and-whole a h = and-comm 255 a ∙ and-mask a 8 ∙ omega arith
 
 -- a column from the masks of its bit and of the bit to its left
-module _ (fore cast back : ℕ) (hf : fore < 256) (hc : cast < 256) (hb : back < 256) where
+module _ (fore cast back : ℕ) (below : Inks 256 (record { fore = fore; cast = cast; back = back })) where
   changed : bitAnd 255 (bitXor back fore) ≡ bitXor back fore
-  changed = and-whole (bitXor back fore) (xor-lt 8 back fore hb hf)
+  changed = and-whole (bitXor back fore) (xor-lt 8 back fore (below .back) (below .fore))
 
   cast-changed : bitAnd 255 (bitXor back cast) ≡ bitXor back cast
-  cast-changed = and-whole (bitXor back cast) (xor-lt 8 back cast hb hc)
+  cast-changed = and-whole (bitXor back cast) (xor-lt 8 back cast (below .back) (below .cast))
 
   taken : bitXor back (bitXor (bitAnd 255 (bitXor back fore)) (bitAnd 0 (bitXor back cast))) ≡ fore
   taken =
@@ -220,31 +221,31 @@ painting ink kept =
       kept = kept;
     }
 
-module _ (ink : Ink) (kept : ℕ) (hf : ink .fore < 256) (hc : ink .cast < 256) (hb : ink .back < 256) where
+module _ (ink : Ink) (kept : ℕ) (below : Inks 256 ink) where
   -- a change to a pixel, in a byte
   lane-change : (k i bit left p : ℕ) → Column k i bit left → p < 256 → lane k (bitXor (ofPixel (ink .back)) (ofPixel p)) ≡ bitXor (ink .back) p
   lane-change k i bit left p c h =
-      lane-xor k (ofPixel (ink .back)) (ofPixel p) ∙ ap₂ bitXor (c .of-pixel (ink .back) hb) (c .of-pixel p h)
+      lane-xor k (ofPixel (ink .back)) (ofPixel p) ∙ ap₂ bitXor (c .of-pixel (ink .back) (below .back)) (c .of-pixel p h)
 
   lane-shadowed : (k i bit left : ℕ) → Column k i bit left → lane k (shadowed (painting ink kept) i) ≡ pixel ink bit left
   unfolding shadowed
   lane-shadowed k i bit left c =
       lane-xor k _ _
-      ∙ ap₂ bitXor (c .of-pixel (ink .back) hb)
+      ∙ ap₂ bitXor (c .of-pixel (ink .back) (below .back))
       (lane-xor k _ _
       ∙ ap₂ bitXor
-      (lane-and k _ _ ∙ ap₂ bitAnd (c .faces) (lane-change k i bit left (ink .fore) c hf))
-      (lane-and k _ _ ∙ ap₂ bitAnd (c .casts) (lane-change k i bit left (ink .cast) c hc)))
-      ∙ chosen (ink .fore) (ink .cast) (ink .back) hf hc hb bit left (c .one) (c .two)
+      (lane-and k _ _ ∙ ap₂ bitAnd (c .faces) (lane-change k i bit left (ink .fore) c (below .fore)))
+      (lane-and k _ _ ∙ ap₂ bitAnd (c .casts) (lane-change k i bit left (ink .cast) c (below .cast))))
+      ∙ chosen (ink .fore) (ink .cast) (ink .back) below bit left (c .one) (c .two)
 
   -- where shadow is no other pixel than background
   lane-solid : (k i bit left : ℕ) → ink .cast ≡ ink .back → Column k i bit left → lane k (solid (painting ink kept) i) ≡ pixel ink bit left
   unfolding solid
   lane-solid k i bit left e c =
       lane-xor k _ _
-      ∙ ap₂ bitXor (c .of-pixel (ink .back) hb)
-      (lane-and k _ _ ∙ ap₂ bitAnd (c .faces) (lane-change k i bit left (ink .fore) c hf))
-      ∙ chosen-solid (ink .fore) (ink .cast) (ink .back) hf hc hb bit left (c .one)
+      ∙ ap₂ bitXor (c .of-pixel (ink .back) (below .back))
+      (lane-and k _ _ ∙ ap₂ bitAnd (c .faces) (lane-change k i bit left (ink .fore) c (below .fore)))
+      ∙ chosen-solid (ink .fore) (ink .cast) (ink .back) below bit left (c .one)
       ∙ ap (λ (x : ℕ). cond (eqb bit 1) (ink .fore) (cond (eqb left 1) x (ink .back))) (sym e)
 
 -- ---- twelve columns
@@ -318,35 +319,21 @@ module _ (plain : ℕ) (hidden : Bool) (low : ℕ) where
       by false false q = let z : _≡_ {A = ℕ} 0 1 = cc in absurd (omega arith)
 
   module _ (h : plain < 256) (bits : ℕ) (k : bits < 4096) where
-    small : (s t : Bool) (x : ℕ) → x < 256 → cond s (8 + low % 8) (cond t plain x) < 256
-    small true t x i = omega arith
-    small false true x i = h
-    small false false x i = i
-
-    fore-small : inkOf plain low .fore < 256
-    unfolding inkOf
-    fore-small = omega arith
-
-    cast-small : inkOf plain low .cast < 256
-    unfolding inkOf
-    cast-small = small (eqb (low / 8 % 2) 0) (eqb (low / 2 % 2) 0) 8 (omega arith)
-
-    back-small : inkOf plain low .back < 256
-    unfolding inkOf
-    back-small = small (eqb (low / 8 % 2) 0) (eqb (low / 2 % 2) 0) plain h
+    below : Inks 256 (inkOf plain low)
+    below = ink-below 256 plain low (omega arith) h
 
     drawn-shadowed : castsShadow low ≡ true → columnPixels (inFours (shadowed (paintOf plain hidden low)) bits) ≡ columns 12 (inkOf plain low) bits 0
     unfolding shadowInk
     drawn-shadowed e =
         ap (λ (p : Paint). columnPixels (inFours (shadowed p) bits)) paint-is
-        ∙ twelve-columns shadowInk _ bits k (λ i n bit left. lane-shadowed shadowInk (shows hidden (low / 16)) fore-small (omega arith) back-small n i bit left)
+        ∙ twelve-columns shadowInk _ bits k (λ i n bit left. lane-shadowed shadowInk (shows hidden (low / 16)) (record { fore = below .fore; cast = omega arith; back = below .back }) n i bit left)
         ∙ ap (λ (x : ℕ). columns 12 (record { fore = inkOf plain low .fore; cast = x; back = inkOf plain low .back }) bits 0) (cast-shadow e)
 
     drawn-solid : castsShadow low ≡ false → columnPixels (inFours (solid (paintOf plain hidden low)) bits) ≡ columns 12 (inkOf plain low) bits 0
     unfolding shadowInk solid
     drawn-solid e =
         ap (λ (p : Paint). columnPixels (inFours (solid p) bits)) paint-is
-        ∙ twelve-columns (inkOf plain low) _ bits k (λ i n bit left. lane-solid (inkOf plain low) (shows hidden (low / 16)) fore-small cast-small back-small n i bit left (cast-back e))
+        ∙ twelve-columns (inkOf plain low) _ bits k (λ i n bit left. lane-solid (inkOf plain low) (shows hidden (low / 16)) below n i bit left (cast-back e))
 
 -- ---- the bits that are shown
 
