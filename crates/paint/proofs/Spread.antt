@@ -300,23 +300,15 @@ module _ (plain : ℕ) (hidden : Bool) (low : ℕ) where
   unfolding paintOf fores inkOf shadowInk
   paint-is = ap (λ (b : ℕ). record { back = b; fore = bitXor b (ofPixel (8 + low / 16 % 8)); cast = bitXor b (ofPixel 8); kept = shows hidden (low / 16) }) back-is
 
-  cast-shadow : castsShadow low ≡ true → 8 ≡ inkOf plain low .cast
+  -- the cast pixel is shadow where the code casts one, else background
+  cast-is : inkOf plain low .cast ≡ cond (castsShadow low) 8 (inkOf plain low .back)
   unfolding inkOf
-  cast-shadow e = by (eqb (low / 8 % 2) 0) (eqb (low / 2 % 2) 0) e
+  cast-is = by (eqb (low / 8 % 2) 0) (eqb (low / 2 % 2) 0)
     where
-      by : (s t : Bool) → cond s false (cond t false true) ≡ true → 8 ≡ cond s (8 + low % 8) (cond t plain 8)
-      by true t q = let z : _≡_ {A = ℕ} 0 1 = cc in absurd (omega arith)
-      by false true q = let z : _≡_ {A = ℕ} 0 1 = cc in absurd (omega arith)
-      by false false q = refl
-
-  cast-back : castsShadow low ≡ false → inkOf plain low .cast ≡ inkOf plain low .back
-  unfolding inkOf
-  cast-back e = by (eqb (low / 8 % 2) 0) (eqb (low / 2 % 2) 0) e
-    where
-      by : (s t : Bool) → cond s false (cond t false true) ≡ false → cond s (8 + low % 8) (cond t plain 8) ≡ cond s (8 + low % 8) (cond t plain plain)
-      by true t q = refl
-      by false true q = refl
-      by false false q = let z : _≡_ {A = ℕ} 0 1 = cc in absurd (omega arith)
+      by : (s t : Bool) → cond s (8 + low % 8) (cond t plain 8) ≡ cond (cond s false (cond t false true)) 8 (cond s (8 + low % 8) (cond t plain plain))
+      by true t = refl
+      by false true = refl
+      by false false = refl
 
   module _ (h : plain < 256) (bits : ℕ) (k : bits < 4096) where
     below : Inks 256 (inkOf plain low)
@@ -327,13 +319,13 @@ module _ (plain : ℕ) (hidden : Bool) (low : ℕ) where
     drawn-shadowed e =
         ap (λ (p : Paint). columnPixels (inFours (shadowed p) bits)) paint-is
         ∙ twelve-columns shadowInk _ bits k (λ i n bit left. lane-shadowed shadowInk (shows hidden (low / 16)) (record { fore = below .fore; cast = omega arith; back = below .back }) n i bit left)
-        ∙ ap (λ (x : ℕ). columns 12 (record { fore = inkOf plain low .fore; cast = x; back = inkOf plain low .back }) bits 0) (cast-shadow e)
+        ∙ ap (λ (x : ℕ). columns 12 (record { fore = inkOf plain low .fore; cast = x; back = inkOf plain low .back }) bits 0) (sym (rw e at cast-is))
 
     drawn-solid : castsShadow low ≡ false → columnPixels (inFours (solid (paintOf plain hidden low)) bits) ≡ columns 12 (inkOf plain low) bits 0
     unfolding shadowInk solid
     drawn-solid e =
         ap (λ (p : Paint). columnPixels (inFours (solid p) bits)) paint-is
-        ∙ twelve-columns (inkOf plain low) _ bits k (λ i n bit left. lane-solid (inkOf plain low) (shows hidden (low / 16)) below n i bit left (cast-back e))
+        ∙ twelve-columns (inkOf plain low) _ bits k (λ i n bit left. lane-solid (inkOf plain low) (shows hidden (low / 16)) below n i bit left (rw e at cast-is))
 
 -- ---- the bits that are shown
 
