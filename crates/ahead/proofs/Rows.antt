@@ -10,6 +10,7 @@ use native.Mathlib.Omega.{arith}
 use borrow.Author.Tests.{eq-eqb, ne-eqb, lt-ltb, le-ltb}
 use lib.Dec.{eqb, ltb}
 use lib.ListN.{getD}
+use Rattle.facts.proofs.Choice.{cond-same}
 use Rattle.facts.proofs.Pairs.{pair-is}
 use Rattle.cells.specs.Reading.{Reading, done, bind, fmap, cells, among}
 use Rattle.cells.proofs.Laws.{cells-bind, cells-fmap, among-append}
@@ -21,10 +22,6 @@ use Rattle.glyph.specs.Cells.{userHigh}
 use Rattle.glyph.proofs.Cells.{ofSlice, glyph-reads}
 use Rattle.line.specs.Line.{Place, codes}
 use Rattle.ahead.specs.Looking.{pairOf, rowReads, userReads, codesTo, Starts}
-
-pub cond-same : {A : Type 0} (e : Bool) (x : A) → cond e x x ≡ x
-cond-same true x = refl
-cond-same false x = refl
 
 -- ---- the cells of a row
 

@@ -1,8 +1,14 @@
 -- A choice between two by a test.
 -- Assumes nothing.
+use mathlib.Core.Path.{_≡_, refl}
 use mathlib.Core.Bool.{Bool, true, false, cond}
 
 -- what holds of both holds of the one that a test picks
 pub either : {A : Type 0} (P : A → Type 0) (t : Bool) (x y : A) → P x → P y → P (cond t x y)
 either P true x y h k = h
 either P false x y h k = k
+
+-- a test that picks one of two that are the same picks that
+pub cond-same : {A : Type 0} (t : Bool) (x : A) → cond t x x ≡ x
+cond-same true x = refl
+cond-same false x = refl

@@ -7,7 +7,7 @@ use mathlib.Core.List.{List, [], _∷_, _++_}
 use native.Mathlib.Nat.{div-div-eq-div-mul}
 use native.Mathlib.Omega.{arith}
 use lib.Arith.{bin-ind}
-use Rattle.facts.proofs.Choice.{either}
+use Rattle.facts.proofs.Choice.{either, cond-same}
 use lib.Bits.{differ, bitAnd, bitXor, xor-step, xor-zero-l, xor-zero-r, xor-lt, and-zero-l, and-zero-r, and-comm, and-mask, and-mod, xor-mod, and-shr, xor-shr}
 use native.Mathlib.Decide.{ℕ-discrete}
 use borrow.Author.Tests.{eq-eqb, ne-eqb, lt-ltb, le-ltb, le-leb, lt-leb}
@@ -142,7 +142,7 @@ module _ (fore cast back : ℕ) (below : Inks 256 (record { fore = fore; cast = 
   chosen-solid : (bit left : ℕ) → bit < 2
       → bitXor back (bitAnd (255 * bit) (bitXor back fore)) ≡ cond (eqb bit 1) fore (cond (eqb left 1) back back)
   chosen-solid zero left h =
-      ap (bitXor back) (and-zero-l (bitXor back fore)) ∙ xor-zero-r back ∙ either (λ (x : ℕ). back ≡ x) (eqb left 1) back back refl refl
+      ap (bitXor back) (and-zero-l (bitXor back fore)) ∙ xor-zero-r back ∙ sym (cond-same (eqb left 1) back)
   chosen-solid (suc zero) left h = ap (bitXor back) changed ∙ xor-again back fore
   chosen-solid (suc (suc n)) left h = absurd (omega arith)
 
@@ -294,7 +294,7 @@ module _ (plain : ℕ) (hidden : Bool) (low : ℕ) where
       by : Dec (low / 8 % 2 ≡ 0)
           → cond (ltb (low % 16) 8) (8 + low % 16) plain ≡ cond (eqb (low / 8 % 2) 0) (8 + low % 8) (cond (eqb (low / 2 % 2) 0) plain plain)
       by (yes e) = let h : low % 16 < 8 = omega arith in rw (lt-ltb _ _ h, eq-eqb _ _ e) (omega arith)
-      by (no e) = let h : 8 ≤ low % 16 = omega arith in rw (le-ltb _ _ h, ne-eqb _ _ e) (either (λ (x : ℕ). plain ≡ x) (eqb (low / 2 % 2) 0) plain plain refl refl)
+      by (no e) = let h : 8 ≤ low % 16 = omega arith in rw (le-ltb _ _ h, ne-eqb _ _ e) (sym (cond-same (eqb (low / 2 % 2) 0) plain))
 
   paint-is : paintOf plain hidden low ≡ painting shadowInk (shows hidden (low / 16))
   unfolding paintOf fores inkOf shadowInk
@@ -350,11 +350,7 @@ module _ (hidden : Bool) (low word : ℕ) (h : low < 256) where
       by false = and-mask word 12
 
   bits-most : shownBits hidden low (word % 4096) < 4096
-  bits-most = by (eqb (low / 128 % 2) 1 && hidden)
-    where
-      by : (t : Bool) → cond t 0 (word % 4096) < 4096
-      by true = omega arith
-      by false = omega arith
+  bits-most = either (λ (n : ℕ). n < 4096) (eqb (low / 128 % 2) 1 && hidden) _ _ (omega arith) (omega arith)
 
 -- ---- a character
 
