@@ -14,8 +14,9 @@ use lib.Dec.{T, eqb}
 use lib.ListN.{getD, set, length-set, replicate, length-replicate, getD-replicate}
 use lib.Pow.{pow-pos, mod-pow-add, shl-exact, shr-shr}
 use lib.Seq.{getD-set-same}
+use mir.Facts.{and-yes}
 use Rattle.facts.proofs.Lists.{set-at}
-use Rattle.facts.proofs.Tests.{or-cases, or-first, or-second, and-left, and-right, iff}
+use Rattle.facts.proofs.Tests.{or-cases, or-first, or-second, iff}
 use Rattle.walk.specs.Walk.{even, next}
 use Rattle.glyph.specs.Glyph.{endsLine}
 use Rattle.glyph.specs.Cells.{userHigh}
@@ -151,12 +152,13 @@ module _ (ram : List ℕ) (c n : ℕ) (marks : List ℕ) where
   any-of (suc k) h t =
       or-cases (isMarked marks k && userReads ram c n (2 * k)) (anyBelow ram c n marks k) t
       (λ y.
+      let both = and-yes (isMarked marks k) (userReads ram c n (2 * k)) y in
       record {
         at = k;
         from = omega arith;
         below = omega arith;
-        marked = iff (isMarked marks k) true (λ _. tt) (λ _. and-left (isMarked marks k) (userReads ram c n (2 * k)) y);
-        reads = and-right (isMarked marks k) (userReads ram c n (2 * k)) y;
+        marked = iff (isMarked marks k) true (λ _. tt) (λ _. both .0);
+        reads = both .1;
       })
       (any-of k (omega arith))
 

@@ -7,9 +7,10 @@ use mathlib.Core.List.{List}
 use native.Mathlib.Decide.{ℕ-discrete, decLt}
 use native.Mathlib.Omega.{arith}
 use borrow.Author.Tests.{eq-eqb, ne-eqb, lt-ltb, le-ltb}
-use lib.Dec.{T, eqb, eqb→eq, ltb→lt, lt→ltb}
+use lib.Dec.{eqb, lt→ltb}
+use mir.Facts.{and-yes, yes-and, eqb-yes, yes-eqb, ltb-yes}
 use Rattle.facts.proofs.Pairs.{pair-is}
-use Rattle.facts.proofs.Tests.{iff, and-left, and-right, and-both, eq-T}
+use Rattle.facts.proofs.Tests.{iff}
 use Rattle.cells.specs.Reading.{cells, among}
 use Rattle.raster.specs.declared.Slice.{Slice}
 use Rattle.raster.specs.Raster.{InCharacter}
@@ -28,25 +29,25 @@ module _ (c : ℕ) (s : Slice) where
   user-reads number h k =
       iff (eqb (c / 2 * 2) (userCell number (s .0))) (ofSlice c s && eqb (128 + number) (userHigh c))
       (λ t.
-      let e : c / 2 * 2 ≡ userCell number (s .0) = eqb→eq (c / 2 * 2) (userCell number (s .0)) t in
+      let e : c / 2 * 2 ≡ userCell number (s .0) = eqb-yes t in
       let d : c / 38 ≡ number = omega arith in
       let m : c % 38 ≡ c - 38 * number = omega arith in
-      and-both (ofSlice c s) (eqb (128 + number) (userHigh c))
-      (and-both (sameSlice s (userSlice c)) (ofUser c) (eq-T (s .0) (c % 38 / 2) (omega arith)) (lt→ltb c 988 (omega arith)))
-      (eq-T (128 + number) (userHigh c) (omega arith)))
+      yes-and (ofSlice c s) (eqb (128 + number) (userHigh c))
+      (yes-and (sameSlice s (userSlice c)) (ofUser c) (yes-eqb {a = s .0} {b = c % 38 / 2} (omega arith)) (lt→ltb c 988 (omega arith)))
+      (yes-eqb {a = 128 + number} {b = userHigh c} (omega arith)))
       (λ t.
-      let o : T (ofSlice c s) = and-left (ofSlice c s) (eqb (128 + number) (userHigh c)) t in
-      let e : s .0 ≡ c % 38 / 2 = eqb→eq (s .0) (c % 38 / 2) (and-left (sameSlice s (userSlice c)) (ofUser c) o) in
-      let q : 128 + number ≡ userHigh c = eqb→eq (128 + number) (userHigh c) (and-right (ofSlice c s) (eqb (128 + number) (userHigh c)) t) in
-      eq-T (c / 2 * 2) (userCell number (s .0)) (omega arith))
+      let o = and-yes (ofSlice c s) (eqb (128 + number) (userHigh c)) t in
+      let e : s .0 ≡ c % 38 / 2 = eqb-yes (and-yes (sameSlice s (userSlice c)) (ofUser c) (o .0) .0) in
+      let q : 128 + number ≡ userHigh c = eqb-yes (o .1) in
+      yes-eqb {a = c / 2 * 2} {b = userCell number (s .0)} (omega arith))
 
   -- where no cell is read, the cell is of no such character
   none-reads : (high : ℕ) → (high ≡ userHigh c → c < 988 → ⊥) → false ≡ ofSlice c s && eqb high (userHigh c)
   none-reads high h =
       iff false (ofSlice c s && eqb high (userHigh c)) (λ t. absurd t)
       (λ t.
-      absurd (h (eqb→eq high (userHigh c) (and-right (ofSlice c s) (eqb high (userHigh c)) t))
-      (ltb→lt c 988 (and-right (sameSlice s (userSlice c)) (ofUser c) (and-left (ofSlice c s) (eqb high (userHigh c)) t)))))
+      let o = and-yes (ofSlice c s) (eqb high (userHigh c)) t in
+      absurd (h (eqb-yes (o .1)) (ltb-yes (and-yes (sameSlice s (userSlice c)) (ofUser c) (o .0) .1))))
 
   pub glyph-reads : (ram : List ℕ) (high : ℕ) → high < 256 → InCharacter s
       → among c (cells ram (glyphOf high s)) ≡ ofSlice c s && eqb high (userHigh c)

@@ -7,7 +7,8 @@ use native.Mathlib.Nat.{div-mul-le-self, lt-div-mul-add, div-eq-of-lt-le, add-mu
 use native.Mathlib.Decide.{ℕ-discrete, decLe}
 use native.Mathlib.Omega.{arith}
 use lib.Dec.{T, eqb, ltb, eqb→eq, ltb→lt, lt→ltb}
-use Rattle.facts.proofs.Tests.{iff, or-cases, or-first, or-second, eq-T}
+use mir.Facts.{yes-eqb}
+use Rattle.facts.proofs.Tests.{iff, or-cases, or-first, or-second}
 use Rattle.raster.specs.declared.ScanLine.{ScanLine}
 use Rattle.raster.specs.declared.Slice.{Slice}
 use Rattle.raster.specs.Raster.{stripLines, beforeFirst, following, linesAfter, InCharacter, unzoomed, sliceNumber, interpolated}
@@ -61,7 +62,7 @@ module _ (ch : ℕ) (zoom : Bool) (s : Slice) where
           → T (sameSlice (interpolated (following j) ch zoom) s || sliceShown (following j) k ch zoom s)
       pick (yes q) later =
           or-first (sameSlice (interpolated (following j) ch zoom) s) (sliceShown (following j) k ch zoom s)
-          (eq-T (sliceNumber ch (unzoomed zoom (j .0 + 1))) (s .0) (subst (λ (x : ℕ). sliceNumber ch (unzoomed zoom (j .0 + x)) ≡ s .0) q e))
+          (yes-eqb (subst (λ (x : ℕ). sliceNumber ch (unzoomed zoom (j .0 + x)) ≡ s .0) q e))
       pick (no q) later =
           let m : j .0 + 1 + (by - 1) ≡ j .0 + by = omega arith in
           or-second (sameSlice (interpolated (following j) ch zoom) s) (sliceShown (following j) k ch zoom s)
