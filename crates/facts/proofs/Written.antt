@@ -36,6 +36,10 @@ written-whole all out i h k e = front-whole all out i (omega arith) (rw (drop-of
 
 -- ---- from the back: digits of a number, the last one first
 
+-- no digit is left
+pub back-whole : (digits : ℕ → ℕ → List ℕ) → ((n : ℕ) → digits 0 n ≡ []) → (all out : List ℕ) (i n : ℕ) → i ≡ 0 → digits i n ++ drop i out ≡ all → out ≡ all
+back-whole digits none all out i n h e = rw (h, none n) at e
+
 module _ (digits : ℕ → ℕ → List ℕ) (base : ℕ) (digit : ℕ → ℕ) (last : (k n : ℕ) → digits (suc k) n ≡ digits k (n / base) ++ digit n ∷ []) where
   -- one digit more
   pub back-more : (all out : List ℕ) (i n v : ℕ) → 0 < i → i ≤ length out → v ≡ digit n → digits i n ++ drop i out ≡ all

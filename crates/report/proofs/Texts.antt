@@ -1,6 +1,6 @@
 -- The laws of the input's parts, of the decimal digits, and of a text that is written part by part.
 -- Assumes nothing.
-use Prim.Native.Nat.{ℕ, zero, suc, _+_, _-_, _/_, _%_, _≤_, _<_, min}
+use Prim.Native.Nat.{ℕ, zero, suc, _+_, _-_, _/_, _≤_, _<_, min}
 use mathlib.Core.Path.{_≡_, refl, sym, ap, ap₂, _∙_}
 use mathlib.Core.List.{List, [], _∷_, _++_, append-assoc}
 use native.Mathlib.Nat.{not-suc-le-zero, le-of-suc-le-suc}
@@ -9,11 +9,10 @@ use native.Mathlib.Omega.{arith}
 use lib.Dec.{ltb}
 use borrow.Author.Tests.{eq-eqb, ne-eqb, lt-ltb, le-ltb}
 use borrow.Rule.Slice.PartMut.{putMid, post-is, mid-len}
-use lib.ListN.{length, take, drop, set, replicate, length-append, length-drop, length-map, drop-of-length-le}
+use lib.ListN.{length, take, drop, replicate, length-append, length-drop, length-map, drop-of-length-le}
 use lib.Seq.{take-all, take-nil, take-at, drop-at, drop-drop, sets-eq}
 use Rattle.facts.proofs.Choice.{either}
 use Rattle.facts.proofs.Parts.{copied}
-use Rattle.facts.proofs.Written.{back-more}
 use Rattle.registers.proofs.Laws.{ld-bound}
 use Rattle.device.specs.declared.Device.{Device}
 use Rattle.device.specs.Device.{DrawOutcome, lineWidth}
@@ -50,16 +49,6 @@ digits-length (suc k) n = simp (length-append, digits-length k (n / 10)) (omega 
 
 pub decimal-length : (n : ℕ) → length (decimal n) ≡ placesOf n
 decimal-length n = digits-length (placesOf n) n
-
--- one digit more, from the last on
-pub digits-more : (all out : List ℕ) (i n v : ℕ) → 0 < i → i ≤ length out → v ≡ 48 + n % 10 → digits i n ++ drop i out ≡ all
-    → digits (i - 1) (n / 10) ++ drop (i - 1) (set out (i - 1) v) ≡ all
-unfolding digits
-digits-more = back-more digits 10 (λ n. 48 + n % 10) (λ k n. refl)
-
-pub digits-whole : (all out : List ℕ) (i n : ℕ) → i ≡ 0 → digits i n ++ drop i out ≡ all → out ≡ all
-unfolding digits
-digits-whole all out i n h e = rw h at e
 
 -- a number has at most five digits
 pub places-few : (n : ℕ) → placesOf n ≤ 5

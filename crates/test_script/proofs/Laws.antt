@@ -1,4 +1,4 @@
--- The laws of calls, digits and digests.
+-- The laws of calls, noise and digests.
 -- Assumes nothing.
 use Prim.Native.Nat.{ℕ, zero, suc, _+_, _-_, _*_, _/_, _%_, _≤_, _<_}
 use mathlib.Core.Path.{_≡_, refl, sym, ap, _∙_}
@@ -8,7 +8,7 @@ use native.Mathlib.Numerals.{sub-one, add-one}
 use native.Mathlib.Omega.{arith}
 use lib.ListN.{length, getD, take, drop, set}
 use lib.Seq.{drop-cons, drop-length}
-use Rattle.facts.proofs.Written.{front-more, front-whole, back-more}
+use Rattle.facts.proofs.Written.{front-more, front-whole}
 use Rattle.refusals.specs.Refusals.{Reply}
 use Rattle.device.specs.declared.Device.{Device}
 use Rattle.device.specs.declared.StartDone.{StartDone}
@@ -16,7 +16,7 @@ use Rattle.device.specs.Device.{EventOutcome, StartOutcome, DrawOutcome, startR
 use Rattle.device.proofs.Laws.{by-start}
 use Rattle.test_script.specs.declared.Called.{Called}
 use Rattle.test_script.specs.declared.Numbers.{Numbers}
-use Rattle.test_script.specs.Script.{calledOf, outcomeOf, drawnOf, nextOf, noiseOf, mixed, digitOf, digitsOf}
+use Rattle.test_script.specs.Script.{calledOf, outcomeOf, drawnOf, nextOf, noiseOf, mixed}
 
 -- ---- a call's two numbers are those of its reply
 
@@ -76,13 +76,3 @@ mixed-more bytes by i now next v all h p q e = rw (p, q, add-one) (rw (drop-cons
 pub mixed-end : (bytes : List ℕ) (by : Numbers) (i now all : ℕ) → i ≡ length bytes → mixed now (drop i bytes) by ≡ all → now ≡ all
 unfolding mixed
 mixed-end bytes by i now all h e = ap (λ (l : List ℕ). mixed now l by) (sym (ap (λ (n : ℕ). drop n bytes) h ∙ drop-length bytes)) ∙ e
-
--- one digit more, from the last on
-pub digits-more : (all out : List ℕ) (i n v : ℕ) → 0 < i → i ≤ length out → v ≡ digitOf (n % 16) → digitsOf i n ++ drop i out ≡ all
-    → digitsOf (i - 1) (n / 16) ++ drop (i - 1) (set out (i - 1) v) ≡ all
-unfolding digitsOf
-digits-more = back-more digitsOf 16 (λ n. digitOf (n % 16)) (λ k n. refl)
-
-pub digits-whole : (all out : List ℕ) (i n : ℕ) → i ≡ 0 → digitsOf i n ++ drop i out ≡ all → out ≡ all
-unfolding digitsOf
-digits-whole all out i n h e = ap (λ (m : ℕ). digitsOf m n ++ drop m out) (sym h) ∙ e

@@ -1,14 +1,14 @@
 -- `copy_digits`: the digits that are left and what is written from i on are all the digits.
 -- Assumes nothing.
-use Prim.Native.Nat.{ℕ, _≤_}
+use Prim.Native.Nat.{ℕ, _+_, _%_, _≤_}
 use mathlib.Core.Path.{_≡_, refl, ap, _∙_}
 use mathlib.Core.List.{List, _++_, append-nil}
 use native.Mathlib.Omega.{arith}
 use denote.Ref.{now}
 use lib.ListN.{length, drop, length-set}
 use lib.Seq.{drop-length}
+use Rattle.facts.proofs.Written.{back-more, back-whole}
 use Rattle.report.specs.Report.{digits}
-use Rattle.report.proofs.Texts.{digits-more, digits-whole}
 use borrow.Author.Needs.{needs}
 use Rattle.report.proofs.copy_digits.Statement.{statement}
 use Rattle.report.proofs.copy_digits.Tie as tie
@@ -30,11 +30,11 @@ loop-again c =
     let l = c .before .loop in (
       search needs,
       length-set (l .out) _ _ ∙ l .inv .1,
-      digits-more _ (l .out) (l .i) (l .rest) _ (omega arith) (omega arith) refl (l .inv .2),
+      back-more digits 10 (λ n. 48 + n % 10) (λ k n. unfold digits in refl) _ (l .out) (l .i) (l .rest) _ (omega arith) (omega arith) refl (l .inv .2),
     )
 
 returns : tie.Need-returns Inv-loop μ-loop
-returns c = digits-whole _ _ (c .before .loop .i) (c .before .loop .rest) (omega arith) (c .before .loop .inv .2)
+returns c = let l = c .before .loop in back-whole digits (λ n. unfold digits in refl) _ _ (l .i) (l .rest) (omega arith) (l .inv .2)
 
 pub copy-digits-spec : {M : Type 1} → statement M
 copy-digits-spec =

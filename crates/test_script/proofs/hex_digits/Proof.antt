@@ -1,14 +1,14 @@
 -- `hex_digits`: the digits that are left and what is written from i on are all the digits.
 -- Assumes nothing.
-use Prim.Native.Nat.{ℕ, _≤_}
-use mathlib.Core.Path.{_≡_, ap, _∙_}
+use Prim.Native.Nat.{ℕ, _%_, _≤_}
+use mathlib.Core.Path.{_≡_, refl, ap, _∙_}
 use mathlib.Core.List.{List, _++_, append-nil}
 use native.Mathlib.Omega.{arith}
 use denote.Ref.{now}
 use lib.ListN.{length, drop, length-set}
 use lib.Seq.{drop-length}
-use Rattle.test_script.specs.Script.{digitsOf}
-use Rattle.test_script.proofs.Laws.{digits-more, digits-whole}
+use Rattle.facts.proofs.Written.{back-more, back-whole}
+use Rattle.test_script.specs.Script.{digitOf, digitsOf}
 use borrow.Author.Needs.{needs}
 use Rattle.test_script.proofs.hex_digits.Statement.{statement}
 use Rattle.test_script.proofs.hex_digits.Tie as tie
@@ -31,11 +31,11 @@ loop-again c =
     let l = c .before .before .loop in (
       search needs,
       length-set (l .out) _ _ ∙ l .inv .1,
-      digits-more _ (l .out) (l .i) (l .rest) _ (omega arith) (omega arith) (c .digit .ensures) (l .inv .2),
+      back-more digitsOf 16 (λ n. digitOf (n % 16)) (λ k n. unfold digitsOf in refl) _ (l .out) (l .i) (l .rest) _ (omega arith) (omega arith) (c .digit .ensures) (l .inv .2),
     )
 
 returns : tie.Need-returns Inv-loop μ-loop
-returns c = let l = c .before .loop in digits-whole _ _ (l .i) (l .rest) (omega arith) (l .inv .2)
+returns c = let l = c .before .loop in back-whole digitsOf (λ n. unfold digitsOf in refl) _ _ (l .i) (l .rest) (omega arith) (l .inv .2)
 
 pub hex-digits-spec : {M : Type 1} → statement M
 hex-digits-spec =
