@@ -6,13 +6,14 @@ use mathlib.Core.Bool.{Bool, true, false, _||_}
 use native.Mathlib.Nat.{div-mul-le-self, lt-div-mul-add, div-eq-of-lt-le, add-mul, one-mul, mul-le-mul}
 use native.Mathlib.Decide.{ℕ-discrete, decLe}
 use native.Mathlib.Omega.{arith}
-use lib.Dec.{T, eqb, ltb, eqb→eq, ltb→lt, lt→ltb}
+use lib.Dec.{T, ltb, eqb→eq, ltb→lt, lt→ltb}
 use mir.Facts.{yes-eqb}
 use Rattle.facts.proofs.Tests.{iff, or-cases, or-first, or-second}
 use Rattle.raster.specs.declared.ScanLine.{ScanLine}
 use Rattle.raster.specs.declared.Slice.{Slice}
 use Rattle.raster.specs.Raster.{stripLines, beforeFirst, following, linesAfter, InCharacter, unzoomed, sliceNumber, interpolated}
 use Rattle.raster.specs.Search.{sameSlice, sliceShown}
+use Rattle.raster.proofs.Laws.{height-pos, following-in}
 
 -- slice u is shown by line n exactly if 36 n + CH lies in the 2 CH numbers from 2 CH u on
 in-range : (ch n u : ℕ) → 0 < ch → sliceNumber ch n ≡ u → (u * (2 * ch) ≤ 36 * n + ch) × (36 * n + ch < u * (2 * ch) + 2 * ch)
@@ -152,9 +153,4 @@ module _ (j : ScanLine) (k ch : ℕ) (zoom : Bool) (some : 1 ≤ k) (in-strip : 
       by false l = omega arith
 
   pub height-some : 0 < ch
-  unfolding linesAfter
-  height-some = by zoom in-strip
-    where
-      by : (z : Bool) → k ≤ stripLines ch z - j .0 → 0 < ch
-      by true l = omega arith
-      by false l = omega arith
+  height-some = height-pos (following j) ch zoom (following-in j ch zoom (omega arith))
