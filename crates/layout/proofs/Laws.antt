@@ -46,10 +46,10 @@ strip-back (Characters address height false true line) = refl
 strip-back (Characters address height true false line) = refl
 strip-back (Characters address height true true line) = refl
 
-pub bus-back : (b : Bus) → busIn (busBytes b) ≡ b
+bus-back : (b : Bus) → busIn (busBytes b) ≡ b
 bus-back b = rw (state-back (b .state), word-back (b .counter))
 
-pub frame-back : (f : Frame) → frameIn (frameBytes f) ≡ f
+frame-back : (f : Frame) → frameIn (frameBytes f) ≡ f
 frame-back f =
     let p = packed (f .walk .strip) in
     rw (word-back (f .left), word-back (f .walk .descriptor), word-back (p .address), word-back (p .line), strip-back (f .walk .strip))

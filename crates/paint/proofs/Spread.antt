@@ -30,7 +30,7 @@ differ-again (suc zero) (suc zero) h k = refl
 differ-again (suc zero) (suc (suc b)) h k = omega arith
 differ-again (suc (suc a)) b h k = omega arith
 
-pub xor-again : (a b : ℕ) → bitXor a (bitXor a b) ≡ b
+xor-again : (a b : ℕ) → bitXor a (bitXor a b) ≡ b
 xor-again = bin-ind (λ (a : ℕ). (b : ℕ) → bitXor a (bitXor a b) ≡ b) base step
   where
     base : (b : ℕ) → bitXor 0 (bitXor 0 b) ≡ b

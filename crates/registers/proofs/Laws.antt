@@ -58,7 +58,7 @@ zip-at (b ∷ bs) [] i = sym (and-zero-r (getD (b ∷ bs) i 0))
 zip-at (b ∷ bs) (k ∷ ks) zero = refl
 zip-at (b ∷ bs) (k ∷ ks) (suc i) = zip-at bs ks i
 
-pub loaded-masked : (bytes : List ℕ) → Masked (loaded bytes)
+loaded-masked : (bytes : List ℕ) → Masked (loaded bytes)
 unfolding Masked loaded
 loaded-masked bytes i = let b : ℕ = getD bytes (i % 16) 0 in rw (zip-at bytes kept (i % 16)) (and-twice b b (getD kept (i % 16) 0) (le-refl b))
 

@@ -13,7 +13,7 @@ use Rattle.registers.specs.declared.Registers.{Registers}
 use Rattle.registers.specs.Registers.{kept, stored, settingsOf}
 
 -- 3FF0 says LD, 3FF1 DD, 3FF2 CH, and 3FF3 OSD, FBK and FL; the others say nothing
-pub said : ℕ → ℕ → ℕ
+said : ℕ → ℕ → ℕ
 said i b = cond (eqb i 0) (b % 64) (cond (eqb i 1) b (cond (eqb i 2) (b % 64) (cond (eqb i 3) (b / 16 % 16) 0)))
 
 -- registers that say the same give the same settings
@@ -29,7 +29,7 @@ settings-said r q h =
     λ i. record { ld = h 0 i; dd = h 1 i; ch = h 2 i; osd = eqb (osd i) 1; fbk = fbk i; fl = fl i }
 
 -- a store to a register that says the same as before keeps the settings
-pub store-keeps : (r : Registers) (i x : ℕ)
+store-keeps : (r : Registers) (i x : ℕ)
     → said (i % 16) (bitAnd x (getD kept (i % 16) 0)) ≡ said (i % 16) (getD (r .bytes) (i % 16) 0) → settingsOf (stored r i x) ≡ settingsOf r
 store-keeps r i x h =
     settings-said (stored r i x) r λ j.
