@@ -24,6 +24,22 @@ pub enum Event {
     Stop,
 }
 
+impl Event {
+    /// The event that a logger's two bytes tell: `kind` 0 start, 1 host
+    /// `byte`, 2 fetch, 3 stop. No other kind tells one.
+    #[must_use]
+    #[inline]
+    pub const fn of_kind(kind: u8, byte: u8) -> Option<Event> {
+        match kind {
+            0 => Some(Event::Start),
+            1 => Some(Event::Byte(byte)),
+            2 => Some(Event::Fetch),
+            3 => Some(Event::Stop),
+            _ => None,
+        }
+    }
+}
+
 /// What the bus expects next.
 #[derive(Clone, Copy, PartialEq, Eq, Debug)]
 pub(crate) enum Bus {

@@ -30,8 +30,8 @@ const DEAF: u8 = 1;
 const SLAVE_ADDRESS: u8 = 2;
 const HIGH_ADDRESS: u8 = 3;
 const LOW_ADDRESS: u8 = 4;
-const WRITING: u8 = 5;
-const READING: u8 = 6;
+pub(crate) const WRITING: u8 = 5;
+pub(crate) const READING: u8 = 6;
 
 const REGISTERS: usize = 4;
 
@@ -143,24 +143,12 @@ pub fn bus_bytes(device: &mut [u8; DEVICE_LEN], ram: &mut [u8], kind: u8, byte: 
     match (kind, device[0]) {
         (1, WRITING) => {
             let counter = take_counter(device);
-            if let Some(cell) = ram.get_mut(usize::from(counter)) {
-                *cell = byte;
-            } else if counter >= FIRST_REGISTER {
-                let number = usize::from(counter) % Registers::COUNT;
-                device[REGISTERS + number] = byte & Registers::KEPT[number];
-            }
+            store(device, ram, counter, byte);
             0
         }
         (2, READING) => {
             let counter = take_counter(device);
-            u32::from(if let Some(&cell) = ram.get(usize::from(counter)) {
-                cell
-            } else if counter >= FIRST_REGISTER {
-                let number = usize::from(counter) % Registers::COUNT;
-                device[REGISTERS + number] & Registers::KEPT[number]
-            } else {
-                0
-            })
+            u32::from(load(device, ram, counter))
         }
         (0, _) => expect(device, SLAVE_ADDRESS, 0),
         (3, _) => expect(device, IDLE, 0),
@@ -191,11 +179,51 @@ fn expect(device: &mut [u8; DEVICE_LEN], state: u8, held: u8) -> u32 {
 /// The counter, which goes up behind it.
 #[inline]
 fn take_counter(device: &mut [u8; DEVICE_LEN]) -> u16 {
-    let counter = u16::from_le_bytes([device[2], device[3]]) & COUNTER_MASK;
-    [device[2], device[3]] = ((counter + 1) & COUNTER_MASK).to_le_bytes();
+    let counter = counter(device);
+    set_counter(device, next(counter));
     counter
 }
 
-const fn refused(refusal: Refusal) -> u32 {
+#[inline]
+pub(crate) fn counter(device: &[u8; DEVICE_LEN]) -> u16 {
+    u16::from_le_bytes([device[2], device[3]]) & COUNTER_MASK
+}
+
+#[inline]
+pub(crate) fn set_counter(device: &mut [u8; DEVICE_LEN], counter: u16) {
+    [device[2], device[3]] = counter.to_le_bytes();
+}
+
+/// The address behind this one.
+#[inline]
+pub(crate) fn next(counter: u16) -> u16 {
+    (counter + 1) & COUNTER_MASK
+}
+
+/// Stores a byte at an address of RAM or of a register; elsewhere it is dropped.
+#[inline]
+pub(crate) fn store(device: &mut [u8; DEVICE_LEN], ram: &mut [u8; RAM_LEN], counter: u16, byte: u8) {
+    if let Some(cell) = ram.get_mut(usize::from(counter)) {
+        *cell = byte;
+    } else if counter >= FIRST_REGISTER {
+        let number = usize::from(counter) % Registers::COUNT;
+        device[REGISTERS + number] = byte & Registers::KEPT[number];
+    }
+}
+
+/// The byte at an address.
+#[inline]
+pub(crate) fn load(device: &[u8; DEVICE_LEN], ram: &[u8; RAM_LEN], counter: u16) -> u8 {
+    if let Some(&cell) = ram.get(usize::from(counter)) {
+        cell
+    } else if counter >= FIRST_REGISTER {
+        let number = usize::from(counter) % Registers::COUNT;
+        device[REGISTERS + number] & Registers::KEPT[number]
+    } else {
+        0
+    }
+}
+
+pub(crate) const fn refused(refusal: Refusal) -> u32 {
     (refusal.number() as u32) << 16 | refusal.bus_byte() as u32
 }

@@ -2,9 +2,11 @@
 //!
 //! A [`Device`] takes the host's two-wire bus events, keeps sixteen registers,
 //! walks a frame strip by strip over 1,024 lent RAM cells and draws each scan
-//! line from those and a lent font. Every call checks the lent buffers first;
-//! a refused call changes nothing (an unknown slave address alone leaves the
-//! device deaf).
+//! line from those and a lent font. A logger's capture of the bus is fed to it
+//! in chunks, with a [`Feed`] between them. Every call checks the lent buffers
+//! first; a refused call changes nothing, but an unknown slave address leaves
+//! the device deaf, and a bad kind in a capture leaves what came before it and
+//! shuts the feed.
 
 #![no_std]
 #![forbid(unsafe_code)]
@@ -14,6 +16,7 @@ mod bus;
 mod bytes;
 mod cell;
 mod draw;
+mod feed;
 mod frame;
 mod registers;
 #[cfg(test)]
@@ -21,6 +24,7 @@ mod tests;
 
 pub use bus::Event;
 pub use bytes::{bus_bytes, DEVICE_LEN};
+pub use feed::{feed_bytes, Fed, Feed, FEED_LEN};
 
 use bus::Bus;
 use frame::Frame;
@@ -60,6 +64,10 @@ pub enum Refusal {
     FrameLines = 6,
     /// The cell asked about is outside RAM.
     NoSuchCell = 8,
+    /// The feed is shut, or a bad kind has shut it.
+    FeedShut = 9,
+    /// The output has no room for all events that the chunk completes.
+    OutputRoom = 10,
 }
 
 impl Refusal {

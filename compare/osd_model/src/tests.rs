@@ -8,7 +8,7 @@ use std::vec::Vec;
 use crate::bus::Event::{self, Byte, Fetch, Start, Stop};
 use crate::frame::{slice_of_step, Steps};
 use crate::registers::Registers;
-use crate::{bus_bytes, Device, Refusal, DEVICE_LEN, FONT_LEN, RAM_LEN};
+use crate::{bus_bytes, feed_bytes, Device, Feed, Refusal, DEVICE_LEN, FEED_LEN, FONT_LEN, RAM_LEN};
 
 fn blank() -> (Device, Vec<u8>, Vec<u8>, Vec<u8>) {
     (Device::fresh(), vec![0; RAM_LEN], vec![0; FONT_LEN], vec![0xEE; 800])
@@ -547,4 +547,266 @@ fn any_bytes_make_a_device() {
     assert_eq!(short, 65_536);
     let unknown = bus_bytes(&mut [0; DEVICE_LEN], &mut [0; RAM_LEN], 4, 0);
     assert_eq!(unknown, 5 * 65_536 + 255);
+}
+
+/// Feed, device and RAM, and the same as records: every chunk goes to both.
+#[derive(Clone, PartialEq, Debug)]
+struct Fed {
+    feed: Feed,
+    device: Device,
+    ram: Vec<u8>,
+    feed_record: [u8; FEED_LEN],
+    record: [u8; DEVICE_LEN],
+}
+
+impl Fed {
+    fn fresh() -> Fed {
+        let (device, ram, ..) = blank();
+        Fed { feed: Feed::fresh(), device, ram, feed_record: [0, 0], record: device.to_bytes() }
+    }
+
+    /// The refusal's number, and the output bytes written; those behind them must stay.
+    fn feed(&mut self, chunk: &[u8], room: usize) -> (u8, Vec<u8>) {
+        let mut out = vec![0xEE; room];
+        let (mut bytes_out, mut bytes_ram) = (out.clone(), self.ram.clone());
+        let answer = self.device.feed(&mut self.feed, &mut self.ram, chunk, &mut out);
+        let refusal = answer.refusal.map_or(0, Refusal::number);
+        let packed = feed_bytes(&mut self.record, &mut self.feed_record, &mut bytes_ram, chunk, &mut bytes_out);
+        assert_eq!(packed, u32::from(refusal) << 16 | answer.written as u32);
+        assert_eq!(Feed::from_bytes(&self.feed_record), self.feed);
+        assert_eq!(Device::from_bytes(&self.record), self.device);
+        assert_eq!((&bytes_ram, &bytes_out), (&self.ram, &out));
+        assert!(out[answer.written..].iter().all(|&byte| byte == 0xEE));
+        out.truncate(answer.written);
+        (refusal, out)
+    }
+
+    /// Feeds each chunk with the room that it needs; answers the joined outputs.
+    fn feed_all<'a>(&mut self, chunks: impl IntoIterator<Item = &'a [u8]>) -> Vec<u8> {
+        let mut joined = vec![];
+        for chunk in chunks {
+            joined.extend(self.feed(chunk, chunk.len() + 1).1);
+        }
+        joined
+    }
+}
+
+fn logged(events: &[Event]) -> Vec<u8> {
+    let kind_and_byte = |&event: &Event| match event {
+        Start => [0, 0xA0],
+        Byte(byte) => [1, byte],
+        Fetch => [2, 0xA2],
+        Stop => [3, 0xA3],
+    };
+    events.iter().flat_map(kind_and_byte).collect()
+}
+
+/// Stores two bytes and reads them back; a byte for a reading device and one
+/// for an unknown slave are not acknowledged.
+fn capture() -> Vec<u8> {
+    let address = [Start, Byte(0xBA), Byte(0x01), Byte(0x23)];
+    let mut events = address.to_vec();
+    events.extend([Byte(0x55), Byte(0x66), Stop]);
+    events.extend(address);
+    events.extend([Start, Byte(0xBB), Fetch, Byte(0x77), Fetch, Start, Byte(0xBC), Stop]);
+    logged(&events)
+}
+
+#[test]
+fn a_capture_fed_whole() {
+    let mut fed = Fed::fresh();
+    let mut expected = [1, 0].repeat(19);
+    expected[26..32].copy_from_slice(&[1, 0x55, 0, 255, 1, 0x66]);
+    expected[34..36].copy_from_slice(&[0, 255]);
+    assert_eq!(fed.feed(&capture(), 38), (0, expected));
+    assert_eq!(fed.ram[0x123..0x125], [0x55, 0x66]);
+    assert_eq!(fed.feed, Feed::Open);
+}
+
+#[test]
+fn a_capture_cut_anywhere() {
+    let good = capture();
+    let mut captures = vec![good.clone(), good[..27].to_vec(), vec![]];
+    for bad in [0, 10, good.len() - 2] {
+        let mut capture = good.clone();
+        capture[bad] = 4;
+        captures.push(capture);
+    }
+    for capture in captures {
+        let mut whole = Fed::fresh();
+        let out = whole.feed_all([&capture[..]]);
+        let same = |what: &str, chunks: Vec<&[u8]>| {
+            let mut cut = Fed::fresh();
+            assert_eq!(cut.feed_all(chunks), out, "{what}");
+            assert_eq!(cut, whole, "{what}");
+        };
+        for place in 0..=capture.len() {
+            same(&std::format!("cut at {place}"), vec![&capture[..place], &[], &capture[place..]]);
+        }
+        same("single bytes", capture.chunks(1).collect());
+        same("threes", capture.chunks(3).collect());
+    }
+}
+
+#[test]
+fn refusals_of_a_feed_and_their_order() {
+    let mut fed = Fed::fresh();
+    fed.feed(&[0], 0);
+    let bad = [9, 9, 9]; // the held start's byte, then a bad kind
+    for ram_len in [0, 1023, 1025] {
+        let mut other = Fed { ram: vec![7; ram_len], ..fed.clone() };
+        for (chunk, room) in [(&bad[..], 4), (&bad, 3), (&[], 0)] {
+            assert_eq!(other.feed(chunk, room), (1, vec![]));
+        }
+        assert_eq!(other, Fed { ram: vec![7; ram_len], ..fed });
+        other.feed = Feed::Shut;
+        other.feed_record = [2, 0];
+        assert_eq!(other.feed(&bad, 3), (1, vec![]));
+    }
+    let before = fed.clone();
+    assert_eq!(fed.feed(&bad, 3), (10, vec![]));
+    assert_eq!(fed, before);
+    assert_eq!(fed.feed(&bad, 4), (9, vec![1, 0]));
+    let shut = fed.clone();
+    for room in [0, 3, 4] {
+        assert_eq!(fed.feed(&bad, room), (9, vec![]));
+    }
+    assert_eq!(fed, shut);
+}
+
+#[test]
+fn room_of_the_output() {
+    let transfer = logged(&[Start, Byte(0xBA), Byte(0), Byte(0), Byte(9)]);
+    let mut fed = Fed::fresh();
+    for room in [0, 2, 9] {
+        assert_eq!(fed.feed(&transfer, room), (10, vec![]));
+        assert_eq!(fed, Fed::fresh());
+    }
+    assert_eq!(fed.feed(&transfer[..9], 7), (10, vec![]));
+    // The half that is held costs no room until it is completed.
+    assert_eq!(fed.feed(&transfer[..9], 8), (0, [1, 0].repeat(4)));
+    assert_eq!(fed.feed, Feed::Half(1));
+    assert_eq!(fed.feed(&[], 0), (0, vec![]));
+    for room in [0, 1] {
+        assert_eq!(fed.feed(&transfer[9..], room), (10, vec![]));
+    }
+    assert_eq!(fed.feed, Feed::Half(1));
+    // A longer output is fine, and its later bytes stay.
+    assert_eq!(fed.feed(&transfer[9..], 50), (0, vec![1, 0]));
+    assert_eq!(fed.ram[0], 9);
+    // Kinds are not looked at before there is room: a bad one too needs it.
+    assert_eq!(fed.feed(&[7, 7], 1), (10, vec![]));
+    assert_eq!(fed.feed(&[7, 7], 2), (9, vec![]));
+}
+
+#[test]
+fn a_bad_kind_shuts_the_feed() {
+    // First, and behind it nothing is taken, whatever it is.
+    let mut fed = Fed::fresh();
+    assert_eq!(fed.feed(&[4, 0, 0, 0, 1, 0xBA, 3], 6), (9, vec![]));
+    assert_eq!((fed.feed, fed.feed_record, fed.device), (Feed::Shut, [2, 0], Device::fresh()));
+    // Last: the events before it stand.
+    let mut fed = Fed::fresh();
+    assert_eq!(fed.feed(&[0, 0, 1, 0xBA, 255, 0], 6), (9, vec![1, 0, 1, 0]));
+    assert_eq!(fed.device.to_bytes()[0], 3);
+    // Across a cut: what is held is no event yet.
+    let mut fed = Fed::fresh();
+    assert_eq!(fed.feed(&[0, 0, 4], 2), (0, vec![1, 0]));
+    assert_eq!((fed.feed, fed.feed_record), (Feed::Half(4), [1, 4]));
+    assert_eq!(fed.feed(&[], 0), (0, vec![]));
+    assert_eq!(fed.feed(&[1], 1), (10, vec![]));
+    assert_eq!(fed.feed(&[1, 3, 0], 4), (9, vec![]));
+    assert_eq!((fed.feed, fed.feed_record), (Feed::Shut, [2, 0]));
+    // Shut until it is made anew; an empty chunk is refused too.
+    for chunk in [&[][..], &[3], &[3, 0]] {
+        assert_eq!(fed.feed(chunk, 2), (9, vec![]));
+    }
+    (fed.feed, fed.feed_record) = (Feed::fresh(), [0, 0]);
+    assert_eq!(fed.feed(&[1, 0xBB], 2), (0, vec![1, 0]));
+}
+
+#[test]
+fn an_event_that_is_not_acknowledged() {
+    let mut fed = Fed::fresh();
+    let events = [Byte(0xBA), Fetch, Start, Byte(0x42), Byte(0xBA), Fetch, Stop];
+    let expected = vec![0, 255, 0, 255, 1, 0, 0, 255, 0, 255, 0, 255, 1, 0];
+    assert_eq!(fed.feed(&logged(&events), 14), (0, expected));
+    assert_eq!(fed.feed, Feed::Open);
+}
+
+#[test]
+fn any_bytes_make_a_feed() {
+    let mut ram = vec![0; RAM_LEN];
+    for state in 0..=255 {
+        for second in 0..=255 {
+            let bytes = [state, second];
+            let feed = Feed::from_bytes(&bytes);
+            let expected = match state {
+                0 => Feed::Open,
+                1 => Feed::Half(second),
+                _ => Feed::Shut,
+            };
+            assert_eq!(feed, expected);
+            assert_eq!(Feed::from_bytes(&feed.to_bytes()), feed);
+            // A refused call leaves the record as it was, an accepted one in its normal form.
+            let mut left = bytes;
+            let answer = feed_bytes(&mut [0; DEVICE_LEN], &mut left, &mut ram, &[], &mut []);
+            match feed {
+                Feed::Shut => assert_eq!((answer, left), (9 << 16, bytes)),
+                _ => assert_eq!((answer, left), (0, feed.to_bytes())),
+            }
+            let mut left = bytes;
+            let answer = feed_bytes(&mut [0; DEVICE_LEN], &mut left, &mut ram, &[0, 0, 0], &mut [0; 3]);
+            match feed {
+                Feed::Open => assert_eq!((answer, left), (2, [1, 0])),
+                Feed::Half(_) => assert_eq!((answer, left), (10 << 16, bytes)),
+                Feed::Shut => assert_eq!((answer, left), (9 << 16, bytes)),
+            }
+        }
+    }
+}
+
+#[test]
+fn same_as_bus_events() {
+    let mut noise = Noise(0x0123_4567_89AB_CDEF);
+    for round in 0..20_000 {
+        let mut record = [0; DEVICE_LEN];
+        record.fill_with(|| noise.byte());
+        record[0] %= 9;
+        if round % 3 == 0 {
+            (record[2], record[3]) = (0xF0 | record[2], 0xFF);
+        }
+        // Mostly runs of one kind, as transfers have them.
+        let mut kind = 0;
+        let mut capture = vec![];
+        for _ in 0..noise.below(40) {
+            if noise.below(4) == 0 {
+                kind = noise.below(if round % 4 == 0 { 6 } else { 4 }) as u8;
+            }
+            let byte = if noise.below(3) == 0 { 0xBA | noise.byte() & 1 } else { noise.byte() };
+            capture.extend([kind, byte]);
+        }
+        capture.truncate(capture.len() - capture.len().min(round % 2));
+        let (feed_record, chunk) = match &capture[..] {
+            [kind, rest @ ..] if noise.below(2) == 0 => ([1, *kind], rest),
+            all => ([0, noise.byte()], all),
+        };
+        let device = Device::from_bytes(&record);
+        let mut fed = Fed { feed: Feed::from_bytes(&feed_record), device, ram: noise.ram(), feed_record, record };
+        let mut ram = fed.ram.clone();
+
+        let events = capture.chunks_exact(2);
+        let (mut left, mut refusal) = (events.remainder().first().map_or([0, 0], |&kind| [1, kind]), 0);
+        let mut out = vec![];
+        for event in events {
+            if event[0] > 3 {
+                (left, refusal) = ([2, 0], 9);
+                break;
+            }
+            let answer = bus_bytes(&mut record, &mut ram, event[0], event[1]);
+            out.extend([u8::from(answer < 65_536), answer as u8]);
+        }
+        assert_eq!(fed.feed(chunk, capture.len() + 5), (refusal, out));
+        assert_eq!((fed.feed_record, fed.record, fed.ram), (left, record, ram));
+    }
 }
