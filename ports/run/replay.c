@@ -7,15 +7,16 @@
 #include "print.h"
 
 #define GUARD 24
-#define SLOTS 7
+#define SLOTS 11
 #define ROOM 32768
-#define FUNCTIONS 7
-#define ARGUMENTS 4
+#define FUNCTIONS 10
+#define ARGUMENTS 5
 
 /* The functions and their arguments, as the trace must have them. */
 static const char *const functions[FUNCTIONS][2] = {
     {"osd_device_len", ""}, {"osd_fresh", "w"},     {"osd_reset", "w"}, {"osd_bus", "wwbb"},
     {"osd_frame_start", "wn"}, {"osd_draw", "wrrw"}, {"osd_cell", "rrn"},
+    {"osd_feed_len", ""}, {"osd_feed_fresh", "w"}, {"osd_feed", "wwwrw"},
 };
 
 /* A slot: bytes between guards, and what they must be. */
@@ -150,7 +151,10 @@ static uint32_t make(const struct call *call)
     case 3: return osd_bus(at[0], len[0], at[1], len[1], (uint8_t)call->numbers[2], (uint8_t)call->numbers[3]);
     case 4: return osd_frame_start(at[0], len[0], call->numbers[1]);
     case 5: return osd_draw(at[0], len[0], at[1], len[1], at[2], len[2], at[3], len[3]);
-    default: return osd_cell(at[0], len[0], at[1], len[1], call->numbers[2]);
+    case 6: return osd_cell(at[0], len[0], at[1], len[1], call->numbers[2]);
+    case 7: return osd_feed_len();
+    case 8: return osd_feed_fresh(at[0], len[0]);
+    default: return osd_feed(at[0], len[0], at[1], len[1], at[2], len[2], at[3], len[3], at[4], len[4]);
     }
 }
 

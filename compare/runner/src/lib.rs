@@ -8,3 +8,4 @@ pub mod random;
 pub mod recorder;
 pub mod sample;
 pub mod sessions;
+pub mod traffic;

@@ -3,6 +3,11 @@
 use crate::lent::Lent;
 use crate::linked;
 
+/// The interface's own refusal.
+pub const NOT_TAKEN: u32 = 255 << 16;
+/// The most bytes of a chunk.
+pub const CHUNK_MAX: usize = 65_534;
+
 pub trait Library {
     fn fresh(&mut self, device: &mut Lent) -> u32;
     fn reset(&mut self, device: &mut Lent) -> u32;
@@ -10,6 +15,8 @@ pub trait Library {
     fn frame_start(&mut self, device: &mut Lent, lines: u32) -> u32;
     fn draw(&mut self, device: &mut Lent, ram: &Lent, font: &Lent, line: &mut Lent) -> u32;
     fn cell(&mut self, device: &Lent, ram: &Lent, cell: u32) -> u32;
+    fn feed_fresh(&mut self, feed: &mut Lent) -> u32;
+    fn feed(&mut self, device: &mut Lent, feed: &mut Lent, ram: &mut Lent, chunk: &Lent, out: &mut Lent) -> u32;
 
     /// The calls that follow belong to this seed's session; with made-up records nobody knows what they answer.
     fn session(&mut self, seed: u64, made_up: bool);
@@ -41,6 +48,14 @@ impl Library for Linked {
 
     fn cell(&mut self, device: &Lent, ram: &Lent, cell: u32) -> u32 {
         linked::cell(device.get(), ram.get(), cell)
+    }
+
+    fn feed_fresh(&mut self, feed: &mut Lent) -> u32 {
+        linked::feed_fresh(feed.get_mut())
+    }
+
+    fn feed(&mut self, device: &mut Lent, feed: &mut Lent, ram: &mut Lent, chunk: &Lent, out: &mut Lent) -> u32 {
+        linked::feed(device.get_mut(), feed.get_mut(), ram.get_mut(), chunk.get(), out.get_mut())
     }
 
     fn session(&mut self, _seed: u64, _made_up: bool) {}

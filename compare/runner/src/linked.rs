@@ -18,6 +18,20 @@ mod c {
             line_len: usize,
         ) -> u32;
         pub fn osd_cell(device: *const u8, device_len: usize, ram: *const u8, ram_len: usize, cell: u32) -> u32;
+        pub fn osd_feed_len() -> u32;
+        pub fn osd_feed_fresh(feed: *mut u8, feed_len: usize) -> u32;
+        pub fn osd_feed(
+            device: *mut u8,
+            device_len: usize,
+            feed: *mut u8,
+            feed_len: usize,
+            ram: *mut u8,
+            ram_len: usize,
+            chunk: *const u8,
+            chunk_len: usize,
+            out: *mut u8,
+            out_len: usize,
+        ) -> u32;
     }
 }
 
@@ -76,4 +90,30 @@ pub fn draw(device: &mut [u8], ram: &[u8], font: &[u8], line: &mut [u8]) -> u32 
 #[inline]
 pub fn cell(device: &[u8], ram: &[u8], cell: u32) -> u32 {
     unsafe { c::osd_cell(pointer(device), device.len(), pointer(ram), ram.len(), cell) }
+}
+
+pub fn feed_len() -> u32 {
+    unsafe { c::osd_feed_len() }
+}
+
+pub fn feed_fresh(feed: &mut [u8]) -> u32 {
+    unsafe { c::osd_feed_fresh(pointer_mut(feed), feed.len()) }
+}
+
+#[inline]
+pub fn feed(device: &mut [u8], feed: &mut [u8], ram: &mut [u8], chunk: &[u8], out: &mut [u8]) -> u32 {
+    unsafe {
+        c::osd_feed(
+            pointer_mut(device),
+            device.len(),
+            pointer_mut(feed),
+            feed.len(),
+            pointer_mut(ram),
+            ram.len(),
+            pointer(chunk),
+            chunk.len(),
+            pointer_mut(out),
+            out.len(),
+        )
+    }
 }

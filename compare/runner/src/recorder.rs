@@ -24,14 +24,14 @@
 //! Changed bytes are a list of: slot, first place (2 bytes), number (2 bytes), the bytes; its end is a slot of 255.
 
 use crate::lent::Lent as Buffer;
-use crate::library::Library;
+use crate::library::{Library, CHUNK_MAX, NOT_TAKEN};
 use crate::random::Random;
 use crate::sessions::packed;
-use osd_model::{bus_bytes, Device, DEVICE_LEN};
+use osd_model::{bus_bytes, feed_bytes, Device, Feed, DEVICE_LEN, FEED_LEN};
 use std::io::{Result, Write};
 use Argument::{Byte, Lent, Number};
 
-const FUNCTIONS: [(&str, &str); 7] = [
+const FUNCTIONS: [(&str, &str); 10] = [
     ("osd_device_len", ""),
     ("osd_fresh", "w"),
     ("osd_reset", "w"),
@@ -39,10 +39,11 @@ const FUNCTIONS: [(&str, &str); 7] = [
     ("osd_frame_start", "wn"),
     ("osd_draw", "wrrw"),
     ("osd_cell", "rrn"),
+    ("osd_feed_len", ""),
+    ("osd_feed_fresh", "w"),
+    ("osd_feed", "wwwrw"),
 ];
 
-/// The interface's own refusal.
-const NOT_TAKEN: u32 = 255 << 16;
 const LAST_KIND: u8 = 3;
 
 /// What a buffer is for. Each use has its slots, so that a second buffer does not displace the first.
@@ -52,9 +53,12 @@ enum Use {
     Ram,
     Font,
     Line,
+    Feed,
+    Chunk,
+    Output,
 }
 
-const SLOTS: [usize; 7] = [64, 64, 2048, 2048, 9216, 9216, 2048];
+const SLOTS: [usize; 11] = [64, 64, 2048, 2048, 9216, 9216, 2048, 32, 32, 256, 256];
 
 impl Use {
     fn slots(self) -> std::ops::Range<usize> {
@@ -63,6 +67,9 @@ impl Use {
             Use::Ram => 2..4,
             Use::Font => 4..6,
             Use::Line => 6..7,
+            Use::Feed => 7..9,
+            Use::Chunk => 9..10,
+            Use::Output => 10..11,
         }
     }
 }
@@ -104,6 +111,8 @@ impl<W: Write> Recorder<W> {
         let mut recorder = Recorder { to, slots: Default::default(), uses: 0, calls: 0, made_up: false };
         recorder.call("osd_device_len", []);
         recorder.answered(DEVICE_LEN as u32, []);
+        recorder.call("osd_feed_len", []);
+        recorder.answered(FEED_LEN as u32, []);
         Ok(recorder)
     }
 
@@ -261,6 +270,36 @@ impl<W: Write> Library for Recorder<W> {
             Err(_) => NOT_TAKEN,
         };
         self.answered(answer, [])
+    }
+
+    fn feed_fresh(&mut self, feed: &mut Buffer) -> u32 {
+        let slot = self.lend(feed, Use::Feed);
+        self.call("osd_feed_fresh", [Lent(slot)]);
+        let answer = match <&mut [u8; FEED_LEN]>::try_from(feed.get_mut()) {
+            Ok(record) => {
+                *record = Feed::fresh().to_bytes();
+                0
+            }
+            Err(_) => NOT_TAKEN,
+        };
+        self.answered(answer, [(slot, feed)])
+    }
+
+    fn feed(&mut self, device: &mut Buffer, feed: &mut Buffer, ram: &mut Buffer, chunk: &Buffer, out: &mut Buffer) -> u32 {
+        let (slot, feed_slot, ram_slot) = (self.lend(device, Use::Device), self.lend(feed, Use::Feed), self.lend(ram, Use::Ram));
+        let (chunk_slot, out_slot) = (self.lend(chunk, Use::Chunk), self.lend(out, Use::Output));
+        self.call("osd_feed", [slot, feed_slot, ram_slot, chunk_slot, out_slot].map(Lent));
+        if self.made_up {
+            return 0;
+        }
+        let records = (<&mut [u8; DEVICE_LEN]>::try_from(device.get_mut()), <&mut [u8; FEED_LEN]>::try_from(feed.get_mut()));
+        let answer = match records {
+            (Ok(record), Ok(feed)) if chunk.get().len() <= CHUNK_MAX => {
+                feed_bytes(record, feed, ram.get_mut(), chunk.get(), out.get_mut())
+            }
+            _ => NOT_TAKEN,
+        };
+        self.answered(answer, [(slot, device), (feed_slot, feed), (ram_slot, ram), (out_slot, out)])
     }
 
     fn session(&mut self, seed: u64, made_up: bool) {

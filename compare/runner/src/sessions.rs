@@ -3,13 +3,14 @@
 //! Every answer, every byte of every buffer (the device's record too) and every byte around the buffers is compared after every call.
 
 use crate::lent::Lent;
-use crate::library::Library;
+use crate::library::{Library, NOT_TAKEN};
 use crate::pages::{random_page, FONT, RAM};
 use crate::random::Random;
-use osd_model::{Device, Event, Refusal};
+use crate::traffic;
+use osd_model::{Device, Event, Fed, Feed, Refusal, FEED_LEN};
 use std::process::exit;
 
-const CALLS: u32 = 400;
+const CALLS: u32 = 480;
 pub const DEFAULT_SEED: u64 = 9425;
 pub const DEFAULT_SESSIONS: u64 = 600;
 
@@ -21,6 +22,11 @@ pub fn packed(answer: Result<u32, Refusal>) -> u32 {
     }
 }
 
+/// The same of a chunk.
+fn packed_fed(fed: Fed) -> u32 {
+    fed.refusal.map_or(0, |refusal| u32::from(refusal.number()) << 16) | fed.written as u32
+}
+
 struct Session<'a, L> {
     library: &'a mut L,
     random: Random,
@@ -28,7 +34,11 @@ struct Session<'a, L> {
     call: u32,
     model: Device,
     model_ram: Vec<u8>,
+    model_feed: [u8; FEED_LEN],
+    /// Bytes of a capture that were not fed yet.
+    arrived: Vec<u8>,
     device: Lent,
+    feed: Lent,
     ram: Lent,
     font: Lent,
     counts: [u64; 256],
@@ -44,6 +54,8 @@ impl<L: Library> Session<'_, L> {
         }
         let mut device = Lent::new(&mut random, 32);
         assert_eq!(library.fresh(&mut device), 0);
+        let mut feed = Lent::new(&mut random, FEED_LEN);
+        assert_eq!(library.feed_fresh(&mut feed), 0);
         Session {
             library,
             ram: Lent::copy_of(&mut random, &page),
@@ -53,7 +65,10 @@ impl<L: Library> Session<'_, L> {
             call: 0,
             model: Device::fresh(),
             model_ram: page,
+            model_feed: Feed::fresh().to_bytes(),
+            arrived: vec![],
             device,
+            feed,
             counts: [0; 256],
         }
     }
@@ -69,52 +84,29 @@ impl<L: Library> Session<'_, L> {
         }
     }
 
-    /// After every call: the answer, the record, the RAM and what lies around them.
+    /// After every call: the answer, the records, the RAM and what lies around them.
     fn check(&mut self, what: &str, ours: u32, model: u32) {
         self.same(what, ours, model);
         self.same("record", self.device.get(), &self.model.to_bytes()[..]);
+        self.same("feed record", self.feed.get(), &self.model_feed[..]);
         self.same("RAM", self.ram.get(), &self.model_ram[..]);
-        let held = self.device.guards_hold() && self.ram.guards_hold() && self.font.guards_hold();
+        let held = [&self.device, &self.feed, &self.ram, &self.font].iter().all(|lent| lent.guards_hold());
         self.same("bytes around the buffers", held, true);
         self.counts[(ours >> 16) as usize] += 1;
         self.call += 1;
     }
 
     fn event(&mut self, kind: u8, byte: u8) {
-        let event = match kind {
-            0 => Event::Start,
-            1 => Event::Byte(byte),
-            2 => Event::Fetch,
-            _ => Event::Stop,
-        };
+        let event = Event::of_kind(kind, byte).expect("a kind");
         let model = packed(self.model.bus(&mut self.model_ram, event).map(u32::from));
         let ours = self.library.bus(&mut self.device, &mut self.ram, kind, byte);
         self.check("bus event", ours, model);
     }
 
-    /// A store or a read of some bytes, as a host makes it.
     fn transfer(&mut self) {
-        let address = match self.random.below(4) {
-            0 => 0x3FF0 + self.random.below(16),
-            1 => self.random.below(0x4000),
-            _ => self.random.below(RAM as u64 + 4),
-        };
-        self.event(0, 0);
-        self.event(1, 0xBA);
-        // The two highest bits of an address do not count.
-        let spare = self.random.byte();
-        self.event(1, (address >> 8) as u8 | spare & 0xC0);
-        self.event(1, address as u8);
-        if self.random.one_in(2) {
-            self.event(0, spare);
-            self.event(1, 0xBB);
-        }
-        for _ in 0..self.random.below(6) {
-            let kind = 1 + u8::from(self.random.one_in(3));
-            let byte = self.random.byte();
+        for (kind, byte) in traffic::transfer(&mut self.random) {
             self.event(kind, byte);
         }
-        self.event(3, spare);
     }
 
     /// Registers from 3FF0 on, over the bus.
@@ -139,8 +131,7 @@ impl<L: Library> Session<'_, L> {
     }
 
     fn any_event(&mut self) {
-        let kind = self.random.below(4) as u8;
-        let byte = if self.random.one_in(2) { self.random.pick(&[0xBA, 0xBB]) } else { self.random.byte() };
+        let (kind, byte) = traffic::any_event(&mut self.random);
         self.event(kind, byte);
     }
 
@@ -200,9 +191,78 @@ impl<L: Library> Session<'_, L> {
         self.check("cell question", ours, model);
     }
 
+    /// A chunk of what has arrived of a capture, mostly with the room that it needs.
+    fn feed(&mut self) {
+        let before = Feed::from_bytes(&self.model_feed);
+        let held = usize::from(matches!(before, Feed::Half(_)));
+        if self.arrived.is_empty() {
+            self.arrived = (0..held).map(|_| self.random.byte()).collect();
+            self.arrived.extend(traffic::capture(&mut self.random));
+        }
+        let most = self.random.pick(&[0, 1, 2, 3, 8, 24, 64]);
+        let len = self.arrived.len().min(self.random.below(most + 1) as usize);
+        let chunk = Lent::copy_of(&mut self.random, &self.arrived[..len]);
+        let chunk_before = chunk.get().to_vec();
+        let room = self.room((held + len) / 2 * 2);
+        let mut out = Lent::new(&mut self.random, room);
+        let mut model_out = out.get().to_vec();
+        let mut other_ram = self.random.one_in(16).then(|| self.ram_of_another_length());
+        let other_before = other_ram.as_ref().map(|ram| ram.get().to_vec());
+
+        let mut feed = before;
+        let mut no_ram = vec![];
+        let model_ram = if other_ram.is_some() { &mut no_ram } else { &mut self.model_ram };
+        let model = self.model.feed(&mut feed, model_ram, chunk.get(), &mut model_out);
+        if model.refusal.is_none() || feed != before {
+            self.model_feed = feed.to_bytes();
+            self.arrived.drain(..len);
+        }
+        let ram = other_ram.as_mut().unwrap_or(&mut self.ram);
+        let ours = self.library.feed(&mut self.device, &mut self.feed, ram, &chunk, &mut out);
+        self.same("output", out.get(), &model_out[..]);
+        self.same("chunk", chunk.get(), &chunk_before[..]);
+        self.same("refused: RAM", other_ram.as_ref().map(|ram| ram.get()), other_before.as_deref());
+        let held = [&chunk, &out].into_iter().chain(&other_ram).all(|lent| lent.guards_hold());
+        self.same("bytes around chunk, output or RAM", held, true);
+        self.check("chunk", ours, packed_fed(model));
+    }
+
+    /// Room for the output: enough, too little, or more.
+    fn room(&mut self, needed: usize) -> usize {
+        match self.random.below(10) {
+            0 => needed.saturating_sub(1),
+            1 => self.random.below(needed as u64 + 1) as usize,
+            2 => needed + 1,
+            3 => needed + self.random.below(40) as usize,
+            _ => needed,
+        }
+    }
+
+    fn ram_of_another_length(&mut self) -> Lent {
+        let len = self.random.pick(&[0, 1, RAM - 1, RAM + 1, 2 * RAM]);
+        Lent::new(&mut self.random, len)
+    }
+
+    /// A feed made anew, in mid-capture too; or any two bytes in its place.
+    fn other_feed(&mut self) {
+        if self.random.one_in(3) {
+            let (state, byte) = (self.random.byte(), self.random.byte());
+            let bytes = [self.random.pick(&[0, 0, 1, 1, 2, 3, state]), self.random.pick(&[0, 1, 2, 3, 4, byte])];
+            self.feed = Lent::copy_of(&mut self.random, &bytes);
+            self.model_feed = bytes;
+        } else {
+            let ours = self.library.feed_fresh(&mut self.feed);
+            self.model_feed = Feed::fresh().to_bytes();
+            self.check("feed made anew", ours, 0);
+        }
+        // The rest of the capture stays now and then: its bytes may be taken for the wrong halves of events.
+        if !self.random.one_in(4) {
+            self.arrived.clear();
+        }
+    }
+
     /// Calls that the interface itself refuses, or for the RAM's length: nothing changes.
     fn refused(&mut self) {
-        const NOT_TAKEN: u32 = 255 << 16;
         let len = [0, 1, 31, 33, 64][self.random.below(5) as usize];
         let mut other = Lent::new(&mut self.random, len);
         let before = other.get().to_vec();
@@ -213,6 +273,13 @@ impl<L: Library> Session<'_, L> {
         let ram_before = ram.get().to_vec();
         let mut line = Lent::new(&mut self.random, 768);
         let line_before = line.get().to_vec();
+        let feed_len = self.random.pick(&[0, 1, 3, 4, 32]);
+        let mut other_feed = Lent::new(&mut self.random, feed_len);
+        let feed_before = other_feed.get().to_vec();
+        let (chunk_len, room) = (self.random.below(24) as usize, self.random.below(24) as usize);
+        let chunk = Lent::new(&mut self.random, chunk_len);
+        let mut out = Lent::new(&mut self.random, room);
+        let out_before = out.get().to_vec();
         let number = self.random.next() as u32;
         for answer in [
             self.library.fresh(&mut other),
@@ -221,6 +288,10 @@ impl<L: Library> Session<'_, L> {
             self.library.frame_start(&mut other, number),
             self.library.draw(&mut other, &ram, &self.font, &mut line),
             self.library.cell(&other, &ram, number),
+            self.library.feed_fresh(&mut other_feed),
+            self.library.feed(&mut other, &mut self.feed, &mut ram, &chunk, &mut out),
+            self.library.feed(&mut self.device, &mut other_feed, &mut ram, &chunk, &mut out),
+            self.library.feed(&mut other, &mut other_feed, &mut ram, &chunk, &mut out),
         ] {
             self.check("record of another length", answer, NOT_TAKEN);
         }
@@ -237,7 +308,9 @@ impl<L: Library> Session<'_, L> {
         self.same("refused: record", other.get(), &before[..]);
         self.same("refused: RAM", ram.get(), &ram_before[..]);
         self.same("refused: line", line.get(), &line_before[..]);
-        let held = other.guards_hold() && ram.guards_hold() && line.guards_hold();
+        self.same("refused: feed record", other_feed.get(), &feed_before[..]);
+        self.same("refused: output", out.get(), &out_before[..]);
+        let held = [&other, &ram, &line, &other_feed, &chunk, &out].iter().all(|lent| lent.guards_hold());
         self.same("bytes around the buffers", held, true);
     }
 
@@ -251,7 +324,7 @@ impl<L: Library> Session<'_, L> {
         self.display();
         self.frame_start();
         while self.call < CALLS {
-            match self.random.below(20) {
+            match self.random.below(25) {
                 0..=3 => self.transfer(),
                 4 if self.random.one_in(4) => self.display(),
                 4 => self.transfer(),
@@ -260,6 +333,9 @@ impl<L: Library> Session<'_, L> {
                 7..=15 => self.draw(),
                 16..=17 => self.question(),
                 18 => self.refused(),
+                20..=23 => self.feed(),
+                24 if self.model_feed[0] > 1 || self.random.one_in(3) => self.other_feed(),
+                24 => self.feed(),
                 _ if self.random.one_in(10) => self.reset(),
                 _ => self.any_event(),
             }
@@ -285,6 +361,10 @@ pub fn corrupted<L: Library>(library: &mut L, seed: u64) -> u64 {
         let font = Lent::new(&mut random, font_len);
         let mut line = Lent::new(&mut random, line_len);
         let font_before = font.get().to_vec();
+        let capture = traffic::capture(&mut random);
+        let chunk = Lent::copy_of(&mut random, &capture);
+        let room = random.below(100) as usize;
+        let mut out = Lent::new(&mut random, room);
         for _ in 0..6 {
             let kind = random.byte() % 5;
             let byte = random.byte();
@@ -292,14 +372,21 @@ pub fn corrupted<L: Library>(library: &mut L, seed: u64) -> u64 {
             library.cell(&device, &ram, number);
             let ram_before = ram.get().to_vec();
             library.draw(&mut device, &ram, &font, &mut line);
+            calls += 3;
             if random.one_in(6) {
                 library.frame_start(&mut device, number);
+                calls += 1;
             }
             let same_ram = ram.get() == &ram_before[..];
             library.bus(&mut device, &mut ram, kind, byte);
-            calls += 4;
-            let held = device.guards_hold() && ram.guards_hold() && font.guards_hold() && line.guards_hold();
-            if !held || !same_ram || font.get() != &font_before[..] {
+            let state = random.byte() % 4;
+            let mut feed = Lent::copy_of(&mut random, &[state, byte]);
+            if random.one_in(2) {
+                library.feed(&mut device, &mut feed, &mut ram, &chunk, &mut out);
+                calls += 1;
+            }
+            let held = [&device, &ram, &font, &line, &feed, &chunk, &out].iter().all(|lent| lent.guards_hold());
+            if !held || !same_ram || font.get() != &font_before[..] || chunk.get() != &capture[..] {
                 println!("seed {seed}: a corrupted record changed bytes outside");
                 exit(1);
             }

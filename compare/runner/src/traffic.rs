@@ -1,0 +1,54 @@
+//! A host's traffic on the bus, and captures of it: two bytes an event, as a logger stores them.
+
+use crate::pages::RAM;
+use crate::random::Random;
+
+/// Kind and byte of an event.
+pub type Logged = (u8, u8);
+
+/// A store or a read of some bytes, as a host makes it.
+pub fn transfer(random: &mut Random) -> Vec<Logged> {
+    let address = match random.below(4) {
+        0 => 0x3FF0 + random.below(16),
+        1 => random.below(0x4000),
+        _ => random.below(RAM as u64 + 4),
+    };
+    // The two highest bits of an address do not count, nor does the byte of a start or stop.
+    let spare = random.byte();
+    let mut events = vec![(0, 0), (1, 0xBA), (1, (address >> 8) as u8 | spare & 0xC0), (1, address as u8)];
+    if random.one_in(2) {
+        events.extend([(0, spare), (1, 0xBB)]);
+    }
+    for _ in 0..random.below(6) {
+        events.push((1 + u8::from(random.one_in(3)), random.byte()));
+    }
+    events.push((3, spare));
+    events
+}
+
+/// Any event, a slave address more often than other bytes.
+pub fn any_event(random: &mut Random) -> Logged {
+    let kind = random.below(4) as u8;
+    (kind, if random.one_in(2) { random.pick(&[0xBA, 0xBB]) } else { random.byte() })
+}
+
+/// One to three transfers in a logger's bytes; now and then with an event that has no place there, or with a bad kind.
+pub fn capture(random: &mut Random) -> Vec<u8> {
+    let mut events = vec![];
+    for _ in 0..1 + random.below(3) {
+        events.extend(transfer(random));
+        if random.one_in(4) {
+            events.push(any_event(random));
+        }
+    }
+    if random.one_in(8) {
+        let bad = random.below(events.len() as u64) as usize;
+        events[bad].0 = if random.one_in(2) { 4 } else { 4 + random.below(252) as u8 };
+    }
+    bytes(&events)
+}
+
+/// A logger's two bytes an event.
+pub fn bytes(events: &[Logged]) -> Vec<u8> {
+    events.iter().flat_map(|&(kind, byte)| [kind, byte]).collect()
+}
