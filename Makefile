@@ -67,7 +67,7 @@ model:
 
 # the library against the independent implementation; SEED and SESSIONS can be given
 comparison: library
-	$(CARGO) run $(MANIFEST) --release --bin compare -- $(SEED) $(SESSIONS)
+	$(CARGO) run $(MANIFEST) --release --bin compare -- crates/demo/stdin $(SEED) $(SESSIONS)
 
 # the table of docs/SPEED.md
 speed: library

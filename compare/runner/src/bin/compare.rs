@@ -1,15 +1,18 @@
-//! Compares the proved library with the independent implementation, call by call, over many random sessions.
+//! Compares the proved library with the independent implementation, call by call, over many random sessions; and captures that are
+//! cut with the same captures fed whole.
 //!
-//!     compare [SEED [SESSIONS]]
+//!     compare PAGE [SEED [SESSIONS]]
 //!
-//! Session i uses seed SEED + i, so a difference is shown again by `compare SEED+i 1`.
+//! PAGE is the sample page, crates/demo/stdin: its traffic is the first capture. Session i uses seed SEED + i, so a difference is shown
+//! again by `compare PAGE SEED+i 1`.
 
 use runner::library::Linked;
-use runner::linked;
 use runner::sessions::{corrupted, play, DEFAULT_SEED, DEFAULT_SESSIONS};
+use runner::{captures, linked, pages};
 
 fn main() {
     let mut words = std::env::args().skip(1);
+    let page = std::fs::read(words.next().expect("the sample page")).expect("the sample page can be read");
     let mut number = |otherwise: u64| match words.next() {
         Some(word) => word.parse().expect("a number"),
         None => otherwise,
@@ -17,19 +20,29 @@ fn main() {
     let seed = number(DEFAULT_SEED);
     let sessions = number(DEFAULT_SESSIONS);
     assert_eq!(linked::device_len(), 32);
+    assert_eq!(linked::feed_len(), 2);
 
     let mut counts = [0; 256];
     let mut made_up = 0;
+    let mut made_up_fed = 0;
     for i in 0..sessions {
         for (all, some) in counts.iter_mut().zip(play(&mut Linked, seed + i)) {
             *all += some;
         }
         made_up += corrupted(&mut Linked, seed + i);
+        made_up_fed += captures::made_up(seed + i);
     }
+    let (_, capture) = page.split_at(pages::FONT);
+    let fed = captures::sample(capture);
+    captures::longest();
 
     println!("seeds {seed} to {}: {sessions} sessions", seed + sessions - 1);
     for (refusal, count) in counts.iter().enumerate().filter(|(_, &count)| count > 0) {
         println!("  refusal {refusal:3}: {count:8} answers");
     }
     println!("{} calls compared, 0 differences; {made_up} calls on corrupted records, 0 faults", counts.iter().sum::<u64>());
+    println!(
+        "a capture of {} bytes fed {fed} times, {sessions} others {made_up_fed} times, whole and cut: 0 differences",
+        capture.len()
+    );
 }
