@@ -4,10 +4,11 @@
 //!
 //! Each figure is the least of ROUNDS rounds, in which the two take turns. A ratio below 1 means that the proved library is faster.
 
-use osd_model::{bus_bytes, Device, Event};
+use osd_model::{bus_bytes, feed_bytes, Device, Event};
 use runner::linked;
 use runner::pages::{self, FIRST_USER, FONT, RAM};
 use runner::random::Random;
+use runner::traffic::{self, Logged};
 use std::hint::black_box;
 use std::time::Instant;
 
@@ -39,7 +40,7 @@ impl Pair {
     }
 
     fn event(&mut self, kind: u8, byte: u8) {
-        let event = [Event::Start, Event::Byte(byte), Event::Fetch, Event::Stop][usize::from(kind)];
+        let event = Event::of_kind(kind, byte).expect("a kind");
         assert_eq!(linked::bus(&mut self.ours, &mut self.ram, kind, byte), 0);
         assert!(self.model.bus(&mut self.ram, event).is_ok());
     }
@@ -64,6 +65,11 @@ fn model_cell(device: &Device, ram: &[u8], cell: u32) -> u32 {
 #[inline(never)]
 fn model_bus(device: &mut Record, ram: &mut [u8], kind: u8, byte: u8) -> u32 {
     bus_bytes(device, ram, kind, byte)
+}
+
+#[inline(never)]
+fn model_feed(device: &mut Record, feed: &mut [u8; 2], ram: &mut [u8], chunk: &[u8], out: &mut [u8]) -> u32 {
+    feed_bytes(device, feed, ram, chunk, out)
 }
 
 /// The least time of some rounds, in nanoseconds a turn, of two competitors that take turns.
@@ -116,9 +122,10 @@ fn draw(name: &str, rounds: u32, mut pair: Pair) {
     row(name, figures);
 }
 
+const TRANSFERS: u32 = 400;
+
 /// A host's transfer: start, slave address, internal address, sixty data bytes, stop.
-fn bus(name: &str, rounds: u32, font: &[u8], reads: bool) {
-    let pair = Pair::new(vec![0; RAM], font, [63, 4, 18, 0x80]);
+fn transfer(reads: bool) -> Vec<Logged> {
     let mut events = vec![(0, 0), (1, 0xBA), (1, 0x01), (1, 0x40)];
     if reads {
         events.extend([(0, 0), (1, 0xBB)]);
@@ -127,21 +134,26 @@ fn bus(name: &str, rounds: u32, font: &[u8], reads: bool) {
         events.extend((0..60).map(|i| (1, i)));
     }
     events.push((3, 0));
-    const TIMES: u32 = 400;
+    events
+}
+
+fn bus(name: &str, rounds: u32, font: &[u8], reads: bool) {
+    let pair = Pair::new(vec![0; RAM], font, [63, 4, 18, 0x80]);
+    let events = transfer(reads);
     let (mut ours, mut model) = (pair.ours, pair.ours);
     let (mut ram, mut model_ram) = (pair.ram.clone(), pair.ram);
     let figures = race(
         rounds,
-        TIMES * events.len() as u32,
+        TRANSFERS * events.len() as u32,
         || {
-            for _ in 0..TIMES {
+            for _ in 0..TRANSFERS {
                 for &(kind, byte) in &events {
                     black_box(linked::bus(&mut ours, &mut ram, kind, byte));
                 }
             }
         },
         || {
-            for _ in 0..TIMES {
+            for _ in 0..TRANSFERS {
                 for &(kind, byte) in &events {
                     black_box(model_bus(&mut model, &mut model_ram, kind, byte));
                 }
@@ -149,6 +161,33 @@ fn bus(name: &str, rounds: u32, font: &[u8], reads: bool) {
         },
     );
     assert_eq!((ours, ram), (model, model_ram));
+    row(name, figures);
+}
+
+/// The same transfers, each as one chunk of a capture.
+fn feed(name: &str, rounds: u32, font: &[u8], reads: bool) {
+    let pair = Pair::new(vec![0; RAM], font, [63, 4, 18, 0x80]);
+    let events = transfer(reads);
+    let chunk = traffic::bytes(&events);
+    let (mut ours, mut model) = (pair.ours, pair.ours);
+    let (mut ram, mut model_ram) = (pair.ram.clone(), pair.ram);
+    let (mut feed, mut model_feed_record) = ([0; 2], [0; 2]);
+    let (mut out, mut model_out) = (vec![0; chunk.len()], vec![0; chunk.len()]);
+    let figures = race(
+        rounds,
+        TRANSFERS * events.len() as u32,
+        || {
+            for _ in 0..TRANSFERS {
+                black_box(linked::feed(&mut ours, &mut feed, &mut ram, black_box(&chunk), &mut out));
+            }
+        },
+        || {
+            for _ in 0..TRANSFERS {
+                black_box(model_feed(&mut model, &mut model_feed_record, &mut model_ram, black_box(&chunk), &mut model_out));
+            }
+        },
+    );
+    assert_eq!((ours, feed, ram, out), (model, model_feed_record, model_ram, model_out));
     row(name, figures);
 }
 
@@ -269,6 +308,8 @@ fn main() {
     draw("a narrow line, 48 pixels", rounds, Pair::new(font_page.clone(), &font, [3, 4, 18, 0x80]));
     bus("a bus event, writing", rounds, &font, false);
     bus("a bus event, reading", rounds, &font, true);
+    feed("a fed event, writing", rounds, &font, false);
+    feed("a fed event, reading", rounds, &font, true);
     for ch in [1, 18, 63] {
         for (name, ram) in
             [("full page", &font_page), ("stop page", &stop), ("noise", &noise), ("all descriptors", &all_descriptors())]
