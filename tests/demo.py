@@ -227,8 +227,9 @@ def characters(picture):
     return ''.join(text).encode()
 
 
-font = sample_font()
 send_stop_page()
-script.store({
-    'crates/demo/stdin': bytes(font) + traffic, 'crates/demo/stdout': picture(font),
-    'crates/preview/stdin': small_picture(), 'crates/preview/stdout': characters(small_picture())})
+if __name__ == '__main__':         # the traffic is fed elsewhere too, as a capture
+    font = sample_font()
+    script.store({
+        'crates/demo/stdin': bytes(font) + traffic, 'crates/demo/stdout': picture(font),
+        'crates/preview/stdin': small_picture(), 'crates/preview/stdout': characters(small_picture())})

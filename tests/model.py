@@ -1,6 +1,6 @@
-"""A second implementation of document 01, for the stored outputs of the test programs.
+"""A second implementation of document 01 and of the requests that have landed, for the stored outputs of the test programs.
 
-It was written from document 01 alone, as a device that is told what to do step by step, and shares nothing with the Rattle code or
+It was written from their words alone, as a device that is told what to do step by step, and shares nothing with the Rattle code or
 with the definitions in specs/. The scripts beside it make a program's stdin and stdout from it.
 """
 import copy
@@ -11,6 +11,7 @@ RESET = [0x3F, 0x08, 0x12, 0x00, 0x22, 0x33, 0x28, 0x0A] + [0] * 8
 KEPT = [0xFF, 0xFF, 0x3F, 0xF7, 0xF7, 0x77, 0xFF, 0x0F] + [0xFF] * 8
 ACKNOWLEDGED, NOT_ACKNOWLEDGED = (0, 0), (5, 255)
 SHOWN_BELOW = {1: 32, 2: 16, 3: 48}
+LOGGED = {0: 'start', 1: 'byte', 2: 'fetch', 3: 'stop'}
 
 
 class Device:
@@ -168,3 +169,31 @@ class Device:
         if cell >= 1024:
             return (8, 0)
         return (0, int(cell in self.cells_left(ram)))
+
+
+class Feed:
+    """Request K1: a logger's capture, two bytes an event, as it arrives."""
+
+    def __init__(self):
+        self.half, self.shut = [], False        # the byte that has arrived of an unfinished event, or none
+
+    # ---- a chunk: (refusal, bytes of output), and the output in out
+
+    def chunk(self, device, ram, data, out):
+        if len(ram) != 1024:
+            return (1, 0)
+        if self.shut:
+            return (9, 0)
+        arrived = self.half + list(data)
+        end = len(arrived) // 2 * 2
+        if len(out) < end:
+            return (10, 0)
+        self.half = arrived[end:]
+        for i in range(0, end, 2):
+            kind, x = arrived[i:i + 2]
+            if kind not in LOGGED:
+                self.half, self.shut = [], True
+                return (9, i)
+            refusal, byte = device.event(ram, LOGGED[kind], x)
+            out[i:i + 2] = [int(refusal == 0), byte]
+        return (0, end)
