@@ -10,7 +10,7 @@ use crate::traffic;
 use osd_model::{Device, Event, Fed, Feed, Refusal, FEED_LEN};
 use std::process::exit;
 
-const CALLS: u32 = 480;
+const CALLS: u32 = 520;
 pub const DEFAULT_SEED: u64 = 9425;
 pub const DEFAULT_SESSIONS: u64 = 600;
 
@@ -199,7 +199,7 @@ impl<L: Library> Session<'_, L> {
             self.arrived = (0..held).map(|_| self.random.byte()).collect();
             self.arrived.extend(traffic::capture(&mut self.random));
         }
-        let most = self.random.pick(&[0, 1, 2, 3, 8, 24, 64]);
+        let most = self.random.pick(&[1, 2, 3, 8, 24, 64]);
         let len = self.arrived.len().min(self.random.below(most + 1) as usize);
         let chunk = Lent::copy_of(&mut self.random, &self.arrived[..len]);
         let chunk_before = chunk.get().to_vec();
@@ -324,7 +324,7 @@ impl<L: Library> Session<'_, L> {
         self.display();
         self.frame_start();
         while self.call < CALLS {
-            match self.random.below(25) {
+            match self.random.below(28) {
                 0..=3 => self.transfer(),
                 4 if self.random.one_in(4) => self.display(),
                 4 => self.transfer(),
@@ -333,9 +333,9 @@ impl<L: Library> Session<'_, L> {
                 7..=15 => self.draw(),
                 16..=17 => self.question(),
                 18 => self.refused(),
-                20..=23 => self.feed(),
-                24 if self.model_feed[0] > 1 || self.random.one_in(3) => self.other_feed(),
-                24 => self.feed(),
+                20..=26 => self.feed(),
+                27 if self.model_feed[0] > 1 || self.random.one_in(3) => self.other_feed(),
+                27 => self.feed(),
                 _ if self.random.one_in(10) => self.reset(),
                 _ => self.any_event(),
             }
