@@ -1,9 +1,10 @@
--- Document 01, "Refusal numbers": the table's numbers, and what stands in a refusal's other number.
+-- Document 01, "Refusal numbers", and the numbers that document 02's requests add: the table, and what stands in a refusal's other
+-- number.
 -- Assumes nothing.
 use Prim.Native.Nat.{ℕ}
 use mathlib.Core.Bool.{Bool, cond}
 use Rattle.refusals.specs.declared.Refusal.{Refusal}
-use Rattle.refusals.specs.declared.Refusal.the-variants.{RamLength, FontLength, LineLength, NoLine, NotAcknowledged, FrameLines, BenchLength, CellRange}
+use Rattle.refusals.specs.declared.Refusal.the-variants.{RamLength, FontLength, LineLength, NoLine, NotAcknowledged, FrameLines, BenchLength, CellRange, FeedShut, OutputRoom}
 
 abbrev pub numberOf : Refusal → ℕ
 numberOf RamLength = 1
@@ -14,6 +15,8 @@ numberOf NotAcknowledged = 5
 numberOf FrameLines = 6
 numberOf BenchLength = 7
 numberOf CellRange = 8
+numberOf FeedShut = 9
+numberOf OutputRoom = 10
 
 -- an answer as the paper has it: the refusal's number, 0 where the call is accepted, and the answer's own number
 pub record Reply : Type 0 where
@@ -23,7 +26,7 @@ pub record Reply : Type 0 where
 abbrev pub accepted : ℕ → Reply
 accepted v = record { refusal = 0; value = v }
 
--- the number beside a refusal: 0, or 255 for the byte of 5
+-- the number beside a refusal, unless the call gives one of its own (9 for a bad kind does): 0, or 255 for the byte of 5
 abbrev pub valueIn : Refusal → ℕ
 valueIn RamLength = 0
 valueIn FontLength = 0
@@ -33,6 +36,8 @@ valueIn NotAcknowledged = 255
 valueIn FrameLines = 0
 valueIn BenchLength = 0
 valueIn CellRange = 0
+valueIn FeedShut = 0
+valueIn OutputRoom = 0
 
 -- a refusal with a number beside it
 abbrev pub refusedWith : Refusal → ℕ → Reply

@@ -1,4 +1,4 @@
-// The refusals of document 01's table, each with its number.
+// The refusals of document 01's table and of document 02's requests, each with its number.
 ghost use mathlib.Core.Path.{_≡_};
 ghost use Rattle.refusals.specs.Refusals.{numberOf, valueIn};
 
@@ -19,6 +19,10 @@ pub enum Refusal {
     BenchLength,
     // 8: the cell asked about is 1,024 or above
     CellRange,
+    // 9: the feed is shut, or a bad kind shuts it
+    FeedShut,
+    // 10: the output has less than two bytes for each event that the chunk would complete
+    OutputRoom,
 }
 
 impl Refusal {
@@ -34,10 +38,12 @@ impl Refusal {
             Refusal::FrameLines => 6,
             Refusal::BenchLength => 7,
             Refusal::CellRange => 8,
+            Refusal::FeedShut => 9,
+            Refusal::OutputRoom => 10,
         }
     }
 
-    // The number beside a refusal: 255 for the byte of 5, else 0.
+    // The number beside a refusal that has none of its own: 255 for the byte of 5, else 0.
     pub fn value(self) -> u8
         ensures { λ r. ⌜ r ≡ valueIn self ⌝ }
     {
@@ -50,6 +56,8 @@ impl Refusal {
             Refusal::FrameLines => 0,
             Refusal::BenchLength => 0,
             Refusal::CellRange => 0,
+            Refusal::FeedShut => 0,
+            Refusal::OutputRoom => 0,
         }
     }
 }

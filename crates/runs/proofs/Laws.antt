@@ -1,10 +1,24 @@
--- The laws of runs: what every call keeps holds at the end; and events that can each be made after any other call can be made after all
--- of them, since one is pushed past each later call, one at a time.
+-- The laws of runs: one list behind another; what every call keeps holds at the end; a machine whose states are read as another's;
+-- events that can each be made after another call can all be; and events that can each be made after any other call can be made after
+-- all of them, since one is pushed past each later call, one at a time.
 -- Assumes nothing.
-use mathlib.Core.Path.{_≡_, refl, sym, ap, ap₂, _∙_}
+use mathlib.Core.Path.{_≡_, refl, sym, ap, ap₂, _∙_, subst}
 use mathlib.Core.Bool.{Bool, true, false, not, cond}
-use mathlib.Core.List.{List, [], _∷_}
+use mathlib.Core.List.{List, [], _∷_, _++_, map}
 use Rattle.runs.specs.Runs.{Machine, Entry, log, end, AsMade, select, eventsOf, othersOf, SameRuns}
+
+-- ---- a list of calls behind another
+
+pub end-append : {S C A : Type 0} (m : Machine S C A) (s : S) (cs ds : List C) → end m s (cs ++ ds) ≡ end m (end m s cs) ds
+unfolding end
+end-append m s [] ds = refl
+end-append m s (c ∷ cs) ds = end-append m (m .after s c) cs ds
+
+pub log-append : {S C A : Type 0} (m : Machine S C A) (s : S) (cs ds : List C) → log m s (cs ++ ds) ≡ log m s cs ++ log m (end m s cs) ds
+unfolding log end
+log-append m s [] ds = refl
+log-append {C = C} {A = A} m s (c ∷ cs) ds =
+    ap (λ (l : List (Entry C A)). (record { call = c; answer = m .answer s c }) ∷ l) (log-append m (m .after s c) cs ds)
 
 -- ---- what holds of each call as it is made
 
@@ -21,7 +35,25 @@ unfolding AsMade end
 kept-by-each P m I f s [] h i = i
 kept-by-each P m I f s (c ∷ cs) h i = kept-by-each P m I f (m .after s c) cs (h .1) (f s c (h .0) i)
 
--- ---- events made last
+-- ---- a machine whose states are read as another's
+
+-- if each call of which P holds leaves what is read as what the other machine's call leaves, so does a run; and if it answers the same,
+-- so does a run
+module _ {S T C A : Type 0} (P : S → C → Type 0) (m : Machine S C A) (n : Machine T C A) (reads : S → T)
+    (leaves : (s : S) (c : C) → P s c → reads (m .after s c) ≡ n .after (reads s) c) where
+  pub end-read : (s : S) (cs : List C) → AsMade P m s cs → reads (end m s cs) ≡ end n (reads s) cs
+  unfolding AsMade end
+  end-read s [] p = refl
+  end-read s (c ∷ cs) p = end-read (m .after s c) cs (p .1) ∙ ap (λ (t : T). end n t cs) (leaves s c (p .0))
+
+  pub log-read : ((s : S) (c : C) → m .answer s c ≡ n .answer (reads s) c) → (s : S) (cs : List C) → AsMade P m s cs → log m s cs ≡ log n (reads s) cs
+  unfolding AsMade log
+  log-read same s [] p = refl
+  log-read same s (c ∷ cs) p =
+      ap₂ (λ (y : A) (l : List (Entry C A)). (record { call = c; answer = y }) ∷ l)
+      (same s c) (log-read same (m .after s c) cs (p .1) ∙ ap (λ (t : T). log n t cs) (leaves s c (p .0)))
+
+-- ---- events and another call
 
 -- an event of which P holds, and another call: both answer and leave the same in either order, and P still holds after that call
 pub record Apart {S C A : Type 0} (P : S → C → Type 0) (m : Machine S C A) (s : S) (e c : C) : Type 0 where
@@ -29,6 +61,32 @@ pub record Apart {S C A : Type 0} (P : S → C → Type 0) (m : Machine S C A) (
   pub own : m .answer (m .after s c) e ≡ m .answer s e
   pub either-way : m .after (m .after s e) c ≡ m .after (m .after s c) e
   pub still : P (m .after s c) e
+
+-- events in a row, of each of which P holds as it is made, and another call
+pub record AllApart {S C A : Type 0} (P : S → C → Type 0) (m : Machine S C A) (s : S) (es : List C) (c : C) : Type 0 where
+  pub other : m .answer (end m s es) c ≡ m .answer s c
+  pub own : log m (m .after s c) es ≡ log m s es
+  pub either-way : m .after (end m s es) c ≡ end m (m .after s c) es
+  pub still : AsMade P m (m .after s c) es
+
+-- if each event that f makes can be made after that call, so can such events in a row: they are pushed past it one at a time
+pub all-apart : {S C A X : Type 0} (P : S → C → Type 0) (m : Machine S C A) (c : C) (f : X → C)
+    → ((s : S) (x : X) → P s (f x) → Apart P m s (f x) c) → (s : S) (xs : List X) → AsMade P m s (map f xs) → AllApart P m s (map f xs) c
+unfolding log end AsMade
+all-apart P m c f apart s [] p = record { other = refl; own = refl; either-way = refl; still = tt }
+all-apart {S} {C} {A} P m c f apart s (x ∷ xs) p =
+    let a : Apart P m s (f x) c = apart s x (p .0) in
+    let ih : AllApart P m (m .after s (f x)) (map f xs) c = all-apart P m c f apart (m .after s (f x)) xs (p .1) in
+    record {
+      other = ih .other ∙ a .other;
+      own =
+          ap₂ (λ (y : A) (l : List (Entry C A)). (record { call = f x; answer = y }) ∷ l)
+          (a .own) (ap (λ (u : S). log m u (map f xs)) (sym (a .either-way)) ∙ ih .own);
+      either-way = ih .either-way ∙ ap (λ (u : S). end m u (map f xs)) (a .either-way);
+      still = (a .still, subst (λ (u : S). AsMade P m u (map f xs)) (a .either-way) (ih .still));
+    }
+
+-- ---- events made last
 
 module _ {S C A : Type 0} (P : S → C → Type 0) (m : Machine S C A)
     (apart : (s : S) (e c : C) → m .isEvent e ≡ true → m .isEvent c ≡ false → P s e → Apart P m s e c) where
