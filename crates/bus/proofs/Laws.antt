@@ -1,12 +1,13 @@
 -- What callers use of the bus's definition.
 -- Assumes nothing.
-use Prim.Native.Nat.{ℕ}
+use Prim.Native.Nat.{ℕ, _-_, _%_, _<_}
 use mathlib.Core.Path.{_≡_, refl, sym, ap, _∙_}
 use mathlib.Core.Bool.{not}
 use mathlib.Core.List.{List}
+use native.Mathlib.Omega.{arith}
 use lib.Dec.{eqb}
 use borrow.Author.Tests.{eq-eqb, ne-eqb}
-use lib.ListN.{length, length-set}
+use lib.ListN.{length, getD, length-set}
 use Rattle.facts.proofs.Choice.{either}
 use Rattle.refusals.specs.declared.Refusal.the-variants.{RamLength}
 use Rattle.refusals.specs.Refusals.{refused}
@@ -17,7 +18,7 @@ use Rattle.bus.specs.declared.Step.{Step}
 use Rattle.bus.specs.declared.Event.{Event}
 use Rattle.bus.specs.declared.Effect.{Effect}
 use Rattle.bus.specs.declared.Effect.the-variants.{Acknowledge, Ignore, Store, Load}
-use Rattle.bus.specs.Bus.{BusOutcome, busEvent, step, byteAt, fetchAt, ramWith, registersWith, taken, isRam, isRegister}
+use Rattle.bus.specs.Bus.{BusOutcome, busEvent, step, byteAt, fetchAt, ramWith, registersWith, answerTo, busReply, taken, isRam, isRegister}
 
 with-length : (f : Effect) (ram : List ℕ) → length (ramWith f ram) ≡ length ram
 unfolding ramWith
@@ -47,6 +48,21 @@ busEvent-length b r ram e =
 pub busEvent-sixteen : (b : Bus) (r : Registers) (ram : List ℕ) (e : Event) → length (busEvent b r ram e .registers .bytes) ≡ length (r .bytes)
 busEvent-sixteen b r ram e =
     by-event (λ (o : BusOutcome). length (o .registers .bytes) ≡ length (r .bytes)) b r ram e refl (unfold taken in with-sixteen (step b e .effect) r)
+
+-- where registers and RAM hold bytes, so does an event's answer
+answer-byte : (f : Effect) (r : Registers) (ram : List ℕ) → ((i : ℕ) → getD (r .bytes) i 0 < 256) → ((i : ℕ) → getD ram i 0 < 256)
+    → busReply (answerTo f r ram) .value < 256
+unfolding answerTo
+answer-byte Acknowledge r ram h k = omega arith
+answer-byte Ignore r ram h k = omega arith
+answer-byte (Store a x) r ram h k = omega arith
+answer-byte (Load a) r ram h k =
+    either (λ (n : ℕ). n < 256) (isRam a) _ _ (k a) (either (λ (n : ℕ). n < 256) (isRegister a) _ _ (h ((a - 0x3FF0) % 16)) (omega arith))
+
+pub value-byte : (b : Bus) (r : Registers) (ram : List ℕ) (e : Event) → ((i : ℕ) → getD (r .bytes) i 0 < 256) → ((i : ℕ) → getD ram i 0 < 256)
+    → busEvent b r ram e .reply .value < 256
+value-byte b r ram e h k =
+    by-event (λ (o : BusOutcome). o .reply .value < 256) b r ram e (omega arith) (unfold taken in answer-byte (step b e .effect) r ram h k)
 
 -- a state that is known to be s does what s does
 pub byte-at : (b : Bus) (x : ℕ) {s : BusState} → b .state ≡ s → byteAt s b x ≡ byteAt (b .state) b x

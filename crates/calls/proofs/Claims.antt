@@ -1,9 +1,11 @@
 -- Each claim of this crate's specs, with its proof.
 -- Assumes nothing.
+use Rattle.calls.specs.Fed.{FedAreBusEvents}
 use Rattle.calls.specs.OnePage.{OnePage}
 use Rattle.calls.specs.Reach.{UnusedBits}
 use Rattle.calls.specs.Use.{QuietEvents, WritesAlone, NoStays}
 use Rattle.calls.specs.Witnesses.{Witnesses}
+use Rattle.calls.proofs.Fed as fed
 use Rattle.calls.proofs.OnePage as page
 use Rattle.calls.proofs.Quiet as quiet
 use Rattle.calls.proofs.Reach as reach
@@ -11,6 +13,9 @@ use Rattle.calls.proofs.Witnesses as witness
 
 pub one-page : OnePage
 one-page = page.one-page
+
+pub fed-are-bus-events : FedAreBusEvents
+fed-are-bus-events = fed.fed-are-bus-events
 
 pub quiet-events : QuietEvents
 quiet-events = quiet.quiet-events

@@ -1,4 +1,5 @@
 pub mod Claims
+pub mod Fed
 pub mod OnePage
 pub mod Quiet
 pub mod Reach

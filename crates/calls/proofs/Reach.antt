@@ -1,5 +1,5 @@
--- The proof that unused bits are 0 in every device that calls can reach (specs/Reach.antt): of the calls only an event touches the
--- registers, and a store masks its byte.
+-- The proof that unused bits are 0 in every device that calls can reach (specs/Reach.antt): of the calls only an event, fed or not,
+-- touches the registers, and a store masks its byte.
 -- Assumes nothing.
 use Prim.Native.Nat.{ℕ, zero, suc, _-_, _%_, _≤_, _<_, max}
 use mathlib.Core.Path.{_≡_, refl, sym, _∙_, subst}
@@ -9,18 +9,22 @@ use native.Mathlib.Omega.{arith}
 use lib.ListN.{length, getD, List·getD-eq-default}
 use lib.Bits.{bitAnd, and-le-r, and-zero-l}
 use Rattle.facts.proofs.Choice.{either}
+use Rattle.runs.specs.Runs.{end}
+use Rattle.refusals.specs.Refusals.{Verdict, passed, failed}
 use Rattle.registers.specs.declared.Registers.{Registers}
 use Rattle.registers.specs.Registers.{kept, freshRegisters}
 use Rattle.registers.proofs.Laws.{Masked, fresh-masked, stored-masked}
 use Rattle.bus.specs.declared.Event.{Event}
 use Rattle.bus.specs.declared.Effect.{Effect}
 use Rattle.bus.specs.declared.Effect.the-variants.{Acknowledge, Ignore, Store, Load}
-use Rattle.bus.specs.Bus.{BusOutcome, step, isRegister, registersWith, taken}
+use Rattle.bus.specs.Bus.{eventOf, BusOutcome, step, isRegister, registersWith, taken}
 use Rattle.bus.proofs.Laws.{by-event, busEvent-sixteen}
 use Rattle.device.specs.declared.Device.{Device}
 use Rattle.device.specs.Device.{freshDevice, hearEvent, StartOutcome, inFrame, startFrame, DrawOutcome, lineOn, lineDrawn, drawLine}
 use Rattle.device.proofs.Laws.{by-start, by-draw}
-use Rattle.calls.specs.Reach.{Reachable, fresh, reset, event, start, draw, UnusedBits}
+use Rattle.capture.specs.declared.Feed.{Feed}
+use Rattle.capture.specs.Capture.{Logged, finished, Chip, chip, busEvents, feedVerdict, chunkFed, feedBy, feedChunk}
+use Rattle.calls.specs.Reach.{Reachable, fresh, reset, event, start, draw, feed, UnusedBits}
 
 -- ---- what each call does to the registers
 
@@ -58,6 +62,20 @@ unfolding lineDrawn lineOn
 draw-same d ram font line =
     by-draw d ram font line (λ (x : DrawOutcome). x .device .registers ≡ d .registers) (λ r. refl) (λ ready. refl)
 
+-- a feed, if its tests pass, is its events, one by one
+events-whole : (c : Chip) (es : List Logged) → Whole (c .device .registers) → Whole (end busEvents c es .device .registers)
+unfolding end
+events-whole c [] h = h
+events-whole c (x ∷ es) h = events-whole (busEvents .after c x) es (event-whole (c .device) (c .ram) (eventOf (x .kind) (x .byte)) h)
+
+feed-whole : (c : Chip) (f : Feed) (chunk out : List ℕ) → Whole (c .device .registers) → Whole (feedChunk c f chunk out .chip .device .registers)
+unfolding feedChunk feedBy chunkFed
+feed-whole c f chunk out h = by (feedVerdict f (length (c .ram)) (length chunk) (length out))
+  where
+    by : (v : Verdict) → Whole (feedBy v c f chunk out .chip .device .registers)
+    by passed = events-whole c (finished f chunk) h
+    by (failed r) = h
+
 reach-whole : {d : Device} → Reachable d → Whole (d .registers)
 unfolding freshDevice
 reach-whole fresh = fresh-whole
@@ -65,6 +83,7 @@ reach-whole (reset p) = fresh-whole
 reach-whole (event {d} p ram e) = event-whole d ram e (reach-whole p)
 reach-whole (start {d} p lines) = subst Whole (sym (start-same d lines)) (reach-whole p)
 reach-whole (draw {d} p ram font line) = subst Whole (sym (draw-same d ram font line)) (reach-whole p)
+reach-whole (feed {d} p f ram chunk out) = feed-whole (chip d ram) f chunk out (reach-whole p)
 
 -- ---- a byte with kept bits only is below 256
 

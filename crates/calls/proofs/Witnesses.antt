@@ -21,7 +21,8 @@ use Rattle.paint.specs.Pixels.{inkOf, columns, twelveColumns}
 use Rattle.line.specs.Line.{codes, rowOf, shownRow, scan, character, painted, paint}
 use Rattle.ahead.specs.Ahead.{remaining}
 use Rattle.device.specs.Device.{freshDevice, hearEvent, startFrame, inFrame, pixelsOf, lineOn, lineDrawn, drawVerdict, drawBy, drawLine, cellsLeft, askCell, remainingOf}
-use Rattle.calls.specs.OnePage.{Call, draw, ask, event, State, Answer, drawn, asked, answer, after, isEvent, calls, effectOf, Stores, QuietCall, QuietRun}
+use Rattle.capture.specs.Capture.{finished, feedAfter, outputs, feedVerdict, chunkFed, feedBy, eventsBy, feedChunk}
+use Rattle.calls.specs.OnePage.{Call, draw, ask, event, feed, anew, State, Answer, drawn, asked, fed, renewed, answer, after, isEvent, calls, effectOf, Stores, QuietWrite, fedCalls, QuietCall}
 use Rattle.calls.specs.OnePage as one-page
 use Rattle.calls.specs.Witnesses.{addressing, write, font, heard, started, traffic, picture, buffer, turning, refusalOf, firstLine, Changes}
 use Rattle.calls.specs.Witnesses.{Setting, LD, DD, CH, OSD, FBK, FL, but, ButSetting, ButCell, ready, Seen, Witnesses}
@@ -75,32 +76,55 @@ same-if s t passed =
       fl = eqb→eq (s .fl) (t .fl) fl i;
     }
 
--- every event of a list is quiet, write or not
+-- an event is quiet, write or not
+eventTest : State → Call → Bool
+eventTest s (draw line) = true
+eventTest s (ask cell) = true
+eventTest s (event e) =
+    alikeTest (cellsLeft (s .device) (s .ram)) (s .ram) (hearEvent (s .device) (s .ram) e .ram)
+    && sameTest (settingsOf (hearEvent (s .device) (s .ram) e .device .registers)) (settingsOf (s .device .registers))
+eventTest s (feed chunk out) = true
+eventTest s anew = true
+
+-- each call of a list passes a test as it is made
+runTest : (State → Call → Bool) → State → List Call → Bool
+runTest test s [] = true
+runTest test s (c ∷ cs) = test s c && runTest test (after font s c) cs
+
+-- an event is quiet, and each event that a feed makes
 quietTest : State → Call → Bool
 quietTest s (draw line) = true
 quietTest s (ask cell) = true
-quietTest s (event e) =
-    alikeTest (cellsLeft (s .device) (s .ram)) (s .ram) (hearEvent (s .device) (s .ram) e .ram)
-    && sameTest (settingsOf (hearEvent (s .device) (s .ram) e .device .registers)) (settingsOf (s .device .registers))
+quietTest s (event e) = eventTest s (event e)
+quietTest s (feed chunk out) = runTest eventTest s (fedCalls s chunk out)
+quietTest s anew = true
 
-runTest : State → List Call → Bool
-runTest s [] = true
-runTest s (c ∷ cs) = quietTest s c && runTest (after font s c) cs
+-- what a test shows of a call holds of each call that passes it
+as-made-if : (P : State → Call → Type 0) (test : State → Call → Bool) → ((s : State) (c : Call) → T (test s c) → P s c)
+    → (s : State) (cs : List Call) → T (runTest test s cs) → AsMade P (calls font) s cs
+unfolding runTest AsMade
+as-made-if P test f s [] t = tt
+as-made-if P test f s (c ∷ cs) t =
+    let (first, later) = and-yes (test s c) _ t in
+    (f s c first, as-made-if P test f (after font s c) cs later)
 
-call-if : (s : State) (c : Call) → T (quietTest s c) → QuietCall s c
+write-if : (s : State) (c : Call) → T (eventTest s c) → QuietWrite s c
+unfolding eventTest QuietWrite
+write-if s (draw line) t = tt
+write-if s (ask cell) t = tt
+write-if s (event e) t =
+    let (alike, same) = and-yes (alikeTest (cellsLeft (s .device) (s .ram)) (s .ram) (hearEvent (s .device) (s .ram) e .ram)) _ t in
+    λ _. record { cells = alike-if _ _ _ alike; settings = same-if _ _ same }
+write-if s (feed chunk out) t = tt
+write-if s anew t = tt
+
+call-if : (s : State) (c : Call) → T (quietTest s c) → QuietCall font s c
 unfolding quietTest QuietCall
 call-if s (draw line) t = tt
 call-if s (ask cell) t = tt
-call-if s (event e) t =
-    let (alike, same) = and-yes (alikeTest (cellsLeft (s .device) (s .ram)) (s .ram) (hearEvent (s .device) (s .ram) e .ram)) _ t in
-    λ _. record { cells = alike-if _ _ _ alike; settings = same-if _ _ same }
-
-quiet-if : (s : State) (cs : List Call) → T (runTest s cs) → QuietRun font s cs
-unfolding runTest AsMade
-quiet-if s [] t = tt
-quiet-if s (c ∷ cs) t =
-    let (first, later) = and-yes (quietTest s c) _ t in
-    (call-if s c first, quiet-if (after font s c) cs later)
+call-if s (event e) t = write-if s (event e) t
+call-if s (feed chunk out) t = as-made-if QuietWrite eventTest write-if s (fedCalls s chunk out) t
+call-if s anew t = tt
 
 -- ---- a test that shows two runs to differ
 
@@ -109,6 +133,8 @@ pixelOf : ℕ → Answer → ℕ
 pixelOf i (drawn reply line) = getD line i 0
 pixelOf i (asked reply) = 0
 pixelOf i (one-page.heard reply) = 0
+pixelOf i (fed reply out) = 0
+pixelOf i renewed = 0
 
 pixelIn : ℕ → List (Entry Call Answer) → ℕ
 pixelIn i [] = 0
@@ -116,11 +142,12 @@ pixelIn i (x ∷ xs) = pixelOf i (x .answer)
 
 -- it is the same in both runs. To open this test opens all that a witness computes
 pixelTest : ℕ → State → List Call → Bool
-unfolding addressing write font heard started traffic picture buffer turning refusalOf firstLine but ready alikeTest sameTest quietTest
-    runTest pixelOf pixelIn answer after isEvent Stores freshDevice hearEvent startFrame inFrame pixelsOf lineOn lineDrawn drawVerdict drawBy drawLine
+unfolding addressing write font heard started traffic picture buffer turning refusalOf firstLine but ready alikeTest sameTest eventTest
+    runTest quietTest pixelOf pixelIn answer after isEvent Stores freshDevice hearEvent startFrame inFrame pixelsOf lineOn lineDrawn drawVerdict drawBy drawLine
     cellsLeft askCell log end select step ramWith registersWith answerTo taken busEvent settingsOf remaining scan nextLine walkFrom
     over begun advanced stripOf rowOf shownRow codes glyphOf inRam bind fmap value cells cellsAs sameRole among beforeFirst following isLast
     interpolated sliceNumber paint painted character twelveColumns inkOf columns bitsOf
+    finished feedAfter outputs feedVerdict chunkFed feedBy eventsBy feedChunk
 pixelTest i s cs =
     eqb (pixelIn i (select (λ x. not (isEvent (x .call))) (log (calls font) s cs))) (pixelIn i (log (calls font) s (othersOf (calls font) cs)))
 
@@ -138,7 +165,7 @@ changes : Changes picture turning
 unfolding pixelTest
 changes =
     record {
-      quiet = quiet-if picture turning tt;
+      quiet = as-made-if (QuietCall font) quietTest call-if picture turning tt;
       accepted = refl;
       registers = apart pageOf _ _ refl;
       ram = apart (λ (ram : List ℕ). getD ram 0x020 0) _ _ refl;
@@ -190,5 +217,6 @@ witnesses =
       fl = by-setting FL 0x3FF3 0xA0 36 tt tt refl refl;
       descriptor = by-cell descriptor 0x001 0x80 tt refl refl refl tt refl refl;
       code = by-cell code 0x010 0x90 tt refl refl refl tt refl refl;
+      fed-code = differ-if 36 _ _ refl;
       slice = by-cell slice 0x0C1 0x00 tt refl refl refl tt refl refl;
     }

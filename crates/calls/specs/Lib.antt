@@ -1,3 +1,4 @@
+pub mod Fed
 pub mod OnePage
 pub mod Reach
 pub mod Use

@@ -15,7 +15,8 @@ use Rattle.bus.specs.declared.Event.{Event}
 use Rattle.bus.specs.declared.Event.the-variants.{Start, Byte, Fetch, Stop}
 use Rattle.bus.specs.Bus.{freshRam}
 use Rattle.device.specs.Device.{freshDevice, hearEvent, startFrame, drawLine, remainingOf, cellsLeft}
-use Rattle.calls.specs.OnePage.{Call, draw, ask, event, State, Answer, drawn, asked, calls, effectOf, Stores, QuietRun}
+use Rattle.capture.specs.Capture.{freshFeed}
+use Rattle.calls.specs.OnePage.{Call, draw, ask, event, feed, anew, State, Answer, drawn, asked, fed, renewed, calls, effectOf, Stores, QuietRun}
 use Rattle.calls.specs.OnePage as one-page
 
 -- ---- a host's traffic
@@ -39,7 +40,7 @@ heard es s = end (calls font) s (map event es)
 -- after n frame starts, each of so many lines
 unfoldable pub started : ℕ → ℕ → State → State
 started zero lines s = s
-started (suc n) lines s = started n lines (record { device = startFrame (s .device) lines .device; ram = s .ram })
+started (suc n) lines s = started n lines (record { device = startFrame (s .device) lines .device; ram = s .ram; feed = s .feed })
 
 -- ---- the picture
 
@@ -61,7 +62,7 @@ traffic =
 
 -- frame 16 has begun, of two lines, none of them drawn
 unfoldable pub picture : State
-picture = started 17 2 (heard traffic (record { device = freshDevice; ram = freshRam }))
+picture = started 17 2 (heard traffic (record { device = freshDevice; ram = freshRam; feed = freshFeed }))
 
 -- a line buffer, with room for one character more
 unfoldable pub buffer : List ℕ
@@ -69,13 +70,16 @@ buffer = replicate 60 0
 
 -- ---- a quiet list does something
 
--- P becomes 1; a draw; do the remaining lines read cell 020?; it gets another byte, and the code there is blue; a draw; a fetch
+-- P becomes 1; a draw; do the remaining lines read cell 020?; it gets another byte, from a capture that is fed in two chunks, cut
+-- within the event and with a draw between them, and the code there is blue; the feed is made anew; a fetch
 unfoldable pub turning : List Call
 turning =
     map event (write 0x3FF3 (0x81 ∷ []))
     ++ draw buffer ∷ ask 0x020
-    ∷ map event (write 0x020 (0x10 ∷ []))
-    ++ draw buffer
+    ∷ feed (0 ∷ 0 ∷ 1 ∷ 0xBA ∷ 1 ∷ 0x00 ∷ 1 ∷ 0x20 ∷ 1 ∷ []) (replicate 8 0)
+    ∷ draw buffer
+    ∷ feed (0x10 ∷ 3 ∷ 0 ∷ []) (replicate 5 0)
+    ∷ anew
     ∷ map event (Start ∷ Byte 0xBB ∷ Fetch ∷ Stop ∷ [])
 
 -- the number of a refusal, 0 if there is none
@@ -83,6 +87,8 @@ unfoldable pub refusalOf : Answer → ℕ
 refusalOf (drawn reply line) = reply .refusal
 refusalOf (asked reply) = reply .refusal
 refusalOf (one-page.heard reply) = reply .refusal
+refusalOf (fed reply out) = reply .refusal
+refusalOf renewed = 0
 
 -- the first line of a frame that starts now
 unfoldable pub firstLine : State → List ℕ
@@ -135,7 +141,7 @@ pub record Seen (Q : State → Event → Type 0) (a x : ℕ) : Type 0 where
 -- ---- the witnesses
 
 pub record Witnesses : Type 0 where
-  -- a page change, an unread cell, a fetch
+  -- a page change, an unread cell by a fed capture, a fetch
   pub changes : Changes picture turning
   -- LD 4: one character more
   pub ld : Seen (ButSetting LD) 0x3FF0 0x04
@@ -153,5 +159,7 @@ pub record Witnesses : Type 0 where
   pub descriptor : Seen (ButCell Role.descriptor 0x001) 0x001 0x80
   -- the code's foreground becomes blue
   pub code : Seen (ButCell Role.code 0x010) 0x010 0x90
+  -- the same byte, fed in a capture
+  pub fed-code : SameRuns (calls font) (ready 0x010) (feed (1 ∷ 0x90 ∷ []) (0 ∷ 0 ∷ []) ∷ draw buffer ∷ []) → ⊥
   -- PX11 to PX8 of the user character's slice 1 become background
   pub slice : Seen (ButCell Role.slice 0x0C1) 0x0C1 0x00
