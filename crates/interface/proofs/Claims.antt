@@ -1,12 +1,17 @@
 -- The claims of specs/, each with its proof.
 -- Assumes nothing.
+use Rattle.interface.specs.Cuts.{AnyCutBytes}
 use Rattle.interface.specs.Interface.{Crossing}
 use Rattle.interface.specs.OnePage.{OnePageBytes, NoStaysBytes}
 use Rattle.interface.proofs.Crossing as interface
+use Rattle.interface.proofs.Cuts as cuts
 use Rattle.interface.proofs.OnePage as page
 
 pub crossing : Crossing
 crossing = interface.crossing
+
+pub any-cut-bytes : AnyCutBytes
+any-cut-bytes = cuts.any-cut-bytes
 
 pub one-page-bytes : OnePageBytes
 one-page-bytes = page.one-page-bytes

@@ -1,17 +1,19 @@
 -- What the bytes hold after a call is read as the record that the device's function leaves.
 -- Assumes nothing.
-use Prim.Native.Nat.{ℕ, _-_, _≤_}
+use Prim.Native.Nat.{ℕ, _%_, _≤_}
 use mathlib.Core.Path.{_≡_, refl, sym, ap, _∙_}
 use mathlib.Core.Bool.{Bool, true, false, not, cond, _&&_}
-use mathlib.Core.List.{List}
+use mathlib.Core.List.{List, [], _∷_, _++_}
 use native.Mathlib.Omega.{arith}
-use borrow.Author.Tests.{eq-eqb, ne-eqb, le-ltb, eqb-true, not-false}
+use borrow.Author.Tests.{eq-eqb, ne-eqb, le-ltb, eqb-true, ltb-false, not-false}
 use lib.Dec.{T, eqb, ltb}
-use lib.ListN.{length, set, length-append, length-set, length-take, length-drop}
+use lib.ListN.{length, drop, set, length-append, length-set, length-take, length-drop}
 use lib.Seq.{length-sets}
 use Rattle.facts.proofs.Choice.{either}
+use Rattle.runs.specs.Runs.{end, AsMade}
+use Rattle.runs.proofs.Laws.{kept-by-each, end-read, log-read}
 use Rattle.cells.specs.Reading.{value}
-use Rattle.refusals.specs.Refusals.{numberOf, refused}
+use Rattle.refusals.specs.Refusals.{numberOf, refused, Verdict, passed, failed}
 use Rattle.refusals.specs.declared.Refusal.{Refusal}
 use Rattle.refusals.specs.declared.Refusal.the-variants.{RamLength, NotAcknowledged}
 use Rattle.refusals.proofs.Laws.{not-zero}
@@ -31,10 +33,15 @@ use Rattle.line.proofs.Laws.{paint-length}
 use Rattle.device.specs.declared.Device.{Device}
 use Rattle.device.specs.Device.{freshDevice, EventOutcome, hearEvent, StartOutcome, inFrame, startFrame, DrawOutcome, notDrawn, nextScan, pixelsOf, lineOn, lineWidth, lineDrawn, drawLine}
 use Rattle.device.proofs.Laws.{by-start, by-draw}
+use Rattle.capture.specs.declared.Feed.{Feed}
+use Rattle.capture.specs.declared.Feed.the-variants.{Open, Half, Shut}
+use Rattle.capture.specs.Capture.{Logged, freshFeed, badKind, finished, feedAfter, outputs, outputFrom, Chip, chip, busEvents, takenReply, FeedOutcome, chunkFed, feedBy, feedChunk}
+use Rattle.capture.proofs.Laws.{held-one, output-room, by-verdict, taken-value}
 use Rattle.layout.specs.Layout.{busAt, registersAt, registersLength, nextAt, frameAt, recordLength, put, stateNumber, busBytes, nextBytes, frameBytes, deviceIn}
-use Rattle.layout.proofs.Laws.{withBus, withRegisters, read-back, event-back, deaf-back, draw-back, start-back}
-use Rattle.interface.specs.Interface.{answerOf, notTaken, isRecord, Done, freshOn, BusDone, ignoredOn, heardOn, busOn, startedOn, startOn, DrawDone, drawnOn, drawOn, Crossing}
-use Rattle.interface.proofs.Laws.{if-taken, ignored-same, fresh-not, bus-is, bus-not-record, bus-not-kind, start-not, draw-not, cell-not, cell-is}
+use Rattle.layout.specs.FeedLayout.{feedLength, feedIn}
+use Rattle.layout.proofs.Laws.{withBus, withRegisters, read-back, event-back, deaf-back, draw-back, start-back, feed-back}
+use Rattle.interface.specs.Interface.{answerOf, notTaken, isRecord, Done, freshOn, BusDone, ignoredOn, heardOn, busOn, startedOn, startOn, DrawDone, drawnOn, drawOn, isFeed, chunkMax, FeedMade, feedFreshOn, ChipBytes, busCalls, FeedDone, chunkFedOn, fedOnBy, verdictOn, rightLengths, feedOn, notFedOn, Crossing}
+use Rattle.interface.proofs.Laws.{if-taken, ignored-same, fresh-not, bus-is, bus-not-record, bus-not-kind, start-not, draw-not, cell-not, feed-fresh-not, feed-not, cell-is, feed-tests, feed-is}
 
 -- ---- an event that is not acknowledged
 
@@ -303,6 +310,147 @@ fresh-read : (xs : List ℕ) → length xs ≡ recordLength → (deviceIn (fresh
 unfolding freshOn freshDevice
 fresh-read xs h = rw (eq-eqb _ _ h) (read-back freshDevice refl, refl)
 
+-- ---- a feed
+
+feed-fresh-read : (fs : List ℕ) → length fs ≡ feedLength → (feedIn (feedFreshOn fs .feed) ≡ freshFeed) × (feedFreshOn fs .answer ≡ 0)
+unfolding feedFreshOn
+feed-fresh-read fs h = rw (eq-eqb _ _ h) (refl, refl)
+
+feed-fresh-length : (fs : List ℕ) → length (feedFreshOn fs .feed) ≡ length fs
+unfolding feedFreshOn
+feed-fresh-length fs = if-taken (λ (r : FeedMade). length (r .feed) ≡ length fs) (isFeed fs) _ _ (λ e. sym (eqb-true _ _ e)) refl
+
+-- what is lent, read as the device and its RAM
+abbrev pub readLent : ChipBytes → Chip
+readLent l = chip (deviceIn (l .device)) (l .ram)
+
+-- a fed event that a bus call takes
+abbrev pub Taken : ChipBytes → Logged → Type 0
+Taken l x = (length (l .device) ≡ recordLength) × (x .kind ≤ 3)
+
+-- it leaves what the device's event leaves
+pub taken-back : (l : ChipBytes) (x : Logged) → Taken l x → readLent (busCalls .after l x) ≡ busEvents .after (readLent l) x
+taken-back l x t =
+    λ i.
+    chip
+    (cross-bus (l .device) (l .ram) (x .kind) (x .byte) (t .0) (t .1) i)
+    (bus-rest (l .device) (l .ram) (x .kind) (x .byte) (t .0) (t .1) .0 i)
+
+-- all events that a chunk finishes are taken: their kinds are good, and the record keeps its length
+pub all-taken : (f : Feed) (chunk : List ℕ) (l : ChipBytes) → length (l .device) ≡ recordLength → AsMade Taken busCalls l (finished f chunk)
+unfolding finished AsMade
+all-taken f [] l h = tt
+all-taken Open (kind ∷ more) l h = all-taken (Half kind) more l h
+all-taken Shut (x ∷ more) l h = tt
+all-taken (Half kind) (x ∷ more) l h = by (badKind kind) refl (all-taken Open more (busCalls .after l e) (bus-length (l .device) (l .ram) kind x .0 ∙ h))
+  where
+    e : Logged
+    e = record { kind = kind; byte = x }
+
+    by : (b : Bool) → badKind kind ≡ b → AsMade Taken busCalls (busCalls .after l e) (finished Open more)
+        → AsMade Taken busCalls l (cond b [] (e ∷ finished Open more))
+    by true p k = tt
+    by false p k = ((h, ltb-false _ _ p), k)
+
+-- no more bytes are written than a value can count, so the answer's value is their number
+module _ (l : ChipBytes) (f : Feed) (chunk : List ℕ) (h : length chunk ≤ chunkMax) where
+  abbrev written : List ℕ
+  written = outputFrom busCalls l (finished f chunk)
+
+  written-most : length written ≤ chunkMax
+  written-most = omega (arith, output-room busCalls l f chunk, held-one f)
+
+  pub written-value : answerOf (takenReply (feedAfter f chunk) (length written)) % 65536 ≡ length written
+  written-value = omega (arith, written-most, taken-value (feedAfter f chunk) (length written))
+
+module _ (xs fs ram chunk out : List ℕ) where
+  abbrev lent : ChipBytes
+  lent = record { device = xs; ram = ram }
+
+  abbrev made : List Logged
+  made = finished (feedIn fs) chunk
+
+  abbrev Crossed : FeedDone → FeedOutcome → Type 0
+  Crossed r o =
+      (deviceIn (r .device) ≡ o .chip .device) × (feedIn (r .feed) ≡ o .feed) × (r .ram ≡ o .chip .ram) × (r .out ≡ o .out)
+      × (r .answer ≡ answerOf (o .reply))
+
+  -- every buffer keeps its length
+  abbrev Kept : FeedDone → Type 0
+  Kept r = Long xs (r .device) × Long fs (r .feed) × Long ram (r .ram) × Long out (r .out)
+
+  module _ (h : length xs ≡ recordLength) where
+    all-made : AsMade Taken busCalls lent made
+    all-made = all-taken (feedIn fs) chunk lent h
+
+    -- the chunk's events leave the same on the bytes, and write the same
+    same-end : readLent (end busCalls lent made) ≡ end busEvents (readLent lent) made
+    same-end = end-read Taken busCalls busEvents readLent taken-back lent made all-made
+
+    same-written : outputFrom busCalls lent made ≡ outputFrom busEvents (readLent lent) made
+    same-written = ap outputs (log-read Taken busCalls busEvents readLent taken-back (λ l x. refl) lent made all-made)
+
+    made-length : Long xs (end busCalls lent made .device) × Long ram (end busCalls lent made .ram)
+    made-length =
+        kept-by-each Taken busCalls (λ (u : ChipBytes). Long xs (u .device) × Long ram (u .ram))
+        (λ u x t i. let b = bus-length (u .device) (u .ram) (x .kind) (x .byte) in (b .0 ∙ i .0, b .1 ∙ i .1))
+        lent made all-made (refl, refl)
+
+    fed-back : (v : Verdict) → Crossed (fedOnBy v xs fs ram chunk out) (feedBy v (readLent lent) (feedIn fs) chunk out)
+    unfolding fedOnBy chunkFedOn feedBy chunkFed
+    fed-back passed = (
+      ap (λ (c : Chip). c .device) same-end,
+      feed-back (feedAfter (feedIn fs) chunk),
+      ap (λ (c : Chip). c .ram) same-end,
+      ap (λ (w : List ℕ). w ++ drop (length w) out) same-written,
+      ap (λ (w : List ℕ). answerOf (takenReply (feedAfter (feedIn fs) chunk) (length w))) same-written,
+    )
+    fed-back (failed r) = (refl, refl, refl, refl, refl)
+
+    feed-whole : length fs ≡ feedLength → length chunk ≤ chunkMax
+        → Crossed (feedOn xs fs ram chunk out) (feedChunk (readLent lent) (feedIn fs) chunk out)
+    unfolding feedChunk
+    feed-whole k l = rw (← (feed-is xs h fs ram chunk out k l)) (fed-back (verdictOn fs ram chunk out))
+
+    fed-kept : length fs ≡ feedLength → length chunk ≤ chunkMax → Kept (fedOnBy (verdictOn fs ram chunk out) xs fs ram chunk out)
+    unfolding fedOnBy chunkFedOn
+    fed-kept k l =
+        by-verdict (λ (v : Verdict). Kept (fedOnBy v xs fs ram chunk out)) (feedIn fs) (length ram) (length chunk) (length out)
+        (refl, refl, refl, refl)
+        (λ shut. (refl, refl, refl, refl))
+        (refl, refl, refl, refl)
+        (λ takes. (made-length .0, sym k, made-length .1, simp (length-append, length-drop) (omega (arith, takes .room, output-room busCalls lent (feedIn fs) chunk))))
+
+  feed-kept : Kept (feedOn xs fs ram chunk out)
+  unfolding feedOn
+  feed-kept =
+      if-taken Kept (rightLengths xs fs chunk) _ _
+      (λ t. let p = feed-tests xs fs chunk t in fed-kept (p .0) (p .1) (p .2))
+      (refl, refl, refl, refl)
+
+  -- what the tests refuse
+  feed-silence : (r : Refusal) → length xs ≡ recordLength → length fs ≡ feedLength → length chunk ≤ chunkMax → verdictOn fs ram chunk out ≡ failed r
+      → feedOn xs fs ram chunk out ≡ notFedOn xs fs ram out (answerOf (refused r))
+  unfolding fedOnBy
+  feed-silence r h k l v = sym (feed-is xs h fs ram chunk out k l) ∙ ap (λ (w : Verdict). fedOnBy w xs fs ram chunk out) v
+
+  -- the value has 16 bits
+  value-most : length chunk ≤ chunkMax → feedChunk (chip (deviceIn xs) ram) (feedIn fs) chunk out .reply .value ≤ chunkMax
+  unfolding feedChunk feedBy chunkFed
+  value-most h =
+      let c : Chip = chip (deviceIn xs) ram in
+      by-verdict (λ (v : Verdict). feedBy v c (feedIn fs) chunk out .reply .value ≤ chunkMax) (feedIn fs) (length ram) (length chunk) (length out)
+      (omega arith) (λ shut. omega arith) (omega arith)
+      (λ takes.
+      omega (
+        arith,
+        taken-value (feedAfter (feedIn fs) chunk) (length (outputFrom busEvents c (finished (feedIn fs) chunk))),
+        output-room busEvents c (feedIn fs) chunk,
+        held-one (feedIn fs),
+      ))
+
+-- ---- the claim
+
 pub crossing : Crossing
 crossing =
     record {
@@ -311,6 +459,8 @@ crossing =
       start = start-whole;
       draw = draw-whole;
       cell = λ xs ram c h. sym (cell-is xs h ram c);
+      feed-fresh = feed-fresh-read;
+      feed = feed-whole;
       not-taken = λ xs ram font line kind byte lines c h. (
         sym (fresh-not xs h),
         sym (bus-not-record xs ram kind byte h),
@@ -318,13 +468,19 @@ crossing =
         sym (draw-not xs ram font line h),
         sym (cell-not xs ram c h),
       );
+      feed-not-taken = λ xs fs ram chunk out h. sym (feed-not xs fs ram chunk out h);
+      feed-not-made = λ fs h. sym (feed-fresh-not fs h);
       no-kind = λ xs ram kind byte k. sym (bus-not-kind xs ram kind byte k);
       length-fresh = fresh-length;
       length-bus = bus-length;
       length-start = start-length;
       length-draw = draw-length;
+      length-feed-fresh = feed-fresh-length;
+      length-feed = feed-kept;
+      value-feed = value-most;
       silent-start = start-silence;
       silent-draw = draw-silence;
       silent-bus = silence;
+      silent-feed = feed-silence;
       deaf = deafness;
     }

@@ -2,10 +2,10 @@
 -- Assumes nothing.
 use Prim.Native.Nat.{ℕ, _≤_, _<_}
 use mathlib.Core.Path.{_≡_, refl, sym, ap, _∙_}
-use mathlib.Core.Bool.{Bool, true, false, not, cond, _&&_, and-false, true≢false}
+use mathlib.Core.Bool.{Bool, true, false, not, cond, _&&_, and-false, and-eq-true-iff}
 use mathlib.Core.List.{List}
 use native.Mathlib.Omega.{arith}
-use borrow.Author.Tests.{eq-eqb, ne-eqb, lt-ltb, le-ltb, eqb-true, ltb-false}
+use borrow.Author.Tests.{eq-eqb, ne-eqb, lt-ltb, le-ltb, eqb-true, ltb-false, not-true}
 use lib.Dec.{eqb, ltb}
 use lib.ListN.{length, getD, set}
 use lib.Seq.{set-getD}
@@ -13,23 +13,28 @@ use Rattle.facts.proofs.Parts.{getD-part}
 use Rattle.bus.specs.Bus.{eventOf, busEvent}
 use Rattle.device.specs.Device.{hearEvent, startFrame, drawLine, askCell}
 use Rattle.layout.specs.Layout.{busAt, busLength, recordLength, part, stateNumber, deviceIn}
+use Rattle.layout.specs.FeedLayout.{feedLength}
 use Rattle.layout.proofs.Laws.{numbered}
 use Rattle.interface.specs.Interface as face
-use Rattle.interface.specs.Interface.{answerOf, notTaken, isRecord, freshOn, ignoredOn, heardOn, busOn, startedOn, startOn, drawnOn, drawOn, cellOn}
+use Rattle.interface.specs.Interface.{answerOf, notTaken, isRecord, freshOn, ignoredOn, heardOn, busOn, startedOn, startOn, drawnOn, drawOn, cellOn, isFeed, chunkMax, feedFreshOn, notFedOn, fedOnBy, verdictOn, rightLengths, feedOn}
 
 -- what holds of a call that the interface's own tests let through, and of one that they do not, holds of the call
 pub if-taken : {A : Type 0} (P : A → Type 0) (t : Bool) (x y : A) → (t ≡ true → P x) → P y → P (cond t x y)
 if-taken P true x y h k = h refl
 if-taken P false x y h k = k
 
--- those of a bus call: the record's length and the kind
-pub both-tests : (n kind : ℕ) → eqb n recordLength && not (ltb 3 kind) ≡ true → (n ≡ recordLength) × (kind ≤ 3)
-both-tests n kind = by (eqb n recordLength) (ltb 3 kind) refl refl
-  where
-    by : (p q : Bool) → eqb n recordLength ≡ p → ltb 3 kind ≡ q → p && not q ≡ true → (n ≡ recordLength) × (kind ≤ 3)
-    by true true a b t = absurd (true≢false (sym t))
-    by true false a b t = (eqb-true _ _ a, ltb-false _ _ b)
-    by false q a b t = absurd (true≢false (sym t))
+-- two tests that pass: a length, and a number that is not too large
+pub both-tests : (n m k most : ℕ) → eqb n m && not (ltb most k) ≡ true → (n ≡ m) × (k ≤ most)
+both-tests n m k most t =
+    let p = and-eq-true-iff (eqb n m) (not (ltb most k)) .0 t in
+    (eqb-true _ _ (p .0), ltb-false _ _ (not-true _ (p .1)))
+
+-- those of a feed: the lengths of both records and of the chunk
+pub feed-tests : (xs fs chunk : List ℕ) → rightLengths xs fs chunk ≡ true → (length xs ≡ recordLength) × (length fs ≡ feedLength) × (length chunk ≤ chunkMax)
+feed-tests xs fs chunk t =
+    let p = and-eq-true-iff (isRecord xs) (isFeed fs && not (ltb chunkMax (length chunk))) .0 t in
+    let q = both-tests (length fs) feedLength (length chunk) chunkMax (p .1) in
+    (eqb-true _ _ (p .0), q .0, q .1)
 
 -- ---- calls that the interface refuses
 
@@ -49,6 +54,17 @@ draw-not xs ram font line h = rw (ne-eqb _ _ h)
 pub cell-not : (xs ram : List ℕ) (cell : ℕ) → (length xs ≡ recordLength → ⊥) → notTaken ≡ cellOn xs ram cell
 unfolding cellOn
 cell-not xs ram cell h = rw (ne-eqb _ _ h)
+
+pub feed-fresh-not : (fs : List ℕ) → (length fs ≡ feedLength → ⊥) → _≡_ {A = face.FeedMade} (record { feed = fs; answer = notTaken }) (feedFreshOn fs)
+unfolding feedFreshOn
+feed-fresh-not fs h = rw (ne-eqb _ _ h)
+
+pub feed-not : (xs fs ram chunk out : List ℕ) → (length xs ≡ recordLength → length fs ≡ feedLength → length chunk ≤ chunkMax → ⊥)
+    → notFedOn xs fs ram out notTaken ≡ feedOn xs fs ram chunk out
+unfolding feedOn
+feed-not xs fs ram chunk out h =
+    if-taken (λ (r : face.FeedDone). notFedOn xs fs ram out notTaken ≡ r) (rightLengths xs fs chunk) _ _
+    (λ t. let p = feed-tests xs fs chunk t in absurd (h (p .0) (p .1) (p .2))) refl
 
 -- ---- an event that is not acknowledged
 
@@ -97,3 +113,8 @@ module _ (xs : List ℕ) (h : length xs ≡ recordLength) where
   pub cell-is : (ram : List ℕ) (cell : ℕ) → answerOf (askCell (deviceIn xs) ram cell) ≡ cellOn xs ram cell
   unfolding cellOn
   cell-is ram cell = rw (eq-eqb _ _ h)
+
+  pub feed-is : (fs ram chunk out : List ℕ) → length fs ≡ feedLength → length chunk ≤ chunkMax
+      → fedOnBy (verdictOn fs ram chunk out) xs fs ram chunk out ≡ feedOn xs fs ram chunk out
+  unfolding feedOn
+  feed-is fs ram chunk out k l = rw (eq-eqb _ _ h, eq-eqb _ _ k, le-ltb _ _ l)

@@ -1,4 +1,5 @@
 pub mod Claims
 pub mod Crossing
+pub mod Cuts
 pub mod Laws
 pub mod OnePage

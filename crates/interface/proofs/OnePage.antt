@@ -1,95 +1,123 @@
 -- The proof of condition 3 over bytes (specs/OnePage.antt). A call that is taken answers and leaves what the device's call does, on the
--- record that the bytes are read as; one that is not taken changes nothing. And a bus call writes other bytes than a draw does.
+-- records that the bytes are read as; one that is not taken changes nothing. And a bus call writes other bytes than a draw does, and so
+-- do the events of a feed.
 -- Assumes nothing.
 use Prim.Native.Nat.{ℕ, _≤_}
 use mathlib.Core.Path.{_≡_, refl, sym, ap, ap₂, _∙_, subst}
 use mathlib.Core.Bool.{Bool, true, false, not, cond, _&&_, true≢false}
-use mathlib.Core.List.{List, [], _∷_}
+use mathlib.Core.List.{List, [], _∷_, map}
 use native.Mathlib.Omega.{arith}
 use borrow.Author.Tests.{eq-eqb, eqb-true}
 use lib.Dec.{eqb, ltb}
 use lib.ListN.{length, set}
 use Rattle.runs.specs.Runs.{AsMade}
-use Rattle.runs.proofs.Laws.{as-made-map, kept-by-each, Apart, reordered}
+use Rattle.runs.proofs.Laws.{as-made-map, kept-by-each, end-read, Apart, reordered}
 use Rattle.cells.specs.Reading.{Alike}
-use Rattle.refusals.specs.Refusals.{Reply, accepted}
+use Rattle.refusals.specs.Refusals.{Reply, accepted, Verdict, passed, failed}
 use Rattle.registers.specs.Registers.{settingsOf}
 use Rattle.bus.specs.Bus.{eventOf, BusOutcome, busEvent}
 use Rattle.device.specs.declared.Device.{Device}
 use Rattle.device.specs.Device.{hearEvent, DrawOutcome, drawLine, lineOn, lineDrawn, cellsLeft, askCell}
 use Rattle.device.proofs.Laws.{by-draw}
+use Rattle.capture.specs.declared.Feed.{Feed}
+use Rattle.capture.specs.Capture.{Logged, finished, feedAfter, Chip, eventsBy}
 use Rattle.calls.specs.OnePage as device
-use Rattle.calls.specs.Use.{EventQuiet}
+use Rattle.calls.specs.Use.{EventQuiet, AllQuiet}
 use Rattle.calls.proofs.Quiet.{quiet-if-write}
 use Rattle.calls.proofs.OnePage.{late, same-draw, apart, still-unread}
 use Rattle.layout.specs.Layout.{busAt, registersAt, registersLength, frameAt, recordLength, put, stateNumber, busBytes, frameBytes, deviceIn}
+use Rattle.layout.specs.FeedLayout.{feedLength, feedBytes, feedIn}
 use Rattle.facts.proofs.Parts.{sets-comm}
-use Rattle.interface.specs.Interface.{answerOf, notTaken, BusDone, heardOn, busOn, DrawDone, drawnOn, drawOn, cellOn}
-use Rattle.interface.specs.OnePage.{Call, draw, cell, bus, State, Answer, drawn, asked, heard, answer, after, isEvent, calls, Quiet, QuietCall, QuietRun, OnePageBytes, NoStaysBytes}
-use Rattle.interface.proofs.Laws.{both-tests, bus-is, draw-is}
-use Rattle.interface.proofs.Crossing.{heard-sixteen, crossing}
+use Rattle.interface.specs.Interface.{answerOf, notTaken, BusDone, heardOn, busOn, DrawDone, drawnOn, drawOn, cellOn, feedFreshOn, chunkMax, ChipBytes, busCalls, FeedDone, chunkFedOn, fedOnBy, verdictOn, feedOn, fedEventsOn}
+use Rattle.interface.specs.OnePage.{Call, draw, cell, bus, feed, anew, State, Answer, drawn, asked, heard, fed, renewed, answer, after, isEvent, calls, Quiet, QuietWrite, fedCall, QuietCall, QuietRun, OnePageBytes, NoStaysBytes}
+use Rattle.interface.proofs.Laws.{both-tests, feed-tests, bus-is, draw-is}
+use Rattle.interface.proofs.Crossing.{heard-sixteen, Taken, taken-back, all-taken, crossing}
 
 -- ---- calls that are taken
 
--- by the length of the record's buffer: what is not taken is refused with 255
-taken : ℕ → Call → Bool
-taken n (draw line) = eqb n recordLength
-taken n (cell c) = eqb n recordLength
-taken n (bus kind byte) = eqb n recordLength && not (ltb 3 kind)
+-- by the lengths of the two records' buffers: what is not taken is refused with 255
+taken : ℕ → ℕ → Call → Bool
+taken n k (draw line) = eqb n recordLength
+taken n k (cell c) = eqb n recordLength
+taken n k (bus kind byte) = eqb n recordLength && not (ltb 3 kind)
+taken n k (feed chunk out) = eqb n recordLength && (eqb k feedLength && not (ltb chunkMax (length chunk)))
+taken n k anew = eqb k feedLength
 
 abbrev takenAt : State → Call → Bool
-takenAt s c = taken (length (s .device)) c
+takenAt s c = taken (length (s .device)) (length (s .feed)) c
 
 bus-taken : (s : State) (kind byte : ℕ) → takenAt s (bus kind byte) ≡ true → (length (s .device) ≡ recordLength) × (kind ≤ 3)
 unfolding taken
-bus-taken s kind byte t = both-tests (length (s .device)) kind t
+bus-taken s kind byte t = both-tests (length (s .device)) recordLength kind 3 t
 
-taken-length : (s : State) (c : Call) → takenAt s c ≡ true → length (s .device) ≡ recordLength
+feed-taken : (s : State) (chunk out : List ℕ) → takenAt s (feed chunk out) ≡ true
+    → (length (s .device) ≡ recordLength) × (length (s .feed) ≡ feedLength) × (length chunk ≤ chunkMax)
 unfolding taken
-taken-length s (draw line) t = eqb-true _ _ t
-taken-length s (cell c) t = eqb-true _ _ t
-taken-length s (bus kind byte) t = bus-taken s kind byte t .0
+feed-taken s chunk out t = feed-tests (s .device) (s .feed) chunk t
 
--- the record's buffer keeps its length, so what is taken stays so
-same-length : (font : List ℕ) (s : State) (c : Call) → length (after font s c .device) ≡ length (s .device)
+-- the buffers keep their lengths, so what is taken stays so
+same-length : (font : List ℕ) (s : State) (c : Call)
+    → (length (after font s c .device) ≡ length (s .device)) × (length (after font s c .feed) ≡ length (s .feed))
 unfolding after
-same-length font s (draw line) = crossing .length-draw (s .device) (s .ram) font line .0
-same-length font s (cell c) = refl
-same-length font s (bus kind byte) = crossing .length-bus (s .device) (s .ram) kind byte .0
+same-length font s (draw line) = (crossing .length-draw (s .device) (s .ram) font line .0, refl)
+same-length font s (cell c) = (refl, refl)
+same-length font s (bus kind byte) = (crossing .length-bus (s .device) (s .ram) kind byte .0, refl)
+same-length font s (feed chunk out) = let l = crossing .length-feed (s .device) (s .feed) (s .ram) chunk out in (l .0, l .1)
+same-length font s anew = (refl, crossing .length-feed-fresh (s .feed))
 
 still-taken : (font : List ℕ) (s : State) (c d : Call) → takenAt (after font s c) d ≡ takenAt s d
-still-taken font s c d = ap (λ (n : ℕ). taken n d) (same-length font s c)
+still-taken font s c d = let l = same-length font s c in ap₂ (λ (n k : ℕ). taken n k d) (l .0) (l .1)
 
 -- a call that is not taken changes nothing
 unanswered : Call → Answer
 unanswered (draw line) = drawn notTaken line
 unanswered (cell c) = asked notTaken
 unanswered (bus kind byte) = heard notTaken
+unanswered (feed chunk out) = fed notTaken out
+unanswered anew = renewed notTaken
 
 record Untouched (font : List ℕ) (s : State) (c : Call) : Type 0 where
   state : after font s c ≡ s
   answers : answer font s c ≡ unanswered c
 
 untouched : (font : List ℕ) (s : State) (c : Call) → takenAt s c ≡ false → Untouched font s c
-unfolding taken unanswered answer after drawOn cellOn busOn
+unfolding taken unanswered answer after drawOn cellOn busOn feedOn feedFreshOn
 untouched font s (draw line) t = record { state = rw t; answers = rw t }
 untouched font s (cell c) t = record { state = refl; answers = rw t }
 untouched font s (bus kind byte) t = record { state = rw t; answers = rw t }
+untouched font s (feed chunk out) t = record { state = rw t; answers = rw t }
+untouched font s anew t = record { state = rw t; answers = rw t }
 
 -- ---- a call that is taken is the device's call
 
+-- the device's state that bytes and a feed are read as
+abbrev readAs : Feed → ChipBytes → device.State
+readAs f l = record { device = deviceIn (l .device); ram = l .ram; feed = f }
+
+abbrev lentIn : State → ChipBytes
+lentIn s = record { device = s .device; ram = s .ram }
+
 reads : State → device.State
-reads s = record { device = deviceIn (s .device); ram = s .ram }
+reads s = readAs (feedIn (s .feed)) (lentIn s)
 
 made : Call → device.Call
 made (draw line) = device.draw line
 made (cell c) = device.ask c
 made (bus kind byte) = device.event (eventOf kind byte)
+made (feed chunk out) = device.feed chunk out
+made anew = device.anew
 
 shown : device.Answer → Answer
 shown (device.drawn r line) = drawn (answerOf r) line
 shown (device.asked r) = asked (answerOf r)
 shown (device.heard r) = heard (answerOf r)
+shown (device.fed r out) = fed (answerOf r) out
+shown device.renewed = renewed 0
+
+-- a bus call that is taken leaves what the device's event leaves
+event-read : (font : List ℕ) (s : State) (x : Logged) → Taken (lentIn s) x → reads (after font s (fedCall x)) ≡ device.after font (reads s) (device.fedCall x)
+unfolding reads after device.after
+event-read font s x t = ap (λ (c : Chip). record { device = c .device; ram = c .ram; feed = feedIn (s .feed) }) (taken-back (lentIn s) x t)
 
 record Carried (font : List ℕ) (s : State) (c : Call) : Type 0 where
   state : reads (after font s c) ≡ device.after font (reads s) (made c)
@@ -99,48 +127,75 @@ carried : (font : List ℕ) (s : State) (c : Call) → takenAt s c ≡ true → 
 unfolding taken reads made shown answer after device.answer device.after
 carried font s (draw line) t =
     let d = crossing .draw (s .device) (s .ram) font line (eqb-true _ _ t) in
-    record { state = λ i. record { device = d .0 i; ram = s .ram }; answers = λ i. drawn (d .2 i) (d .1 i) }
+    record { state = λ i. record { device = d .0 i; ram = s .ram; feed = feedIn (s .feed) }; answers = λ i. drawn (d .2 i) (d .1 i) }
 carried font s (cell c) t = record { state = refl; answers = ap asked (crossing .cell (s .device) (s .ram) c (eqb-true _ _ t)) }
 carried font s (bus kind byte) t =
     let h = bus-taken s kind byte t in
-    let b = crossing .bus (s .device) (s .ram) kind byte (h .0) (h .1) in
-    record { state = λ i. record { device = b .0 i; ram = b .1 i }; answers = ap heard (b .2) }
+    record {
+      state = event-read font s (record { kind = kind; byte = byte }) h;
+      answers = ap heard (crossing .bus (s .device) (s .ram) kind byte (h .0) (h .1) .2);
+    }
+carried font s (feed chunk out) t =
+    let h = feed-taken s chunk out t in
+    let f = crossing .feed (s .device) (s .feed) (s .ram) chunk out (h .0) (h .1) (h .2) in
+    record { state = λ i. record { device = f .0 i; ram = f .2 i; feed = f .1 i }; answers = λ i. fed (f .4 i) (f .3 i) }
+carried font s anew t =
+    let f = crossing .feed-fresh (s .feed) (eqb-true _ _ t) in
+    record { state = λ i. record { device = deviceIn (s .device); ram = s .ram; feed = f .0 i }; answers = ap renewed (f .1) }
 
 -- one after another
-record Twice (font : List ℕ) (s : State) (c d : Call) : Type 0 where
-  state : reads (after font (after font s c) d) ≡ device.after font (device.after font (reads s) (made c)) (made d)
-  answers : answer font (after font s c) d ≡ shown (device.answer font (device.after font (reads s) (made c)) (made d))
-
-twice : (font : List ℕ) (s : State) (c d : Call) → takenAt s c ≡ true → takenAt s d ≡ true → Twice font s c d
+twice : (font : List ℕ) (s : State) (c d : Call) → takenAt s c ≡ true → takenAt s d ≡ true
+    → answer font (after font s c) d ≡ shown (device.answer font (device.after font (reads s) (made c)) (made d))
 twice font s c d t u =
-    let first : Carried font s c = carried font s c t in
-    let next : Carried font (after font s c) d = carried font (after font s c) d (still-taken font s c d ∙ u) in
-    record {
-      state = next .state ∙ ap (λ (v : device.State). device.after font v (made d)) (first .state);
-      answers = next .answers ∙ ap (λ (v : device.State). shown (device.answer font v (made d))) (first .state);
-    }
+    carried font (after font s c) d (still-taken font s c d ∙ u) .answers
+    ∙ ap (λ (v : device.State). shown (device.answer font v (made d))) (carried font s c t .state)
 
 -- ---- quiet, of the device's events
 
-QuietTaken : State → Call → Type 0
-QuietTaken s c = takenAt s c ≡ true → EventQuiet (reads s) (made c)
+QuietTaken : List ℕ → State → Call → Type 0
+QuietTaken font s c = takenAt s c ≡ true → AllQuiet font (reads s) (made c)
 
-quiet-taken : (s : State) (c : Call) → QuietCall s c → QuietTaken s c
-unfolding QuietCall QuietTaken EventQuiet made reads
-quiet-taken s (draw line) h t = tt
-quiet-taken s (cell c) h t = tt
-quiet-taken s (bus kind byte) h t =
-    let l = bus-taken s kind byte t in
-    let b = crossing .bus (s .device) (s .ram) kind byte (l .0) (l .1) in
-    quiet-if-write (reads s) (eventOf kind byte) (λ w.
-    let q : Quiet s kind byte = h (l .0, l .1, w) in
+-- a bus call that is taken
+event-quiet : (s : State) (x : Logged) → Taken (lentIn s) x → QuietWrite s (fedCall x) → EventQuiet (reads s) (device.fedCall x)
+unfolding QuietWrite EventQuiet reads
+event-quiet s x t h =
+    let b = crossing .bus (s .device) (s .ram) (x .kind) (x .byte) (t .0) (t .1) in
+    quiet-if-write (reads s) (eventOf (x .kind) (x .byte)) (λ w.
+    let q : Quiet s (x .kind) (x .byte) = h (t .0, t .1, w) in
     record {
       cells = subst (Alike (cellsLeft (deviceIn (s .device)) (s .ram)) (s .ram)) (b .1) (q .cells);
       settings = sym (ap (λ (d : Device). settingsOf (d .registers)) (b .0)) ∙ q .settings;
     })
 
-quiet-run : (font : List ℕ) (s : State) (cs : List Call) → QuietRun font s cs → AsMade QuietTaken (calls font) s cs
-quiet-run font s cs q = as-made-map QuietCall QuietTaken (calls font) quiet-taken s cs q
+-- the events of a feed, as they are made
+QuietEvents : List ℕ → List Logged → device.State → Type 0
+QuietEvents font es s = AsMade EventQuiet (device.calls font) s (map device.fedCall es)
+
+events-quiet : (font : List ℕ) (s : State) (es : List Logged) → AsMade Taken busCalls (lentIn s) es → AsMade QuietWrite (calls font) s (map fedCall es)
+    → QuietEvents font es (reads s)
+unfolding AsMade after QuietEvents
+events-quiet font s [] t h = tt
+events-quiet font s (x ∷ es) t h =
+    (event-quiet s x (t .0) (h .0), subst (QuietEvents font es) (event-read font s x (t .0)) (events-quiet font (after font s (fedCall x)) es (t .1) (h .1)))
+
+-- the events that a feed makes are taken, whatever its tests find
+made-taken : (v : Verdict) (f : Feed) (chunk : List ℕ) (l : ChipBytes) → length (l .device) ≡ recordLength → AsMade Taken busCalls l (eventsBy v f chunk)
+unfolding eventsBy AsMade
+made-taken passed f chunk l h = all-taken f chunk l h
+made-taken (failed r) f chunk l h = tt
+
+quiet-taken : (font : List ℕ) (s : State) (c : Call) → QuietCall font s c → QuietTaken font s c
+unfolding QuietCall QuietTaken AllQuiet QuietEvents made reads fedEventsOn taken
+quiet-taken font s (draw line) h t = tt
+quiet-taken font s (cell c) h t = tt
+quiet-taken font s (bus kind byte) h t = event-quiet s (record { kind = kind; byte = byte }) (bus-taken s kind byte t) h
+quiet-taken font s anew h t = tt
+quiet-taken font s (feed chunk out) h t =
+    events-quiet font s (eventsBy (verdictOn (s .feed) (s .ram) chunk out) (feedIn (s .feed)) chunk)
+    (made-taken (verdictOn (s .feed) (s .ram) chunk out) (feedIn (s .feed)) chunk (lentIn s) (feed-taken s chunk out t .0)) (rw t at h)
+
+quiet-run : (font : List ℕ) (s : State) (cs : List Call) → QuietRun font s cs → AsMade (QuietTaken font) (calls font) s cs
+quiet-run font s cs q = as-made-map (QuietCall font) (QuietTaken font) (calls font) (quiet-taken font) s cs q
 
 -- ---- the bytes: a bus call writes those of bus and registers, a draw those of the frame
 
@@ -165,55 +220,102 @@ apart-bytes xs o d k =
     by true false true = sets-comm xs (1 ∷ []) frame busAt frameAt (omega arith)
     by true false false = refl
 
--- the draw after the quiet event draws the same, the event after the draw does the same; so the bytes are the same
-same-bytes : (xs ram font line : List ℕ) (kind byte : ℕ) → length xs ≡ recordLength → kind ≤ 3
-    → device.Quiet (record { device = deviceIn xs; ram = ram }) (eventOf kind byte)
-    → drawOn (busOn xs ram kind byte .device) (busOn xs ram kind byte .ram) font line .device
-    ≡ busOn (drawOn xs ram font line .device) ram kind byte .device
-unfolding late drawnOn hearEvent
-same-bytes xs ram font line kind byte h k q =
-    let e = eventOf kind byte in
-    let ys : List ℕ = busOn xs ram kind byte .device in
-    let zs : List ℕ = drawOn xs ram font line .device in
-    let o : BusOutcome = busEvent (deviceIn xs .bus) (deviceIn xs .registers) ram e in
-    let d : DrawOutcome = drawLine (deviceIn xs) ram font line in
-    let b = crossing .bus xs ram kind byte h k in
-    let drawn-late : drawLine (deviceIn ys) (busOn xs ram kind byte .ram) font line ≡ late ram e d =
-    ap₂ (λ (x : Device) (m : List ℕ). drawLine x m font line) (b .0) (b .1) ∙ same-draw (deviceIn xs) ram e (q .settings) (q .cells) font line in
-    let heard-late : busEvent (deviceIn zs .bus) (deviceIn zs .registers) ram e ≡ o =
-    ap (λ (x : Device). busEvent (x .bus) (x .registers) ram e) (crossing .draw xs ram font line h .0)
-    ∙ by-draw (deviceIn xs) ram font line (λ (x : DrawOutcome). busEvent (x .device .bus) (x .device .registers) ram e ≡ o)
-    (λ r. refl) (unfold lineDrawn lineOn in λ t. refl) in
-    let drawn-is : (l m : List ℕ) → length l ≡ recordLength → drawnOn l (drawLine (deviceIn l) m font line) .device ≡ drawOn l m font line .device =
-    λ l m n. ap (λ (r : DrawDone). r .device) (draw-is l n m font line) in
-    let heard-is : (l : List ℕ) → length l ≡ recordLength → heardOn l (busEvent (deviceIn l .bus) (deviceIn l .registers) ram e) .device ≡ busOn l ram kind byte .device =
-    λ l n. ap (λ (r : BusDone). r .device) (bus-is l ram kind byte n k) in
-    sym (drawn-is ys (busOn xs ram kind byte .ram) (crossing .length-bus xs ram kind byte .0 ∙ h))
-    ∙ ap₂ (λ (l : List ℕ) (x : DrawOutcome). drawnOn l x .device) (sym (heard-is xs h)) drawn-late
-    ∙ apart-bytes xs o d (heard-sixteen xs ram e h)
-    ∙ ap₂ (λ (l : List ℕ) (x : BusOutcome). heardOn l x .device) (drawn-is xs ram h) (sym heard-late)
-    ∙ heard-is zs (crossing .length-draw xs ram font line .0 ∙ h)
+-- what an event comes to, and what it and a draw leave of what is lent
+abbrev heardAt : Device → List ℕ → Logged → BusOutcome
+heardAt d ram x = busEvent (d .bus) (d .registers) ram (eventOf (x .kind) (x .byte))
+
+abbrev heardLent : List ℕ → BusOutcome → ChipBytes
+heardLent xs o = record { device = heardOn xs o .device; ram = o .ram }
+
+abbrev drawnLent : ChipBytes → DrawOutcome → ChipBytes
+drawnLent l d = record { device = drawnOn (l .device) d .device; ram = l .ram }
+
+heard-lent : (l : ChipBytes) (x : Logged) → Taken l x → heardLent (l .device) (heardAt (deviceIn (l .device)) (l .ram) x) ≡ busCalls .after l x
+unfolding heardOn
+heard-lent l x t = ap (λ (r : BusDone). record { device = r .device; ram = r .ram }) (bus-is (l .device) (l .ram) (x .kind) (x .byte) (t .0) (t .1))
+
+module _ (font line : List ℕ) where
+  -- what is lent, after a draw
+  abbrev drawLent : ChipBytes → ChipBytes
+  drawLent l = record { device = drawOn (l .device) (l .ram) font line .device; ram = l .ram }
+
+  drawn-lent : (l : ChipBytes) → length (l .device) ≡ recordLength → drawnLent l (drawLine (deviceIn (l .device)) (l .ram) font line) ≡ drawLent l
+  drawn-lent l h = ap (λ (r : DrawDone). record { device = r .device; ram = l .ram }) (draw-is (l .device) h (l .ram) font line)
+
+  module _ (l : ChipBytes) (x : Logged) (t : Taken l x) where
+    -- the event after the draw comes to the same
+    heard-late : heardAt (deviceIn (drawLent l .device)) (l .ram) x ≡ heardAt (deviceIn (l .device)) (l .ram) x
+    heard-late =
+        ap (λ (d : Device). heardAt d (l .ram) x) (crossing .draw (l .device) (l .ram) font line (t .0) .0)
+        ∙ by-draw (deviceIn (l .device)) (l .ram) font line (λ (o : DrawOutcome). heardAt (o .device) (l .ram) x ≡ heardAt (deviceIn (l .device)) (l .ram) x)
+        (λ r. refl) (unfold lineDrawn lineOn in λ r. refl)
+
+    -- the draw after the quiet event draws the same; so the bytes are the same
+    same-lent : (f : Feed) → device.Quiet (readAs f l) (eventOf (x .kind) (x .byte)) → drawLent (busCalls .after l x) ≡ busCalls .after (drawLent l) x
+    unfolding late drawnOn hearEvent
+    same-lent f q =
+        let e = eventOf (x .kind) (x .byte) in
+        let o : BusOutcome = heardAt (deviceIn (l .device)) (l .ram) x in
+        let d : DrawOutcome = drawLine (deviceIn (l .device)) (l .ram) font line in
+        sym (drawn-lent (busCalls .after l x) (crossing .length-bus (l .device) (l .ram) (x .kind) (x .byte) .0 ∙ t .0))
+        ∙ ap₂ drawnLent (sym (heard-lent l x t))
+        (ap (λ (c : Chip). drawLine (c .device) (c .ram) font line) (taken-back l x t) ∙ same-draw (deviceIn (l .device)) (l .ram) e (q .settings) (q .cells) font line)
+        ∙ ap (λ (b : List ℕ). record { device = b; ram = o .ram }) (apart-bytes (l .device) o d (heard-sixteen (l .device) (l .ram) e (t .0)))
+        ∙ ap₂ heardLent (ap (λ (u : ChipBytes). u .device) (drawn-lent l (t .0))) (sym heard-late)
+        ∙ heard-lent (drawLent l) x (crossing .length-draw (l .device) (l .ram) font line .0 ∙ t .0, t .1)
+
+-- ---- a feed and a draw
+
+-- a fed event that a bus call takes and that is quiet
+abbrev QuietEvent : Feed → ChipBytes → Logged → Type 0
+QuietEvent f l x = Taken l x × device.Quiet (readAs f l) (eventOf (x .kind) (x .byte))
+
+-- as the device's events are, in turn
+events-lent : (font : List ℕ) (s : State) (es : List Logged) → AsMade Taken busCalls (lentIn s) es → QuietEvents font es (reads s)
+    → AsMade (QuietEvent (feedIn (s .feed))) busCalls (lentIn s) es
+unfolding AsMade EventQuiet QuietEvents after reads
+events-lent font s [] t q = tt
+events-lent font s (x ∷ es) t q =
+    ((t .0, q .0), events-lent font (after font s (fedCall x)) es (t .1) (subst (QuietEvents font es) (sym (event-read font s x (t .0))) (q .1)))
+
+-- the draw after the feed's events, or before them; the feed's record is written alike
+fed-late : (font : List ℕ) (s : State) (chunk out line : List ℕ) → takenAt s (feed chunk out) ≡ true → AllQuiet font (reads s) (device.feed chunk out)
+    → after font (after font s (feed chunk out)) (draw line) ≡ after font (after font s (draw line)) (feed chunk out)
+unfolding taken AllQuiet QuietEvents after reads feedOn fedOnBy chunkFedOn eventsBy
+fed-late font s chunk out line t q = rw (t, still-taken font s (draw line) (feed chunk out) ∙ t) (by (verdictOn (s .feed) (s .ram) chunk out) q)
+  where
+    f : Feed
+    f = feedIn (s .feed)
+
+    left : FeedDone → State
+    left r = record { device = r .device; ram = r .ram; feed = r .feed }
+
+    by : (v : Verdict) → QuietEvents font (eventsBy v f chunk) (reads s)
+        → after font (left (fedOnBy v (s .device) (s .feed) (s .ram) chunk out)) (draw line)
+        ≡ left (fedOnBy v (drawLent font line (lentIn s) .device) (s .feed) (s .ram) chunk out)
+    by passed q =
+        let e = end-read (QuietEvent f) busCalls busCalls (drawLent font line) (λ l x t. same-lent font line l x (t .0) f (t .1)) (lentIn s) (finished f chunk)
+        (events-lent font s (finished f chunk) (all-taken f chunk (lentIn s) (feed-taken s chunk out t .0)) q) in
+        λ i. record { device = e i .device; ram = e i .ram; feed = feedBytes (feedAfter f chunk) }
+    by (failed r) q = refl
 
 -- ---- condition 3
 
 module _ (font : List ℕ) (s : State) (e c : Call) where
   -- two calls that are taken, by the device's two calls; the bytes are the same as well
-  apart-taken : takenAt s e ≡ true → takenAt s c ≡ true → Apart EventQuiet (device.calls font) (reads s) (made e) (made c)
-      → after font (after font s e) c .device ≡ after font (after font s c) e .device → Apart QuietTaken (calls font) s e c
-  unfolding QuietTaken reads
+  apart-taken : takenAt s e ≡ true → takenAt s c ≡ true → Apart (AllQuiet font) (device.calls font) (reads s) (made e) (made c)
+      → after font (after font s e) c ≡ after font (after font s c) e → Apart (QuietTaken font) (calls font) s e c
+  unfolding QuietTaken
   apart-taken t u a bytes =
-      let ec : Twice font s e c = twice font s e c t u in
-      let ce : Twice font s c e = twice font s c e u t in
-      let same : reads (after font (after font s e) c) ≡ reads (after font (after font s c) e) = ec .state ∙ a .either-way ∙ sym (ce .state) in
       record {
-        other = ec .answers ∙ ap shown (a .other) ∙ sym (carried font s c u .answers);
-        own = ce .answers ∙ ap shown (a .own) ∙ sym (carried font s e t .answers);
-        either-way = λ i. record { device = bytes i; ram = same i .ram };
-        still = λ _. subst (λ (v : device.State). EventQuiet v (made e)) (sym (carried font s c u .state)) (a .still);
+        other = twice font s e c t u ∙ ap shown (a .other) ∙ sym (carried font s c u .answers);
+        own = twice font s c e u t ∙ ap shown (a .own) ∙ sym (carried font s e t .answers);
+        either-way = bytes;
+        still = λ _. subst (λ (v : device.State). AllQuiet font v (made e)) (sym (carried font s c u .state)) (a .still);
       }
 
   -- an event that is not taken is not taken after the other call either
-  apart-untouched : takenAt s e ≡ false → Apart QuietTaken (calls font) s e c
+  apart-untouched : takenAt s e ≡ false → Apart (QuietTaken font) (calls font) s e c
   unfolding QuietTaken
   apart-untouched n =
       let n′ : takenAt (after font s c) e ≡ false = still-taken font s c e ∙ n in
@@ -226,30 +328,57 @@ module _ (font : List ℕ) (s : State) (e c : Call) where
         still = λ t. absurd (true≢false (sym t ∙ n′));
       }
 
-apart-heard : (font : List ℕ) (s : State) (e c : Call) → isEvent e ≡ true → isEvent c ≡ false → QuietTaken s e → takenAt s e ≡ true
-    → Apart QuietTaken (calls font) s e c
-unfolding isEvent device.isEvent QuietTaken EventQuiet made reads after taken
+-- draws and questions do not look at the feed's record
+anew-draw : (font : List ℕ) (s : State) (line : List ℕ) → Apart (QuietTaken font) (calls font) s anew (draw line)
+unfolding QuietTaken AllQuiet made answer after
+anew-draw font s line = record { other = refl; own = refl; either-way = refl; still = λ t. tt }
+
+anew-cell : (font : List ℕ) (s : State) (x : ℕ) → Apart (QuietTaken font) (calls font) s anew (cell x)
+unfolding QuietTaken AllQuiet made answer after
+anew-cell font s x = record { other = refl; own = refl; either-way = refl; still = λ t. tt }
+
+apart-heard : (font : List ℕ) (s : State) (e c : Call) → isEvent e ≡ true → isEvent c ≡ false → QuietTaken font s e → takenAt s e ≡ true
+    → Apart (QuietTaken font) (calls font) s e c
+unfolding isEvent device.isEvent QuietTaken AllQuiet EventQuiet made reads after taken
 apart-heard font s (draw line) c p o q t = absurd (true≢false (sym p))
 apart-heard font s (cell x) c p o q t = absurd (true≢false (sym p))
 apart-heard font s (bus kind byte) (draw line) p o q t =
     let h = bus-taken s kind byte t in
+    let l = same-lent font line (lentIn s) (record { kind = kind; byte = byte }) h (feedIn (s .feed)) (q t) in
     apart-taken font s (bus kind byte) (draw line) t (eq-eqb _ _ (h .0))
     (apart font (reads s) (device.event (eventOf kind byte)) (device.draw line) refl refl (q t))
-    (same-bytes (s .device) (s .ram) font line kind byte (h .0) (h .1) (q t))
+    (λ i. record { device = l i .device; ram = l i .ram; feed = s .feed })
 apart-heard font s (bus kind byte) (cell x) p o q t =
     apart-taken font s (bus kind byte) (cell x) t (eq-eqb _ _ (bus-taken s kind byte t .0))
     (apart font (reads s) (device.event (eventOf kind byte)) (device.ask x) refl refl (q t)) refl
 apart-heard font s (bus kind byte) (bus k b) p o q t = absurd (true≢false o)
+apart-heard font s (bus kind byte) (feed xs ys) p o q t = absurd (true≢false o)
+apart-heard font s (bus kind byte) anew p o q t = absurd (true≢false o)
+apart-heard font s (feed chunk out) (draw line) p o q t =
+    apart-taken font s (feed chunk out) (draw line) t (eq-eqb _ _ (feed-taken s chunk out t .0))
+    (apart font (reads s) (device.feed chunk out) (device.draw line) refl refl (q t)) (fed-late font s chunk out line t (q t))
+apart-heard font s (feed chunk out) (cell x) p o q t =
+    apart-taken font s (feed chunk out) (cell x) t (eq-eqb _ _ (feed-taken s chunk out t .0))
+    (apart font (reads s) (device.feed chunk out) (device.ask x) refl refl (q t)) refl
+apart-heard font s (feed chunk out) (bus k b) p o q t = absurd (true≢false o)
+apart-heard font s (feed chunk out) (feed xs ys) p o q t = absurd (true≢false o)
+apart-heard font s (feed chunk out) anew p o q t = absurd (true≢false o)
+apart-heard font s anew (draw line) p o q t = anew-draw font s line
+apart-heard font s anew (cell x) p o q t = anew-cell font s x
+apart-heard font s anew (bus k b) p o q t = absurd (true≢false o)
+apart-heard font s anew (feed xs ys) p o q t = absurd (true≢false o)
+apart-heard font s anew anew p o q t = absurd (true≢false o)
 
-apart-calls : (font : List ℕ) (s : State) (e c : Call) → isEvent e ≡ true → isEvent c ≡ false → QuietTaken s e → Apart QuietTaken (calls font) s e c
+apart-calls : (font : List ℕ) (s : State) (e c : Call) → isEvent e ≡ true → isEvent c ≡ false → QuietTaken font s e
+    → Apart (QuietTaken font) (calls font) s e c
 apart-calls font s e c p o q = by (takenAt s e) refl
   where
-    by : (t : Bool) → takenAt s e ≡ t → Apart QuietTaken (calls font) s e c
+    by : (t : Bool) → takenAt s e ≡ t → Apart (QuietTaken font) (calls font) s e c
     by true t = apart-heard font s e c p o q t
     by false t = apart-untouched font s e c t
 
 pub one-page-bytes : OnePageBytes
-one-page-bytes font s cs q = reordered QuietTaken (calls font) (apart-calls font) s cs (quiet-run font s cs q)
+one-page-bytes font s cs q = reordered (QuietTaken font) (calls font) (apart-calls font) s cs (quiet-run font s cs q)
 
 -- ---- a no of the cell question stays a no
 
@@ -257,20 +386,29 @@ one-page-bytes font s cs q = reordered QuietTaken (calls font) (apart-calls font
 zero-no : (r : Reply) → answerOf r ≡ 0 → r ≡ accepted 0
 zero-no r e = let p : r .refusal ≡ 0 = omega arith in let q : r .value ≡ 0 = omega arith in λ i. record { refusal = p i; value = q i }
 
-still-no : (font : List ℕ) (c : ℕ) (s : State) (d : Call) → QuietTaken s d → cellOn (s .device) (s .ram) c ≡ 0
-    → cellOn (after font s d .device) (after font s d .ram) c ≡ 0
+still-by : (font : List ℕ) (c : ℕ) (s : State) (d : Call) → (takenAt s d ≡ true → length (s .device) ≡ recordLength) → QuietTaken font s d
+    → cellOn (s .device) (s .ram) c ≡ 0 → cellOn (after font s d .device) (after font s d .ram) c ≡ 0
 unfolding QuietTaken reads
-still-no font c s d q n = by (takenAt s d) refl
+still-by font c s d long q n = by (takenAt s d) refl
   where
     by : (t : Bool) → takenAt s d ≡ t → cellOn (after font s d .device) (after font s d .ram) c ≡ 0
     by true t =
-        let h : length (s .device) ≡ recordLength = taken-length s d t in
+        let h : length (s .device) ≡ recordLength = long t in
         let no : askCell (deviceIn (s .device)) (s .ram) c ≡ accepted 0 = zero-no _ (sym (crossing .cell (s .device) (s .ram) c h) ∙ n) in
-        crossing .cell _ _ c (same-length font s d ∙ h)
+        crossing .cell _ _ c (same-length font s d .0 ∙ h)
         ∙ ap (λ (v : device.State). answerOf (askCell (v .device) (v .ram) c)) (carried font s d t .state)
         ∙ ap answerOf (still-unread font c (reads s) (made d) (q t) no)
     by false t = rw (untouched font s d t .state) n
 
+still-no : (font : List ℕ) (c : ℕ) (s : State) (d : Call) → QuietTaken font s d → cellOn (s .device) (s .ram) c ≡ 0
+    → cellOn (after font s d .device) (after font s d .ram) c ≡ 0
+unfolding taken after
+still-no font c s (draw line) q n = still-by font c s (draw line) (λ t. eqb-true _ _ t) q n
+still-no font c s (cell x) q n = n
+still-no font c s (bus kind byte) q n = still-by font c s (bus kind byte) (λ t. bus-taken s kind byte t .0) q n
+still-no font c s (feed chunk out) q n = still-by font c s (feed chunk out) (λ t. feed-taken s chunk out t .0) q n
+still-no font c s anew q n = n
+
 pub no-stays-bytes : NoStaysBytes
 no-stays-bytes font s cs c q n =
-    kept-by-each QuietTaken (calls font) (λ (u : State). cellOn (u .device) (u .ram) c ≡ 0) (still-no font c) s cs (quiet-run font s cs q) n
+    kept-by-each (QuietTaken font) (calls font) (λ (u : State). cellOn (u .device) (u .ram) c ≡ 0) (still-no font c) s cs (quiet-run font s cs q) n

@@ -3,25 +3,31 @@
 -- Assumes nothing.
 use Prim.Native.Nat.{ℕ, _+_, _*_, _≤_, _<_}
 use mathlib.Core.Path.{_≡_}
-use mathlib.Core.Bool.{Bool, not, cond, _&&_}
-use mathlib.Core.List.{List}
+use mathlib.Core.Bool.{Bool, true, not, cond, _&&_}
+use mathlib.Core.List.{List, [], _++_}
 use lib.Dec.{eqb, ltb}
-use lib.ListN.{length, set}
+use lib.ListN.{length, set, drop}
 use Rattle.limits.specs.Limits.{ramLength}
+use Rattle.runs.specs.Runs.{Machine, end}
+use Rattle.refusals.specs.declared.Refusal.{Refusal}
 use Rattle.refusals.specs.declared.Refusal.the-variants.{NotAcknowledged}
-use Rattle.refusals.specs.Refusals.{Reply, refused}
+use Rattle.refusals.specs.Refusals.{Reply, refused, Verdict, passed, failed}
 use Rattle.bus.specs.declared.BusState.{BusState}
 use Rattle.bus.specs.declared.BusState.the-variants.{Slave}
 use Rattle.bus.specs.Bus.{eventOf, BusOutcome}
 use Rattle.device.specs.Device.{freshDevice, EventOutcome, hearEvent, StartOutcome, startFrame, DrawOutcome, drawLine, askCell}
+use Rattle.capture.specs.declared.Feed.{Feed}
+use Rattle.capture.specs.Capture.{Logged, freshFeed, finished, feedAfter, outputFrom, chip, feedVerdict, takenReply, eventsBy, FeedOutcome, feedChunk}
 use Rattle.layout.specs.Layout.{busAt, registersAt, nextAt, frameAt, recordLength, put, stateNumber, busBytes, nextBytes, frameBytes, deviceBytes, deviceIn}
+use Rattle.layout.specs.FeedLayout.{feedLength, feedBytes, feedIn}
 
 -- ---- answers: refusal × 65,536 + value
 
 abbrev pub answerOf : Reply → ℕ
 answerOf r = r .refusal * 65536 + r .value
 
--- the interface's own refusal, before document 01's order: a device buffer of another length, then a kind above 3
+-- the interface's own refusal, before document 01's order: a device or feed buffer of another length, a kind above 3, a chunk of more
+-- than 65,534 bytes
 abbrev pub notTaken : ℕ
 notTaken = answerOf (record { refusal = 255; value = 0 })
 
@@ -109,6 +115,83 @@ drawOn xs ram font line =
 unfoldable pub cellOn : List ℕ → List ℕ → ℕ → ℕ
 cellOn xs ram cell = cond (isRecord xs) (answerOf (askCell (deviceIn xs) ram cell)) notTaken
 
+-- ---- feed (document 02, K1)
+
+abbrev pub isFeed : List ℕ → Bool
+isFeed fs = eqb (length fs) feedLength
+
+-- the longest chunk, since a value has 16 bits: with one byte more and a half held its events could write 65,536 bytes
+abbrev pub chunkMax : ℕ
+chunkMax = 65534
+
+pub record FeedMade : Type 0 where
+  pub feed : List ℕ
+  pub answer : ℕ
+
+unfoldable pub feedFreshOn : List ℕ → FeedMade
+feedFreshOn fs = cond (isFeed fs) (record { feed = feedBytes freshFeed; answer = 0 }) (record { feed = fs; answer = notTaken })
+
+-- the bytes of the device's record and the RAM
+pub record ChipBytes : Type 0 where
+  pub device : List ℕ
+  pub ram : List ℕ
+
+-- each fed event is one bus call; its answer is the reply whose number osd_bus gives (Crossing's bus)
+abbrev pub busCalls : Machine ChipBytes Logged Reply
+busCalls =
+    record {
+      answer = λ l x. hearEvent (deviceIn (l .device)) (l .ram) (eventOf (x .kind) (x .byte)) .reply;
+      after =
+          λ l x.
+          record { device = busOn (l .device) (l .ram) (x .kind) (x .byte) .device; ram = busOn (l .device) (l .ram) (x .kind) (x .byte) .ram };
+      isEvent = λ x. true;
+    }
+
+-- the bytes of all that is lent, but for the chunk, and the answer
+pub record FeedDone : Type 0 where
+  pub device : List ℕ
+  pub feed : List ℕ
+  pub ram : List ℕ
+  pub out : List ℕ
+  pub answer : ℕ
+
+-- refused 255, 1, 10, or 9 by a feed already shut: no byte is written
+abbrev pub notFedOn : List ℕ → List ℕ → List ℕ → List ℕ → ℕ → FeedDone
+notFedOn xs fs ram out answer = record { device = xs; feed = fs; ram = ram; out = out; answer = answer }
+
+-- the chunk's events, one by one; the feed's record is written anew
+unfoldable pub chunkFedOn : List ℕ → List ℕ → List ℕ → List ℕ → List ℕ → FeedDone
+chunkFedOn xs fs ram chunk out =
+    let f : Feed = feedIn fs in
+    let lent : ChipBytes = record { device = xs; ram = ram } in
+    let es : List Logged = finished f chunk in
+    let written : List ℕ = outputFrom busCalls lent es in
+    record {
+      device = end busCalls lent es .device;
+      feed = feedBytes (feedAfter f chunk);
+      ram = end busCalls lent es .ram;
+      out = written ++ drop (length written) out;
+      answer = answerOf (takenReply (feedAfter f chunk) (length written));
+    }
+
+unfoldable pub fedOnBy : Verdict → List ℕ → List ℕ → List ℕ → List ℕ → List ℕ → FeedDone
+fedOnBy passed xs fs ram chunk out = chunkFedOn xs fs ram chunk out
+fedOnBy (failed r) xs fs ram chunk out = notFedOn xs fs ram out (answerOf (refused r))
+
+abbrev pub verdictOn : List ℕ → List ℕ → List ℕ → List ℕ → Verdict
+verdictOn fs ram chunk out = feedVerdict (feedIn fs) (length ram) (length chunk) (length out)
+
+abbrev pub rightLengths : List ℕ → List ℕ → List ℕ → Bool
+rightLengths xs fs chunk = isRecord xs && (isFeed fs && not (ltb chunkMax (length chunk)))
+
+unfoldable pub feedOn : List ℕ → List ℕ → List ℕ → List ℕ → List ℕ → FeedDone
+feedOn xs fs ram chunk out =
+    cond (rightLengths xs fs chunk) (fedOnBy (verdictOn fs ram chunk out) xs fs ram chunk out) (notFedOn xs fs ram out notTaken)
+
+-- the events that a feed makes: none where it is refused before any event
+unfoldable pub fedEventsOn : List ℕ → List ℕ → List ℕ → List ℕ → List ℕ → List Logged
+fedEventsOn xs fs ram chunk out = cond (rightLengths xs fs chunk) (eventsBy (verdictOn fs ram chunk out) (feedIn fs) chunk) []
+
 -- ---- the claim: each function does on the bytes exactly what the device's function does on the record that they are read as
 
 pub record Crossing : Type 0 where
@@ -124,6 +207,11 @@ pub record Crossing : Type 0 where
       → let o : DrawOutcome = drawLine (deviceIn xs) ram font line in
       let r : DrawDone = drawOn xs ram font line in (deviceIn (r .device) ≡ o .device) × (r .line ≡ o .line) × (r .answer ≡ answerOf (o .reply))
   pub cell : (xs ram : List ℕ) (c : ℕ) → length xs ≡ recordLength → cellOn xs ram c ≡ answerOf (askCell (deviceIn xs) ram c)
+  pub feed-fresh : (fs : List ℕ) → length fs ≡ feedLength → (feedIn (feedFreshOn fs .feed) ≡ freshFeed) × (feedFreshOn fs .answer ≡ 0)
+  pub feed : (xs fs ram chunk out : List ℕ) → length xs ≡ recordLength → length fs ≡ feedLength → length chunk ≤ chunkMax
+      → let o : FeedOutcome = feedChunk (chip (deviceIn xs) ram) (feedIn fs) chunk out in
+      let r : FeedDone = feedOn xs fs ram chunk out in
+      (deviceIn (r .device) ≡ o .chip .device) × (feedIn (r .feed) ≡ o .feed) × (r .ram ≡ o .chip .ram) × (r .out ≡ o .out) × (r .answer ≡ answerOf (o .reply))
   -- refused with 255: nothing changes
   pub not-taken : (xs ram font line : List ℕ) (kind byte lines c : ℕ) → (length xs ≡ recordLength → ⊥)
       → (freshOn xs ≡ record { device = xs; answer = notTaken })
@@ -131,6 +219,9 @@ pub record Crossing : Type 0 where
       × (startOn xs lines ≡ record { device = xs; answer = notTaken })
       × (drawOn xs ram font line ≡ record { device = xs; line = line; answer = notTaken })
       × (cellOn xs ram c ≡ notTaken)
+  pub feed-not-taken : (xs fs ram chunk out : List ℕ) → (length xs ≡ recordLength → length fs ≡ feedLength → length chunk ≤ chunkMax → ⊥)
+      → feedOn xs fs ram chunk out ≡ notFedOn xs fs ram out notTaken
+  pub feed-not-made : (fs : List ℕ) → (length fs ≡ feedLength → ⊥) → feedFreshOn fs ≡ record { feed = fs; answer = notTaken }
   pub no-kind : (xs ram : List ℕ) (kind byte : ℕ) → 3 < kind → busOn xs ram kind byte ≡ record { device = xs; ram = ram; answer = notTaken }
   -- every buffer keeps its length, whatever it is
   pub length-fresh : (xs : List ℕ) → length (freshOn xs .device) ≡ length xs
@@ -139,11 +230,20 @@ pub record Crossing : Type 0 where
   pub length-start : (xs : List ℕ) (lines : ℕ) → length (startOn xs lines .device) ≡ length xs
   pub length-draw : (xs ram font line : List ℕ)
       → (length (drawOn xs ram font line .device) ≡ length xs) × (length (drawOn xs ram font line .line) ≡ length line)
-  -- a call that the device's function refuses writes no byte of the record ..
+  pub length-feed-fresh : (fs : List ℕ) → length (feedFreshOn fs .feed) ≡ length fs
+  pub length-feed : (xs fs ram chunk out : List ℕ)
+      → (length (feedOn xs fs ram chunk out .device) ≡ length xs) × (length (feedOn xs fs ram chunk out .feed) ≡ length fs)
+      × (length (feedOn xs fs ram chunk out .ram) ≡ length ram) × (length (feedOn xs fs ram chunk out .out) ≡ length out)
+  -- a feed's value has 16 bits: OSD_REFUSAL and OSD_VALUE of the answer are the refusal and the value
+  pub value-feed : (xs fs ram chunk out : List ℕ) → length chunk ≤ chunkMax → feedChunk (chip (deviceIn xs) ram) (feedIn fs) chunk out .reply .value ≤ chunkMax
+  -- a frame start, a draw or a bus call that the device's function refuses writes no byte of the record ..
   pub silent-start : (xs : List ℕ) (lines : ℕ) → (startFrame (deviceIn xs) lines .reply .refusal ≡ 0 → ⊥) → startOn xs lines .device ≡ xs
   pub silent-draw : (xs ram font line : List ℕ) → (drawLine (deviceIn xs) ram font line .reply .refusal ≡ 0 → ⊥) → drawOn xs ram font line .device ≡ xs
   pub silent-bus : (xs ram : List ℕ) (kind byte : ℕ) → (kind ≡ 1 → deviceIn xs .bus .state ≡ Slave → length ram ≡ ramLength → ⊥)
       → (hearEvent (deviceIn xs) ram (eventOf kind byte) .reply .refusal ≡ 0 → ⊥) → busOn xs ram kind byte .device ≡ xs
+  -- (a feed that its tests refuse writes no byte of any buffer)
+  pub silent-feed : (xs fs ram chunk out : List ℕ) (r : Refusal) → length xs ≡ recordLength → length fs ≡ feedLength → length chunk ≤ chunkMax
+      → verdictOn fs ram chunk out ≡ failed r → feedOn xs fs ram chunk out ≡ notFedOn xs fs ram out (answerOf (refused r))
   -- .. except deaf after an unknown slave address: byte 0 alone
   pub deaf : (xs ram : List ℕ) (byte : ℕ) → length xs ≡ recordLength → length ram ≡ ramLength → deviceIn xs .bus .state ≡ Slave → (byte ≡ 0xBA → ⊥) → (byte ≡ 0xBB → ⊥)
       → busOn xs ram 1 byte ≡ record { device = set xs busAt 1; ram = ram; answer = answerOf (refused NotAcknowledged) }

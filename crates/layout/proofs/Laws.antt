@@ -17,7 +17,9 @@ use Rattle.walk.specs.declared.Strip.{Strip}
 use Rattle.walk.specs.declared.Strip.the-variants.{Spacing, Characters}
 use Rattle.device.specs.declared.Frame.{Frame}
 use Rattle.device.specs.declared.Device.{Device}
+use Rattle.capture.specs.declared.Feed.the-variants.{Open, Half, Shut}
 use Rattle.layout.specs.Layout.{busAt, busLength, registersAt, registersLength, nextAt, nextLength, frameAt, frameLength, recordLength, part, put, stateNumber, heldHigh, stateOf, busBytes, busIn, registersIn, nextBytes, nextIn, packed, stripIn, frameBytes, frameIn, deviceBytes, deviceIn, PutInPlace, ReadBack}
+use Rattle.layout.specs.FeedLayout.{FeedReadBack}
 use Rattle.facts.proofs.Parts.{fit, part-put, sets-append, sets-all, set-part}
 
 -- ---- a part put in its place
@@ -167,3 +169,10 @@ pub start-back : (f : Frame) (n : ℕ) (xs : List ℕ) → length xs ≡ recordL
 start-back f n xs h =
     draw-back f (put nextAt (nextBytes n) xs) (length-sets xs nextAt (nextBytes n) ∙ h)
     ∙ ap (withFrame f) (put-part nextAt nextLength (nextBytes n) xs refl (omega arith) (tt, tt, tt, tt))
+
+-- ---- the feed's record
+
+pub feed-back : FeedReadBack
+feed-back Open = refl
+feed-back (Half kind) = refl
+feed-back Shut = refl

@@ -1,1 +1,2 @@
+pub mod FeedLayout
 pub mod Layout

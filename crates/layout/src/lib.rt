@@ -5,8 +5,10 @@ ghost use mathlib.Core.List.{[], _∷_};
 ghost use Prim.Native.Nat.{_+_, _*_, _/_, _%_, _≤_, _<_};
 ghost use lib.ListN.{length};
 ghost use Rattle.layout.specs.Layout.{busAt, busLength, registersAt, registersLength, nextAt, frameAt, frameLength, recordLength, put, word, stateNumber, heldHigh, stateOf, busBytes, busIn, registersIn, nextBytes, packed, stripIn, frameWith, frameBytes, frameIn, deviceBytes, deviceIn};
+ghost use Rattle.layout.specs.FeedLayout.{feedLength, feedState, feedBytes, feedOf, feedIn};
 use bus::Bus;
 use bus::BusState;
+use capture::Feed;
 use device::Device;
 use device::Frame;
 use raster::ScanLine;
@@ -310,4 +312,43 @@ pub fn write_device(device: &mut [u8], whole: Device)
     write_bus(device, bus);
     write_registers(device, registers);
     write_start(device, whole.next, frame);
+}
+
+// ---- the feed's record, in 2 bytes of its own
+
+pub const FEED_LENGTH: usize = 2;
+
+fn feed_of(state: u8, held: u8) -> Feed
+    ensures { λ r. ⌜ r ≡ feedOf state held ⌝ }
+{
+    match state {
+        0 => Feed::Open,
+        1 => Feed::Half(held),
+        _ => Feed::Shut,
+    }
+}
+
+pub fn feed_in(feed: &[u8]) -> Feed
+    requires { ⌜ length (now feed) ≡ feedLength ⌝ }
+    ensures { λ r. ⌜ r ≡ feedIn (now (feed .entry)) ⌝ }
+{
+    feed_of(feed[0], feed[1])
+}
+
+fn feed_state(feed: Feed) -> u8
+    ensures { λ r. ⌜ r ≡ feedState feed ⌝ }
+{
+    match feed {
+        Feed::Open => 0,
+        Feed::Half(_) => 1,
+        Feed::Shut => 2,
+    }
+}
+
+pub fn write_feed(bytes: &mut [u8], feed: Feed)
+    requires { ⌜ length (now bytes) ≡ feedLength ⌝ }
+    ensures { λ _. ⌜ now (bytes .exit) ≡ feedBytes feed ⌝ }
+{
+    bytes[0] = feed_state(feed);
+    bytes[1] = feed.held_kind();
 }

@@ -1,0 +1,50 @@
+-- Document 02, K1, over the bytes that C sees: however a capture is cut, if neither a chunk nor the whole is refused 1, 10 or 255, the
+-- joined outputs, both records and the RAM equal one feed of the whole (crate capture's specs/Cuts.antt, there over the device record).
+-- Assumes nothing.
+use Prim.Native.Nat.{ℕ, _/_, _%_}
+use mathlib.Core.Path.{_≡_}
+use mathlib.Core.Bool.{true}
+use mathlib.Core.List.{List, _∷_}
+use Rattle.runs.specs.Runs.{Machine, AsMade}
+use Rattle.refusals.specs.Refusals.{Reply}
+use Rattle.capture.specs.Cuts.{Chunk, ChunkAnswer, whole, Fits, SameCut}
+use Rattle.interface.specs.Interface.{FeedDone, feedOn}
+
+-- OSD_REFUSAL and OSD_VALUE of an answer
+abbrev pub replyIn : ℕ → Reply
+replyIn n = record { refusal = n / 65536; value = n % 65536 }
+
+-- the bytes that a feed gets and leaves: the device's record, the feed's, the RAM
+pub record Records : Type 0 where
+  pub device : List ℕ
+  pub feed : List ℕ
+  pub ram : List ℕ
+
+-- feeds, one after the other: each gets the bytes that the one before left
+abbrev pub feedsOn : Machine Records Chunk ChunkAnswer
+feedsOn =
+    record {
+      answer =
+          λ s c.
+          let r : FeedDone = feedOn (s .device) (s .feed) (s .ram) (c .bytes) (c .out) in
+          record { reply = replyIn (r .answer); out = r .out };
+      after =
+          λ s c.
+          let r : FeedDone = feedOn (s .device) (s .feed) (s .ram) (c .bytes) (c .out) in
+          record { device = r .device; feed = r .feed; ram = r .ram };
+      isEvent = λ c. true;
+    }
+
+-- refused neither 1 nor 10, nor 255
+pub record FitsBytes (r : Reply) : Type 0 where
+  pub fits : Fits r
+  pub taken : r .refusal ≡ 255 → ⊥
+
+-- the claim, for every cut into one or more chunks of which none, nor the whole, is refused 1, 10 or 255, from any bytes. Refusal 9 is
+-- inside it
+abbrev pub AnyCutBytes : Type 0
+AnyCutBytes =
+    (s : Records) (c : Chunk) (cs : List Chunk) (out : List ℕ)
+    → AsMade (λ u x. FitsBytes (feedsOn .answer u x .reply)) feedsOn s (c ∷ cs)
+    → FitsBytes (feedsOn .answer s (record { bytes = whole (c ∷ cs); out = out }) .reply)
+    → SameCut feedsOn s (c ∷ cs) out
