@@ -19,22 +19,27 @@
  *
  *     device   OSD_DEVICE_LEN bytes, any alignment: the device's record. Make it with osd_fresh. It may be copied, saved and
  *              restored byte by byte. Bytes that were corrupted are some other device, and cause no fault.
- *     ram      OSD_RAM_LEN bytes; any bytes will do. Changed by osd_bus alone.
+ *     ram      OSD_RAM_LEN bytes; any bytes will do. Changed by osd_bus and osd_feed alone.
  *     font     OSD_FONT_LEN bytes, only read: 128 characters of 18 slices of two bytes.
  *     line     at least as many bytes as the line has pixels, 12 * (LD + 1): OSD_LINE_MAX is always enough. One byte a pixel,
  *              OSD_FBLK | OSD_R | OSD_G | OSD_B. Bytes after the line's last pixel stay as they are.
+ *     feed     OSD_FEED_LEN bytes: the record of a feed, where bus traffic comes as a logger's capture. Make it with
+ *              osd_feed_fresh. Any bytes are some feed.
+ *     chunk    up to OSD_CHUNK_MAX bytes of a capture, only read.
+ *     out      two bytes for each event that a chunk completes; one byte more than the chunk has is always enough. Later bytes stay.
  *
- * Give each buffer with its true length. A device, RAM or font of any other length is refused, and so is a line that is too short;
- * a length that is larger than the buffer cannot be noticed. A pointer may be NULL where its length is 0. A buffer that a call may
- * write (no const) must overlap no other buffer of that call.
+ * Give each buffer with its true length. A device, RAM, font or feed of any other length is refused, and so is a chunk that is too
+ * long and a line or an output that is too short; a length that is larger than the buffer cannot be noticed. A pointer may be NULL
+ * where its length is 0. A buffer that a call may write (no const) must overlap no other buffer of that call.
  *
  * Calls on different buffers may run at the same time. While a call runs, nobody else may write its buffers, or read those that it
- * may write: if bus events arrive in an interrupt, keep it out while osd_draw or osd_cell runs.
+ * may write: if bus events arrive in an interrupt, keep it out while osd_draw, osd_cell or osd_feed runs.
  *
- * Answers. Every function but osd_device_len answers one number, refusal * 65,536 + value: OSD_REFUSAL(answer) is 0 where the call
- * was accepted, OSD_VALUE(answer) is then its value. With a refusal the value is 0, but 255 with OSD_NOT_ACKNOWLEDGED. A refused
- * call changes no byte of any buffer, except that a bus event with an unknown slave address leaves the device deaf until the next
- * start or stop. Where several refusals fit, the one that is named first at the function is given.
+ * Answers. Every function but osd_device_len and osd_feed_len answers one number, refusal * 65,536 + value: OSD_REFUSAL(answer) is 0
+ * where the call was accepted, OSD_VALUE(answer) is then its value. With a refusal the value is 0, but 255 with OSD_NOT_ACKNOWLEDGED,
+ * and what a feed has written before a bad kind with OSD_FEED_SHUT. A refused call changes no byte of any buffer, with two exceptions:
+ * a bus event with an unknown slave address leaves the device deaf until the next start or stop; and a feed that meets a bad kind has
+ * taken the events before it, and is shut. Where several refusals fit, the one that is named first at the function is given.
  *
  * Formats. What a host writes over the bus (registers, descriptors, codes, user characters) and the lent font have the formats of
  * the tables below the refusals. They are close to those of the STV9425/26, but not the same: ZY in a descriptor, the low byte of a
@@ -82,6 +87,8 @@ typedef uint64_t osd_len;
 #define OSD_RAM_LEN 1024
 #define OSD_FONT_LEN 4608
 #define OSD_LINE_MAX 768
+#define OSD_FEED_LEN 2
+#define OSD_CHUNK_MAX 65534 /* since a value has 16 bits */
 
 /* The most lines that a frame can have. */
 #define OSD_FRAME_LINES_MAX 2048
@@ -116,7 +123,9 @@ typedef uint64_t osd_len;
 #define OSD_FRAME_LINES 6      /* lines is 0 or above OSD_FRAME_LINES_MAX */
 #define OSD_BENCH_LENGTH 7     /* the bench program's: no function here gives it */
 #define OSD_CELL_RANGE 8       /* cell is OSD_RAM_LEN or above */
-#define OSD_NOT_TAKEN 255      /* device is not OSD_DEVICE_LEN bytes, or kind is above OSD_STOP */
+#define OSD_FEED_SHUT 9        /* the feed is shut, or a bad kind shuts it; the value is the number of output bytes written */
+#define OSD_OUTPUT_ROOM 10     /* out has less than two bytes for each event that the chunk would complete */
+#define OSD_NOT_TAKEN 255      /* a record's length is wrong, kind is above OSD_STOP, or chunk is above OSD_CHUNK_MAX */
 
 /*
  * Formats. Bus addresses, and bytes in the columns kept, reset and high, are hexadecimal; all other numbers are decimal. Bit 7 is the
@@ -206,6 +215,13 @@ typedef uint64_t osd_len;
  *
  * Any bytes are some record: another bus state is idle; byte 1 is read in state 4 only, of byte 26 only bits 0 to 2, and bytes 28
  * to 31 (like bits 1 and 2 of byte 26) for characters only.
+ *
+ * A feed's record.
+ *
+ *     0       0 open, nothing held; 1 half an event is held; 2 shut
+ *     1       the kind that state 1 holds, else 0
+ *
+ * Any bytes are some record: another state is shut; byte 1 is read in state 1 only.
  */
 
 /* The record's length in the linked library. Compare it with OSD_DEVICE_LEN at start-up to find a header of another version. */
@@ -229,6 +245,30 @@ uint32_t osd_reset(uint8_t *device, osd_len device_len);
  * the event is not acknowledged.
  */
 uint32_t osd_bus(uint8_t *device, osd_len device_len, uint8_t *ram, osd_len ram_len, uint8_t kind, uint8_t byte);
+
+/* The length of a feed's record in the linked library, to be compared with OSD_FEED_LEN. */
+uint32_t osd_feed_len(void);
+
+/*
+ * Makes a feed anew: open, with nothing held, whatever the bytes were.
+ * Refusal: OSD_NOT_TAKEN. Value 0.
+ */
+uint32_t osd_feed_fresh(uint8_t *feed, osd_len feed_len);
+
+/*
+ * Feeds what has arrived of a logger's capture: two bytes an event, its kind (OSD_START to OSD_STOP) and a byte, ignored unless the
+ * kind is OSD_BYTE. A chunk may end within an event, or be empty; the half is held for the next chunk. Each event that is complete does
+ * what osd_bus does, and writes two bytes to `out`: 1 if it was acknowledged, else 0, and then osd_bus's value. However a capture is
+ * cut, the outputs joined, the records and the RAM are the same, as long as no chunk is refused with OSD_NOT_TAKEN, OSD_RAM_LENGTH or
+ * OSD_OUTPUT_ROOM; such a chunk is not taken, and may be fed again.
+ * A kind above OSD_STOP is noticed when its event is complete: the answer is OSD_FEED_SHUT, the events before it stand and the value
+ * counts their output, the rest of the chunk is dropped, and the feed is shut until osd_feed_fresh.
+ * Use it to play a capture; a host that is there answers each event as it comes, by osd_bus.
+ * Refusals: OSD_NOT_TAKEN, OSD_RAM_LENGTH, OSD_FEED_SHUT (already shut), OSD_OUTPUT_ROOM, OSD_FEED_SHUT (a bad kind). Value: how many
+ * output bytes this chunk wrote.
+ */
+uint32_t osd_feed(uint8_t *device, osd_len device_len, uint8_t *feed, osd_len feed_len, uint8_t *ram, osd_len ram_len,
+                  const uint8_t *chunk, osd_len chunk_len, uint8_t *out, osd_len out_len);
 
 /*
  * Starts a frame of 1 to 2,048 lines, with the page that P names now and the next frame number (0 to 63 and round again; flashing

@@ -114,7 +114,7 @@ module _ (a x : ℕ) where
   set-none xs h = rw (lt-leb _ _ h) at set-is xs
 
   -- before the bus's bytes are put, or after
-  stored-in-place : (b : Bus) (xs : List ℕ) → storedOn a x (put busAt (busBytes b) xs) ≡ put busAt (busBytes b) (storedOn a x xs)
+  pub stored-in-place : (b : Bus) (xs : List ℕ) → storedOn a x (put busAt (busBytes b) xs) ≡ put busAt (busBytes b) (storedOn a x xs)
   stored-in-place b xs = sym (set-is (put busAt (busBytes b) xs)) ∙ by (isRegister a) ∙ ap (put busAt (busBytes b)) (set-is xs)
     where
       v : ℕ
@@ -189,7 +189,7 @@ applied-ignore xs ram ys s a q e p = rw q (λ i. record { device = e i; ram = ra
 -- ---- a data byte and a fetch, seen by the number of the state
 
 -- the bus with its counter gone up
-abbrev up : BusState → ℕ → Bus
+abbrev pub up : BusState → ℕ → Bus
 up s n = record { state = s; counter = (n % 0x4000 + 1) % 0x4000 }
 
 module _ (xs ram ys : List ℕ) (n : ℕ) (p : n ≡ deviceIn xs .bus .counter) where

@@ -1,12 +1,10 @@
--- `osd_bus`: refused, or the step of the bus applied.
+-- `osd_bus`: refused, a data byte or a fetch, or any other event.
 -- Assumes nothing.
 use Prim.Native.Nat.{ℕ}
-use mathlib.Core.Path.{subst, sym, ap}
+use mathlib.Core.Path.{sym, ap}
 use borrow.Author.Needs.{needs}
-use Rattle.bus.specs.declared.Step.{Step}
-use Rattle.osd.specs.Steps.{InSpace}
 use Rattle.interface.proofs.Laws.{bus-not-record, bus-not-kind}
-use Rattle.osd.proofs.Calls.{step-in-space, bus-refused, bus-heard, bus-applied, not-fetched}
+use Rattle.osd.proofs.Calls.{bus-refused, bus-heard, not-fetched}
 use Rattle.bus.specs.declared.Event.the-variants.{Byte, Fetch}
 use Rattle.bus.specs.Bus.{eventOf}
 use Rattle.osd.proofs.osd_bus.Statement.{statement}
@@ -47,21 +45,8 @@ returns-6 c =
     bus-heard _ _ _ b (l .before .before .if1 .left) (l .before .if2 .left) (Byte b) _
     (l .if3 .left) (ap (λ (n : ℕ). eventOf n b) (sym (t .if6 .taken))) (k .write-next .ensures)
 
-apply-requires : tie.Need-apply-requires
-apply-requires c κs =
-    let b = c .before .before .before .before in (
-      search needs,
-      b .before .before .before .before .before .if3 .left,
-      subst (λ (s : Step). InSpace (s .effect)) (sym (c .take .ensures)) (step-in-space (b .bus-of .result) (c .before .of-kind .result)),
-    )
-
 returns-7 : tie.Need-returns-7
-returns-7 c =
-    let k = c .before .before .before .before in
-    let b = k .before .before .before .before .before in
-    let l = b .before .before .before .before .before in
-    bus-applied _ _ _ _ (l .before .before .if1 .left) (l .before .if2 .left) (b .bus-of .result) (k .before .before .of-kind .result) (k .before .take .result) _
-    (l .if3 .left) (b .bus-of .ensures) (k .before .before .of-kind .ensures) (k .before .take .ensures) (k .apply .ensures)
+returns-7 c = c .before .before .before .before .hear .ensures
 
 pub osd-bus-spec : {M : Type 1} → statement M
 osd-bus-spec =
@@ -83,9 +68,6 @@ osd-bus-spec =
     (λ c. search needs)
     returns-6
     (λ c κs. search needs)
-    (λ c κs. search needs)
-    (λ c κs. search needs)
-    apply-requires
     (λ c. search needs)
     (λ c. search needs)
     returns-7)
