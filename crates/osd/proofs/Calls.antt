@@ -186,6 +186,18 @@ pub applied-ignore : (xs ram ys : List ℕ) (s : Step) (a : ℕ) → s .effect �
 unfolding heardOn taken registersWith ramWith answerTo
 applied-ignore xs ram ys s a q e p = rw q (λ i. record { device = e i; ram = ram; answer = p i })
 
+-- a start and a stop: the counter stays
+module _ (xs ram ys : List ℕ) where
+  pub started-slave : ys ≡ put busAt (busBytes (record { state = Slave; counter = deviceIn xs .bus .counter })) xs
+      → _≡_ {A = face.BusDone} (record { device = ys; ram = ram; answer = 0 }) (eventOn xs ram Start)
+  unfolding step
+  started-slave e = applied-acknowledge xs ram ys (goes (deviceIn xs .bus) Slave Acknowledge) e refl
+
+  pub stopped-idle : ys ≡ put busAt (busBytes (record { state = Idle; counter = deviceIn xs .bus .counter })) xs
+      → _≡_ {A = face.BusDone} (record { device = ys; ram = ram; answer = 0 }) (eventOn xs ram Stop)
+  unfolding step
+  stopped-idle e = applied-acknowledge xs ram ys (goes (deviceIn xs .bus) Idle Acknowledge) e refl
+
 -- ---- a data byte and a fetch, seen by the number of the state
 
 -- the bus with its counter gone up

@@ -30,9 +30,13 @@ use registers::Registers;
 const DEVICE_LENGTH: usize = 32;
 
 // Kinds of events by their numbers.
+const START: u8 = 0;
+
 const HOST_BYTE: u8 = 1;
 
 const FETCH: u8 = 2;
+
+const STOP: u8 = 3;
 
 // Bus states by their numbers.
 const DEAF: u8 = 1;
@@ -192,11 +196,34 @@ fn read_next(device: &mut [u8], ram: &mut [u8]) -> u32
     load(device, ram, address) as u32
 }
 
-// Any event, by the step of the bus.
+// A start or a stop: the bus waits for something else, and the counter stays.
+fn go(device: &mut [u8], state: BusState)
+    requires { ⌜ length (now device) ≡ recordLength ⌝ }
+    ensures { λ _. ⌜ now (device .exit) ≡ put busAt (busBytes (record { state = state; counter = deviceIn (now (device .entry)) .bus .counter })) (now (device .entry)) ⌝ }
+{
+    let counter = layout::counter_of(device);
+    layout::write_bus(
+        device,
+        Bus {
+            state: state,
+            counter: counter,
+        },
+    );
+}
+
+// Any event: a start or a stop, or by the step of the bus.
 fn hear(device: &mut [u8], ram: &mut [u8], kind: u8, byte: u8) -> u32
     requires { ⌜ (length (now device) ≡ recordLength) × (length (now ram) ≡ ramLength) × (kind ≤ 3) ⌝ }
     ensures { λ r. ⌜ record { device = now (device .exit); ram = now (ram .exit); answer = r } ≡ busOn (now (device .entry)) (now (ram .entry)) kind byte ⌝ }
 {
+    if kind == START {
+        go(device, BusState::Slave);
+        return 0;
+    }
+    if kind == STOP {
+        go(device, BusState::Idle);
+        return 0;
+    }
     let bus = layout::bus_of(device);
     apply(device, ram, bus.take(Event::of_kind(kind, byte)))
 }
@@ -210,20 +237,20 @@ pub extern "C" fn osd_bus(device: &mut [u8], ram: &mut [u8], kind: u8, byte: u8)
     if device.len() != DEVICE_LENGTH {
         return NOT_TAKEN;
     }
-    if kind > 3 {
+    if kind > STOP {
         return NOT_TAKEN;
     }
     if ram.len() != limits::RAM_LENGTH {
         return refuse(Refusal::RamLength);
     }
     let state = device[layout::BUS_AT];
-    if kind == 2 {
+    if kind == FETCH {
         if state == READING {
             return read_next(device, ram);
         }
         return refuse(Refusal::NotAcknowledged);
     }
-    if kind == 1 {
+    if kind == HOST_BYTE {
         if state == WRITING {
             return write_next(device, ram, byte);
         }
@@ -399,8 +426,9 @@ fn read_run(
             end_run(device, BusState::Read, address);
             return j;
         }
+        let byte = load(device, ram, address);
         out[j - first] = 1;
-        out[j - first + 1] = load(device, ram, address);
+        out[j - first + 1] = byte;
         address = (address + 1) % 0x4000;
         j += 2;
     }

@@ -124,9 +124,9 @@ read-run-spec =
     (λ c. search needs)
     (λ c. search needs)
     returns-4
-    (λ c. search needs)
-    (λ c. search needs)
     (λ c κs. search needs)
+    (λ c. search needs)
+    (λ c. search needs)
     (λ c. search needs)
     (λ c. search needs)
     slice-write-out-2
