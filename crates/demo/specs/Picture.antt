@@ -1,32 +1,48 @@
 -- The picture: the traffic of a host, then each line of the frame mixed with the camera's line by fast blanking.
 -- Assumes nothing.
-use Prim.Native.Nat.{ℕ, suc, _*_, _/_, _%_}
+use Prim.Native.Nat.{ℕ, suc, _+_, _*_, _/_, _%_}
 use mathlib.Core.Bool.{cond}
 use mathlib.Core.List.{List, [], _∷_, _++_}
 use lib.Dec.{eqb}
 use lib.ListN.{drop, replicate}
-use Rattle.bus.specs.Bus.{eventOf}
+use Rattle.refusals.specs.Refusals.{Reply}
 use Rattle.device.specs.declared.Device.{Device}
-use Rattle.device.specs.Device.{EventOutcome, hearEvent, DrawOutcome, drawLine, lineWidth}
+use Rattle.device.specs.Device.{DrawOutcome, drawLine, lineWidth}
+use Rattle.capture.specs.declared.Feed.{Feed}
+use Rattle.capture.specs.Capture.{freshFeed, isShut, Chip, chip, FeedOutcome, feedChunk}
+use Rattle.demo.specs.declared.Played.{Played}
+use Rattle.demo.specs.declared.Traffic.{Traffic}
+use Rattle.demo.specs.declared.Traffic.the-variants.{Whole, BadKind}
 use Rattle.demo.specs.declared.camera.Colour.{Colour}
 use Rattle.demo.specs.Camera.{rgb, camera}
 
 -- ---- the host's traffic
 
+-- an input, the font and the traffic, has at most so many bytes
+abbrev pub inputLength : ℕ
+inputLength = 65536
+
+-- what the traffic leaves, and how it ends
 pub record Host : Type 0 where
-  pub device : Device
-  pub ram : List ℕ
+  pub chip : Chip
+  pub traffic : Traffic
 
--- what the traffic leaves: two bytes an event, its kind and the byte; an odd byte at the end is no event
-unfoldable pub played : List ℕ → Device → List ℕ → Host
-played [] d ram = record { device = d; ram = ram }
-played (kind ∷ []) d ram = record { device = d; ram = ram }
-played (kind ∷ byte ∷ more) d ram =
-    let o : EventOutcome = hearEvent d ram (eventOf kind byte) in
-    played more (o .device) (o .ram)
+abbrev pub host : Played → List ℕ → Host
+host p ram = record { chip = chip (p .device) ram; traffic = p .traffic }
 
-abbrev pub host : Device → List ℕ → Host
-host d ram = record { device = d; ram = ram }
+-- by the feed after it and the bytes of output: a bad kind shuts the feed. An event has two bytes of output, and is counted from 1
+abbrev pub endAt : Feed → ℕ → Traffic
+endAt f n = cond (isShut f) (BadKind (n / 2 + 1)) Whole
+
+-- the traffic is one chunk for a feed made anew. The output is as long as the longest input, so it has room: the traffic is taken
+abbrev pub played : Device → List ℕ → List ℕ → Host
+played d ram traffic =
+    let o : FeedOutcome = feedChunk (chip d ram) freshFeed traffic (replicate inputLength 0) in
+    record { chip = o .chip; traffic = endAt (o .feed) (o .reply .value) }
+
+-- the same end by the reply alone, of a feed that took its chunk
+abbrev pub endOf : Reply → Traffic
+endOf r = cond (eqb (r .refusal) 0) Whole (BadKind (r .value / 2 + 1))
 
 -- ---- mixing
 

@@ -1,21 +1,36 @@
-// Draws a picture: plays a host's bus traffic on a fresh device, draws one frame, mixes each line with a made-up camera's by fast
+// Draws a picture: feeds a host's bus traffic to a fresh device, draws one frame, mixes each line with a made-up camera's by fast
 // blanking, and writes the frame as a binary PPM. Standard input: a font of 4,608 bytes, then two bytes an event, its kind (0 start,
-// 1 host byte, 2 fetch, 3 stop) and the byte.
+// 1 host byte, 2 fetch, 3 stop) and the byte; 65,536 bytes at the most. Where a kind is bad, a line says so and nothing is drawn.
 // The stored input and output come from tests/demo.py, with a sample font of our own drawing (tests/sample_font.txt).
 ghost use mathlib.Core.Path.{_≡_};
 ghost use Prim.Native.Nat.{_*_, _≤_};
 ghost use lib.ListN.{length};
+ghost use Rattle.limits.specs.Limits.{ramLength};
 ghost use Rattle.device.specs.Device.{drawLine};
-ghost use Rattle.demo.specs.Picture.{played, host, full, mix, mixed, lineOutcome, mixedDraw, pictureLine};
-use bus::Event;
+ghost use Rattle.capture.specs.Capture.{feedReply};
+ghost use Rattle.demo.specs.Picture.{inputLength, host, played, endOf, full, mix, mixed, lineOutcome, mixedDraw, pictureLine};
 use camera::Colour;
+use capture::Feed;
+use capture::FeedAnswer;
 use device::Device;
 
 mod camera;
 
-const FONT_LENGTH: usize = 4608;
-
 const LINES: usize = 216;
+
+// How the traffic ends.
+enum Traffic {
+    // each event was heard; half an event at the end is none yet
+    Whole,
+    // at an event that has no kind 0 to 3: its number, counted from 1
+    BadKind(usize),
+}
+
+// The device after the traffic, up to where it ends.
+struct Played {
+    device: Device,
+    traffic: Traffic,
+}
 
 fn main() {
     let mut input = io::large_buffer();
@@ -23,29 +38,57 @@ fn main() {
     run(&input[..n]);
 }
 
-fn run(input: &[u8]) {
-    if input.len() < FONT_LENGTH {
+fn run(input: &[u8])
+    requires { ⌜ length (now input) ≤ inputLength ⌝ }
+{
+    if input.len() < limits::FONT_LENGTH {
         io::write_all(1, b"demo: the input begins with a font of 4608 bytes\n");
         return;
     }
     let mut ram = bus::fresh_ram();
-    let device = play(Device::fresh(), &mut ram, &input[FONT_LENGTH..]);
-    let started = device.start_frame(LINES as u32);
-    show(started.device, &ram, &input[..FONT_LENGTH]);
+    let after = play(Device::fresh(), &mut ram, &input[limits::FONT_LENGTH..]);
+    let traffic = after.traffic;
+    match traffic {
+        Traffic::Whole => {
+            let started = after.device.start_frame(LINES as u32);
+            show(started.device, &ram, &input[..limits::FONT_LENGTH]);
+        }
+        Traffic::BadKind(event) => {
+            tell(event);
+        }
+    }
 }
 
-// The device after the traffic.
-fn play(device: Device, ram: &mut [u8], traffic: &[u8]) -> Device
-    ensures { λ r. ⌜ host r (now (ram .exit)) ≡ played (now (traffic .entry)) device (now (ram .entry)) ⌝ }
+// Feeds the traffic. An event has as many bytes of output as it has itself, so an output as long as the longest input has room.
+fn play(device: Device, ram: &mut [u8], traffic: &[u8]) -> Played
+    requires { ⌜ length (now ram) ≡ ramLength ⌝ }
+    requires { ⌜ length (now traffic) ≤ inputLength ⌝ }
+    ensures { λ r. ⌜ host r (now (ram .exit)) ≡ played device (now (ram .entry)) (now (traffic .entry)) ⌝ }
 {
-    let mut next = device;
-    let mut i = 0;
-    while i < traffic.len() / 2 {
-        let done = next.hear(ram, Event::of_kind(traffic[2 * i], traffic[2 * i + 1]));
-        next = done.device;
-        i += 1;
+    let mut out = [0u8; 65536];
+    let done = Feed::fresh().take(device, ram, traffic, &mut out);
+    let next = done.device;
+    let answer = done.answer;
+    Played {
+        device: next,
+        traffic: end_of(answer),
     }
-    next
+}
+
+// By the answer of a feed that had room.
+fn end_of(answer: FeedAnswer) -> Traffic
+    ensures { λ r. ⌜ r ≡ endOf (feedReply answer) ⌝ }
+{
+    if answer.refusal() == 0 {
+        return Traffic::Whole;
+    }
+    Traffic::BadKind(answer.value() / 2 + 1)
+}
+
+fn tell(event: usize) {
+    io::write_all(1, b"demo: event ");
+    io::print_decimal(1, event as u64);
+    io::write_all(1, b" of the traffic has no kind 0 to 3\n");
 }
 
 // The heading of the PPM, then every line.
