@@ -13,7 +13,7 @@ use Rattle.refusals.specs.Refusals.{Reply, Verdict}
 use Rattle.capture.specs.declared.Feed.{Feed}
 use Rattle.capture.specs.declared.Feed.the-variants.{Open, Half, Shut}
 use Rattle.capture.specs.Capture.{Logged, badKind, finished, feedAfter, outputOf, outputs, outputFrom, busEvents, isShut, takenReply, FeedOutcome, notFed, chunkFed, feedBy, feedChunk}
-use Rattle.capture.specs.Cuts.{Chunk, ChunkAnswer, Feeding, feeds, writtenIn, joined, whole, Fits, SameCut, AnyCut}
+use Rattle.capture.specs.Cuts.{Chunk, ChunkAnswer, Feeding, feeds, writtenIn, joined, whole, Fits, SameCut, SameCuts, AnyCut}
 use Rattle.capture.proofs.Laws.{by-verdict, taken-value}
 
 -- ---- a chunk behind another
@@ -110,6 +110,15 @@ module _ {S : Type 0} (m : Machine S Chunk ChunkAnswer) (Good : Reply → Type 0
       record {
         outputs = run-writes s c cs h ∙ sym (writes s _ k);
         state = run-leaves s c cs h ∙ sym (leaves s _ k);
+      }
+
+  pub two-cuts : (s : S) (c d : Chunk) (cs ds : List Chunk) → whole (c ∷ cs) ≡ whole (d ∷ ds)
+      → AsMade (λ u x. Good (m .answer u x .reply)) m s (c ∷ cs) → AsMade (λ u x. Good (m .answer u x .reply)) m s (d ∷ ds)
+      → SameCuts m s (c ∷ cs) (d ∷ ds)
+  two-cuts s c d cs ds e h k =
+      record {
+        outputs = run-writes s c cs h ∙ ap (out s) e ∙ sym (run-writes s d ds k);
+        state = run-leaves s c cs h ∙ ap (next s) e ∙ sym (run-leaves s d ds k);
       }
 
 -- ---- the device's feeds

@@ -58,6 +58,11 @@ pub record SameCut {S : Type 0} (m : Machine S Chunk ChunkAnswer) (s : S) (cs : 
   pub outputs : joined (log m s cs) ≡ writtenIn (m .answer s (record { bytes = whole cs; out = out }))
   pub state : end m s cs ≡ m .after s (record { bytes = whole cs; out = out })
 
+-- two lists of chunks
+pub record SameCuts {S : Type 0} (m : Machine S Chunk ChunkAnswer) (s : S) (cs ds : List Chunk) : Type 0 where
+  pub outputs : joined (log m s cs) ≡ joined (log m s ds)
+  pub state : end m s cs ≡ end m s ds
+
 -- the claim, for every cut into one or more chunks of which none, nor the whole, is refused 1 or 10, from any device, feed and RAM.
 -- Refusal 9 is inside it
 abbrev pub AnyCut : Type 0

@@ -1,6 +1,6 @@
 -- The claims of specs/, each with its proof.
 -- Assumes nothing.
-use Rattle.interface.specs.Cuts.{AnyCutBytes}
+use Rattle.interface.specs.Cuts.{AnyCutBytes, TwoCutsBytes}
 use Rattle.interface.specs.Interface.{Crossing}
 use Rattle.interface.specs.OnePage.{OnePageBytes, NoStaysBytes}
 use Rattle.interface.proofs.Crossing as interface
@@ -12,6 +12,9 @@ crossing = interface.crossing
 
 pub any-cut-bytes : AnyCutBytes
 any-cut-bytes = cuts.any-cut-bytes
+
+pub two-cuts-bytes : TwoCutsBytes
+two-cuts-bytes = cuts.two-cuts-bytes
 
 pub one-page-bytes : OnePageBytes
 one-page-bytes = page.one-page-bytes

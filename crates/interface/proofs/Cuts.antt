@@ -15,11 +15,11 @@ use Rattle.capture.specs.declared.Feed.the-variants.{Open, Half, Shut}
 use Rattle.capture.specs.Capture.{finished, feedAfter, outputs, outputFrom, isShut}
 use Rattle.capture.specs.Cuts.{Chunk}
 use Rattle.capture.proofs.Laws.{by-verdict}
-use Rattle.capture.proofs.Cuts.{shut-is, shut-finishes, shut-stays, after-append, end-both, output-both, same-cut}
+use Rattle.capture.proofs.Cuts.{shut-is, shut-finishes, shut-stays, after-append, end-both, output-both, same-cut, two-cuts}
 use Rattle.layout.specs.FeedLayout.{feedBytes, feedIn}
 use Rattle.layout.proofs.Laws.{feed-back}
 use Rattle.interface.specs.Interface.{answerOf, ChipBytes, busCalls, FeedDone, notFedOn, chunkFedOn, fedOnBy, rightLengths, feedOn}
-use Rattle.interface.specs.Cuts.{replyIn, Records, feedsOn, FitsBytes, AnyCutBytes}
+use Rattle.interface.specs.Cuts.{replyIn, Records, feedsOn, FitsBytes, AnyCutBytes, TwoCutsBytes}
 use Rattle.interface.proofs.Laws.{if-taken, feed-tests}
 use Rattle.interface.proofs.Crossing.{written-value}
 
@@ -117,3 +117,7 @@ fitted s c =
 pub any-cut-bytes : AnyCutBytes
 any-cut-bytes s c cs room h k =
     same-cut feedsOn FitsBytes next written next-both written-both (λ s c f. fitted s c f .leaves) (λ s c f. fitted s c f .writes) s c cs room h k
+
+pub two-cuts-bytes : TwoCutsBytes
+two-cuts-bytes s c d cs ds e h k =
+    two-cuts feedsOn FitsBytes next written next-both written-both (λ s c f. fitted s c f .leaves) (λ s c f. fitted s c f .writes) s c d cs ds e h k

@@ -7,7 +7,7 @@ use mathlib.Core.Bool.{true}
 use mathlib.Core.List.{List, _∷_}
 use Rattle.runs.specs.Runs.{Machine, AsMade}
 use Rattle.refusals.specs.Refusals.{Reply}
-use Rattle.capture.specs.Cuts.{Chunk, ChunkAnswer, whole, Fits, SameCut}
+use Rattle.capture.specs.Cuts.{Chunk, ChunkAnswer, whole, Fits, SameCut, SameCuts}
 use Rattle.interface.specs.Interface.{FeedDone, feedOn}
 
 -- OSD_REFUSAL and OSD_VALUE of an answer
@@ -48,3 +48,11 @@ AnyCutBytes =
     → AsMade (λ u x. FitsBytes (feedsOn .answer u x .reply)) feedsOn s (c ∷ cs)
     → FitsBytes (feedsOn .answer s (record { bytes = whole (c ∷ cs); out = out }) .reply)
     → SameCut feedsOn s (c ∷ cs) out
+
+-- a capture of more than 65,534 bytes cannot be fed whole: any two cuts of it, each into one or more chunks that fit, do the same
+abbrev pub TwoCutsBytes : Type 0
+TwoCutsBytes =
+    (s : Records) (c d : Chunk) (cs ds : List Chunk) → whole (c ∷ cs) ≡ whole (d ∷ ds)
+    → AsMade (λ u x. FitsBytes (feedsOn .answer u x .reply)) feedsOn s (c ∷ cs)
+    → AsMade (λ u x. FitsBytes (feedsOn .answer u x .reply)) feedsOn s (d ∷ ds)
+    → SameCuts feedsOn s (c ∷ cs) (d ∷ ds)
