@@ -4,7 +4,7 @@ use Prim.Native.Nat.{ℕ}
 use mathlib.Core.Path.{sym, ap}
 use borrow.Author.Needs.{needs}
 use Rattle.interface.proofs.Laws.{bus-not-record, bus-not-kind}
-use Rattle.osd.proofs.Calls.{bus-refused, bus-heard, not-fetched}
+use Rattle.bus_bytes.proofs.Events.{bus-refused, bus-heard, not-fetched}
 use Rattle.bus.specs.declared.Event.the-variants.{Byte, Fetch}
 use Rattle.bus.specs.Bus.{eventOf}
 use Rattle.osd.proofs.osd_bus.Statement.{statement}

@@ -9,8 +9,8 @@ use Rattle.capture.specs.declared.Feed.{Feed}
 use Rattle.capture.specs.Capture.{isShut}
 use Rattle.capture.proofs.Laws.{held-one, finds-ram, finds-shut, finds-room, finds-none}
 use Rattle.interface.proofs.Laws.{feed-not}
-use Rattle.osd.specs.Steps.{eventsOn}
-use Rattle.osd.proofs.Feeds.{feed-refused, feed-taken}
+use Rattle.feed_bytes.specs.Turns.{eventsOn}
+use Rattle.feed_bytes.proofs.Feeds.{feed-refused, feed-taken}
 use Rattle.osd.proofs.osd_feed.Statement.{statement}
 use Rattle.osd.proofs.osd_feed.Tie as tie
 

@@ -1,0 +1,221 @@
+-- A bus event on the bytes, from what the inner functions leave: the cases of the definitions.
+-- Assumes nothing.
+use Prim.Native.Nat.{ℕ, _+_, _-_, _%_, _≤_, _<_}
+use mathlib.Core.Path.{_≡_, refl, sym, ap, ap₂, _∙_}
+use mathlib.Core.Bool.{Bool, true, false, cond}
+use mathlib.Core.List.{List, [], _∷_}
+use native.Mathlib.Omega.{arith}
+use borrow.Author.Tests.{eq-eqb, ne-eqb, le-leb, lt-leb}
+use lib.Dec.{eqb}
+use lib.Bits.{bitAnd}
+use lib.ListN.{length, getD, set}
+use Rattle.refusals.specs.declared.Refusal.the-variants.{RamLength, NotAcknowledged}
+use Rattle.refusals.specs.Refusals.{refused}
+use Rattle.registers.specs.Registers.{kept, stored}
+use Rattle.bus.specs.declared.BusState.{BusState}
+use Rattle.bus.specs.declared.BusState.the-variants.{Idle, Deaf, Slave, High, Low, Write, Read}
+use Rattle.bus.specs.declared.Bus.{Bus}
+use Rattle.bus.specs.declared.Step.{Step}
+use Rattle.bus.specs.declared.Event.{Event}
+use Rattle.bus.specs.declared.Event.the-variants.{Start, Byte, Fetch, Stop}
+use Rattle.bus.specs.declared.Effect.the-variants.{Acknowledge, Ignore, Store, Load}
+use Rattle.bus.specs.Bus.{eventOf, goes, ignores, byteAt, fetchAt, step, isRegister, registersWith, ramWith, answerTo, taken, busEvent, byteIn}
+use Rattle.device.specs.declared.Device.{Device}
+use Rattle.device.specs.declared.StartAnswer.the-variants as start
+use Rattle.device.specs.declared.DrawAnswer.the-variants as draw
+use Rattle.layout.specs.Layout.{busAt, busLength, registersAt, registersLength, recordLength, put, stateNumber, busBytes, deviceIn}
+use Rattle.facts.proofs.Parts.{sets-comm, sets-part, set-part}
+use Rattle.layout.proofs.Laws.{numbered, put-part}
+use Rattle.interface.specs.Interface as face
+use Rattle.interface.specs.Interface.{answerOf, ignoredOn, heardOn, busOn}
+use Rattle.interface.proofs.Laws.{state-byte, ignored-same, bus-is}
+use Rattle.bus_bytes.specs.Steps.{InSpace, stepOn, eventOn, storedOn}
+
+-- ---- the registers in their place
+
+-- a store to one of them, or to none
+module _ (a x : ℕ) where
+  abbrev place : ℕ
+  place = (a - 0x3FF0) % 16
+
+  abbrev setOn : List ℕ → List ℕ
+  setOn xs = cond (isRegister a) (set xs (registersAt + place) (bitAnd x (getD kept place 0))) xs
+
+  set-is : (xs : List ℕ) → setOn xs ≡ storedOn a x xs
+  unfolding registersWith
+  set-is xs = by (isRegister a)
+    where
+      by : (t : Bool)
+          → cond t (set xs (registersAt + place) (bitAnd x (getD kept place 0))) xs
+          ≡ put registersAt (cond t (stored (deviceIn xs .registers) (a - 0x3FF0) x) (deviceIn xs .registers) .bytes) xs
+      by true = set-part registersAt registersLength place xs _ (omega arith)
+      by false = sym (sets-part registersAt registersLength xs)
+
+  pub set-register : (xs : List ℕ) → 0x3FF0 ≤ a → a < 0x4000 → set xs (registersAt + (a - 0x3FF0)) (bitAnd x (getD kept (a - 0x3FF0) 0)) ≡ storedOn a x xs
+  set-register xs h k = let few : place ≡ a - 0x3FF0 = omega arith in rw (le-leb _ _ h, few) at set-is xs
+
+  pub set-none : (xs : List ℕ) → a < 0x3FF0 → xs ≡ storedOn a x xs
+  set-none xs h = rw (lt-leb _ _ h) at set-is xs
+
+  -- before the bus's bytes are put, or after
+  pub stored-in-place : (b : Bus) (xs : List ℕ) → storedOn a x (put busAt (busBytes b) xs) ≡ put busAt (busBytes b) (storedOn a x xs)
+  stored-in-place b xs = sym (set-is (put busAt (busBytes b) xs)) ∙ by (isRegister a) ∙ ap (put busAt (busBytes b)) (set-is xs)
+    where
+      v : ℕ
+      v = bitAnd x (getD kept place 0)
+
+      by : (t : Bool)
+          → cond t (set (put busAt (busBytes b) xs) (registersAt + place) v) (put busAt (busBytes b) xs)
+          ≡ put busAt (busBytes b) (cond t (set xs (registersAt + place) v) xs)
+      by true = sets-comm xs (busBytes b) (v ∷ []) busAt (registersAt + place) (omega arith)
+      by false = refl
+
+-- ---- what the bus asks of the cells
+
+slave-in-space : (b : Bus) (p q : Bool) → InSpace (cond p (goes b High Acknowledge) (cond q (goes b Read Acknowledge) (goes b Deaf Ignore)) .effect)
+slave-in-space b true q = tt
+slave-in-space b false true = tt
+slave-in-space b false false = tt
+
+byte-in-space : (s : BusState) (b : Bus) (x : ℕ) → InSpace (byteAt s b x .effect)
+byte-in-space Idle b x = tt
+byte-in-space Deaf b x = tt
+byte-in-space Slave b x = slave-in-space b (eqb x 0xBA) (eqb x 0xBB)
+byte-in-space High b x = tt
+byte-in-space (Low high) b x = tt
+byte-in-space Write b x = omega arith
+byte-in-space Read b x = tt
+
+fetch-in-space : (s : BusState) (b : Bus) → InSpace (fetchAt s b .effect)
+fetch-in-space Idle b = tt
+fetch-in-space Deaf b = tt
+fetch-in-space Slave b = tt
+fetch-in-space High b = tt
+fetch-in-space (Low high) b = tt
+fetch-in-space Write b = tt
+fetch-in-space Read b = omega arith
+
+pub step-in-space : (b : Bus) (e : Event) → InSpace (step b e .effect)
+unfolding step
+step-in-space b Start = tt
+step-in-space b (Byte x) = byte-in-space (b .state) b x
+step-in-space b Fetch = fetch-in-space (b .state) b
+step-in-space b Stop = tt
+
+module _ (xs ram ys : List ℕ) (s : Step) (e : ys ≡ put busAt (busBytes (s .bus)) xs) where
+  -- registers that stay as they are
+  stay : ys ≡ put busAt (busBytes (s .bus)) (put registersAt (deviceIn xs .registers .bytes) xs)
+  stay = e ∙ ap (put busAt (busBytes (s .bus))) (sym (sets-part registersAt registersLength xs))
+
+  pub applied-acknowledge : s .effect ≡ Acknowledge
+      → _≡_ {A = face.BusDone} (record { device = ys; ram = ram; answer = 0 }) (stepOn xs ram s)
+  unfolding heardOn taken registersWith ramWith answerTo
+  applied-acknowledge q = rw q (ap (λ (l : List ℕ). record { device = l; ram = ram; answer = 0 }) stay)
+
+  pub applied-store : (a x : ℕ) (zs ram′ : List ℕ) → s .effect ≡ Store a x → zs ≡ storedOn a x ys → ram′ ≡ ramWith (Store a x) ram
+      → _≡_ {A = face.BusDone} (record { device = zs; ram = ram′; answer = 0 }) (stepOn xs ram s)
+  unfolding heardOn taken answerTo
+  applied-store a x zs ram′ q p r =
+      let place = p ∙ ap (storedOn a x) e ∙ stored-in-place a x (s .bus) xs in rw q (λ i. record { device = place i; ram = r i; answer = 0 })
+
+  pub applied-load : (a byte : ℕ) → s .effect ≡ Load a → byte ≡ byteIn a (deviceIn xs .registers) ram
+      → _≡_ {A = face.BusDone} (record { device = ys; ram = ram; answer = byte }) (stepOn xs ram s)
+  unfolding heardOn taken registersWith ramWith answerTo
+  applied-load a byte q p =
+      let z : byte ≡ 0 + byteIn a (deviceIn xs .registers) ram = omega (arith, p) in
+      rw q (λ i. record { device = stay i; ram = ram; answer = z i })
+
+pub applied-ignore : (xs ram ys : List ℕ) (s : Step) (a : ℕ) → s .effect ≡ Ignore → ys ≡ ignoredOn (s .bus .state) xs → a ≡ answerOf (refused NotAcknowledged)
+    → _≡_ {A = face.BusDone} (record { device = ys; ram = ram; answer = a }) (stepOn xs ram s)
+unfolding heardOn taken registersWith ramWith answerTo
+applied-ignore xs ram ys s a q e p = rw q (λ i. record { device = e i; ram = ram; answer = p i })
+
+-- a start and a stop: the counter stays
+module _ (xs ram ys : List ℕ) where
+  pub started-slave : ys ≡ put busAt (busBytes (record { state = Slave; counter = deviceIn xs .bus .counter })) xs
+      → _≡_ {A = face.BusDone} (record { device = ys; ram = ram; answer = 0 }) (eventOn xs ram Start)
+  unfolding step
+  started-slave e = applied-acknowledge xs ram ys (goes (deviceIn xs .bus) Slave Acknowledge) e refl
+
+  pub stopped-idle : ys ≡ put busAt (busBytes (record { state = Idle; counter = deviceIn xs .bus .counter })) xs
+      → _≡_ {A = face.BusDone} (record { device = ys; ram = ram; answer = 0 }) (eventOn xs ram Stop)
+  unfolding step
+  stopped-idle e = applied-acknowledge xs ram ys (goes (deviceIn xs .bus) Idle Acknowledge) e refl
+
+-- ---- a data byte and a fetch, seen by the number of the state
+
+-- the bus with its counter gone up
+abbrev pub up : BusState → ℕ → Bus
+up s n = record { state = s; counter = (n % 0x4000 + 1) % 0x4000 }
+
+module _ (xs ram ys : List ℕ) (n : ℕ) (p : n ≡ deviceIn xs .bus .counter) where
+  pub written-next : (x : ℕ) (zs ram′ : List ℕ) → getD xs busAt 0 ≡ 5 → ys ≡ put busAt (busBytes (up Write n)) xs → zs ≡ storedOn (n % 0x4000) x ys
+      → ram′ ≡ ramWith (Store (n % 0x4000) x) ram → _≡_ {A = face.BusDone} (record { device = zs; ram = ram′; answer = 0 }) (eventOn xs ram (Byte x))
+  unfolding step
+  written-next x zs ram′ five e q r =
+      applied-store xs ram ys (record { bus = up Write n; effect = Store (n % 0x4000) x }) e (n % 0x4000) x zs ram′ refl q r
+      ∙ ap (λ (m : ℕ). stepOn xs ram (record { bus = up Write m; effect = Store (m % 0x4000) x })) p
+      ∙ ap (stepOn xs ram) (sym by)
+    where
+      by : step (deviceIn xs .bus) (Byte x) ≡ record { bus = up Write (deviceIn xs .bus .counter); effect = Store (deviceIn xs .bus .counter % 0x4000) x }
+      by = rw (state-byte xs, five)
+
+  pub fetched-next : (byte : ℕ) → length xs ≡ recordLength → getD xs busAt 0 ≡ 6 → ys ≡ put busAt (busBytes (up Read n)) xs
+      → byte ≡ byteIn (n % 0x4000) (deviceIn ys .registers) ram
+      → _≡_ {A = face.BusDone} (record { device = ys; ram = ram; answer = byte }) (eventOn xs ram Fetch)
+  unfolding step
+  fetched-next byte h six e q =
+      applied-load xs ram ys (record { bus = up Read n; effect = Load (n % 0x4000) }) e (n % 0x4000) byte refl
+      (q ∙ ap (λ (d : Device). byteIn (n % 0x4000) (d .registers) ram)
+      (ap deviceIn e ∙ put-part busAt busLength (busBytes (up Read n)) xs refl (omega arith) (tt, tt, tt, tt)))
+      ∙ ap (λ (m : ℕ). stepOn xs ram (record { bus = up Read m; effect = Load (m % 0x4000) })) p
+      ∙ ap (stepOn xs ram) (sym by)
+    where
+      by : step (deviceIn xs .bus) Fetch ≡ record { bus = up Read (deviceIn xs .bus .counter); effect = Load (deviceIn xs .bus .counter % 0x4000) }
+      by = rw (state-byte xs, six)
+
+-- a fetch while not reading
+ignored-fetch : (b : Bus) → (b .state ≡ Read → ⊥) → step b Fetch ≡ ignores b
+unfolding step
+ignored-fetch b = by (b .state) refl
+  where
+    by : (s : BusState) → b .state ≡ s → (s ≡ Read → ⊥) → fetchAt s b ≡ ignores b
+    by Idle p n = refl
+    by Deaf p n = refl
+    by Slave p n = refl
+    by High p n = refl
+    by (Low high) p n = refl
+    by Write p n = refl
+    by Read p n = absurd (n refl)
+
+pub not-fetched : (xs ram : List ℕ) (a : ℕ) → (getD xs busAt 0 ≡ 6 → ⊥) → a ≡ answerOf (refused NotAcknowledged)
+    → _≡_ {A = face.BusDone} (record { device = xs; ram = ram; answer = a }) (eventOn xs ram Fetch)
+not-fetched xs ram a n p =
+    applied-ignore xs ram xs (ignores (deviceIn xs .bus)) a refl (sym (ignored-same xs)) p
+    ∙ ap (stepOn xs ram)
+    (sym (ignored-fetch (deviceIn xs .bus) (λ r. n (sym (state-byte xs) ∙ numbered _ _ 6 (ap stateNumber r) (omega arith)))))
+
+-- ---- bus event
+
+module _ (xs ram : List ℕ) (kind byte : ℕ) (h : length xs ≡ recordLength) (k : kind ≤ 3) where
+  -- refused for the RAM's length
+  pub bus-refused : (a : ℕ) → (length ram ≡ 1024 → ⊥) → a ≡ answerOf (refused RamLength)
+      → _≡_ {A = face.BusDone} (record { device = xs; ram = ram; answer = a }) (busOn xs ram kind byte)
+  unfolding heardOn busEvent
+  bus-refused a r p = by ∙ bus-is xs ram kind byte h k
+    where
+      by : _≡_ {A = face.BusDone} (record { device = xs; ram = ram; answer = a }) (heardOn xs (busEvent (deviceIn xs .bus) (deviceIn xs .registers) ram (eventOf kind byte)))
+      by = rw (ne-eqb _ _ r) (λ i. record { device = sym (ignored-same xs) i; ram = ram; answer = p i })
+
+  -- heard: the event of that number
+  pub bus-heard : (e : Event) (o : face.BusDone) → length ram ≡ 1024 → e ≡ eventOf kind byte → o ≡ eventOn xs ram e → o ≡ busOn xs ram kind byte
+  unfolding busEvent
+  bus-heard e o r q u = u ∙ ap (eventOn xs ram) q ∙ by ∙ bus-is xs ram kind byte h k
+    where
+      by : eventOn xs ram (eventOf kind byte) ≡ heardOn xs (busEvent (deviceIn xs .bus) (deviceIn xs .registers) ram (eventOf kind byte))
+      by = rw (eq-eqb _ _ r)
+
+  -- the step of the bus, applied
+  pub bus-applied : (b : Bus) (e : Event) (s : Step) (o : face.BusDone) → length ram ≡ 1024 → b ≡ deviceIn xs .bus → e ≡ eventOf kind byte → s ≡ step b e
+      → o ≡ stepOn xs ram s → o ≡ busOn xs ram kind byte
+  bus-applied b e s o r p q t u = bus-heard (eventOf kind byte) o r refl (u ∙ ap (stepOn xs ram) (t ∙ ap₂ step p q))

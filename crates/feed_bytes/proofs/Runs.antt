@@ -1,0 +1,189 @@
+-- Runs of data bytes and of fetches: the record's bus part may lag behind while a run lasts, since each event of it puts the bus part anew.
+-- Assumes nothing.
+use Prim.Native.Nat.{ℕ, suc, _+_, _-_, _*_, _/_, _%_, _≤_, _<_}
+use mathlib.Core.Path.{_≡_, refl, sym, ap, _∙_}
+use mathlib.Core.List.{List, [], _∷_, _++_}
+use native.Mathlib.Omega.{arith}
+use borrow.Author.Tests.{eq-eqb, ne-eqb}
+use lib.ListN.{length, getD, set, drop, length-drop, length-set}
+use lib.Seq.{length-take-le, sets, sets-eq, length-sets}
+use Rattle.facts.proofs.Parts.{sets-part}
+use Rattle.refusals.specs.Refusals.{accepted}
+use Rattle.bus.specs.declared.BusState.{BusState}
+use Rattle.bus.specs.declared.BusState.the-variants.{Write, Read}
+use Rattle.bus.specs.declared.Bus.{Bus}
+use Rattle.bus.specs.declared.Event.the-variants.{Byte, Fetch}
+use Rattle.bus.specs.declared.Effect.the-variants.{Store}
+use Rattle.bus.specs.Bus.{eventOf, step, ramWith, byteIn, answerTo, taken, busEvent}
+use Rattle.device.specs.declared.Device.{Device}
+use Rattle.device.specs.Device.{hearEvent}
+use Rattle.capture.specs.Places.{kindAt, Rest, from}
+use Rattle.layout.specs.Layout.{busAt, registersAt, registersLength, recordLength, put, stateNumber, busBytes, deviceIn}
+use Rattle.layout.proofs.Laws.{withBus, event-back}
+use Rattle.interface.specs.Interface.{busOn, ChipBytes, busCalls}
+use Rattle.interface.proofs.Laws.{state-byte}
+use Rattle.bus_bytes.specs.Steps.{storedOn}
+use Rattle.feed_bytes.specs.Turns.{lent, Place, Ran}
+use Rattle.bus_bytes.proofs.Events.{stored-in-place, up, written-next, fetched-next, bus-heard}
+use Rattle.feed_bytes.proofs.Feeds.{turn}
+
+-- ---- the bus part, put over another
+
+abbrev pub at : BusState → ℕ → Bus
+at s a = record { state = s; counter = a }
+
+in-front : (b : Bus) (xs : List ℕ) → length xs ≡ recordLength → put busAt (busBytes b) xs ≡ busBytes b ++ drop 4 xs
+in-front b xs h = sets-eq (busBytes b) xs busAt (omega arith)
+
+put-over : (b c : Bus) (xs : List ℕ) → length xs ≡ recordLength → put busAt (busBytes b) (put busAt (busBytes c) xs) ≡ put busAt (busBytes b) xs
+put-over b c xs h =
+    in-front b (put busAt (busBytes c) xs) (length-sets xs busAt (busBytes c) ∙ h)
+    ∙ ap (λ (l : List ℕ). busBytes b ++ drop 4 l) (in-front c xs h)
+    ∙ sym (in-front b xs h)
+
+-- it is read back, and the rest stays
+bus-put : (b : Bus) (xs : List ℕ) → length xs ≡ recordLength → deviceIn (put busAt (busBytes b) xs) ≡ withBus b (deviceIn xs)
+bus-put b xs h =
+    ap (λ (l : List ℕ). deviceIn (put busAt (busBytes b) l)) (sym (sets-part registersAt registersLength xs))
+    ∙ event-back b (deviceIn xs .registers) xs (length-take-le registersLength (drop registersAt xs) (simp length-drop (omega arith))) h
+
+-- ---- an event of a run
+
+-- bytes xs that differ from ys in the bus part alone
+module _ (xs ys ram : List ℕ) (a x : ℕ) (h : length xs ≡ recordLength) (r : length ram ≡ 1024) (n : deviceIn xs .bus .counter % 0x4000 ≡ a)
+    (over : (b : Bus) → put busAt (busBytes b) xs ≡ put busAt (busBytes b) ys) where
+  abbrev c : ℕ
+  c = deviceIn xs .bus .counter
+
+  -- a data byte
+  stored : getD xs busAt 0 ≡ 5 → busOn xs ram 1 x
+      ≡ record { device = put busAt (busBytes (at Write ((a + 1) % 0x4000))) (storedOn a x ys); ram = ramWith (Store a x) ram; answer = 0 }
+  stored five =
+      sym (bus-heard xs ram 1 x h (omega arith) (Byte x) _ r refl
+      (written-next xs ram (put busAt (busBytes (up Write c)) xs) c refl x _ _ five refl refl refl))
+      ∙ λ i. record { device = placed i; ram = ramWith (Store (n i) x) ram; answer = 0 }
+    where
+      placed : storedOn (c % 0x4000) x (put busAt (busBytes (up Write c)) xs) ≡ put busAt (busBytes (at Write ((a + 1) % 0x4000))) (storedOn a x ys)
+      placed =
+          (λ i. storedOn (n i) x (put busAt (busBytes (at Write ((n i + 1) % 0x4000))) xs))
+          ∙ ap (storedOn a x) (over (at Write ((a + 1) % 0x4000)))
+          ∙ stored-in-place a x (at Write ((a + 1) % 0x4000)) ys
+
+  stored-reply : getD xs busAt 0 ≡ 5 → hearEvent (deviceIn xs) ram (eventOf 1 x) .reply ≡ accepted 0
+  unfolding hearEvent busEvent taken step answerTo
+  stored-reply five = rw (eq-eqb _ _ r, state-byte xs, five)
+
+  -- a fetch
+  fetched : getD xs busAt 0 ≡ 6 → deviceIn ys .registers ≡ deviceIn xs .registers
+      → busOn xs ram 2 x ≡ record { device = put busAt (busBytes (at Read ((a + 1) % 0x4000))) ys; ram = ram; answer = byteIn a (deviceIn ys .registers) ram }
+  fetched six g =
+      sym (bus-heard xs ram 2 x h (omega arith) Fetch _ r refl (fetched-next xs ram (put busAt (busBytes (up Read c)) xs) c refl _ h six refl refl))
+      ∙ λ i. record { device = placed i; ram = ram; answer = byte i }
+    where
+      placed : put busAt (busBytes (up Read c)) xs ≡ put busAt (busBytes (at Read ((a + 1) % 0x4000))) ys
+      placed = (λ i. put busAt (busBytes (at Read ((n i + 1) % 0x4000))) xs) ∙ over (at Read ((a + 1) % 0x4000))
+
+      byte : byteIn (c % 0x4000) (deviceIn (put busAt (busBytes (up Read c)) xs) .registers) ram ≡ byteIn a (deviceIn ys .registers) ram
+      byte =
+          ap (λ (d : Device). byteIn (c % 0x4000) (d .registers) ram) (bus-put (up Read c) xs h)
+          ∙ λ i. byteIn (n i) (sym g i) ram
+
+  fetched-reply : getD xs busAt 0 ≡ 6 → deviceIn ys .registers ≡ deviceIn xs .registers
+      → hearEvent (deviceIn xs) ram (eventOf 2 x) .reply ≡ accepted (byteIn a (deviceIn ys .registers) ram)
+  fetched-reply six g = said ∙ λ i. accepted (byteIn (n i) (sym g i) ram)
+    where
+      said : hearEvent (deviceIn xs) ram (eventOf 2 x) .reply ≡ accepted (byteIn (c % 0x4000) (deviceIn xs .registers) ram)
+      said = unfold hearEvent busEvent taken step answerTo in rw (eq-eqb _ _ r, state-byte xs, six)
+
+-- ---- a run, with the bus part lagging behind in ys: the counter is at a
+
+module _ (ys ram chunk : List ℕ) (held j : ℕ) (out : List ℕ) (n a : ℕ) (h : length ys ≡ recordLength) (r : length ram ≡ 1024) (few : a < 0x4000) where
+  abbrev pub behind : BusState → Rest ChipBytes
+  behind s = from busCalls (lent (put busAt (busBytes (at s a)) ys) ram) chunk held j out n
+
+  module _ (s : BusState) where
+    abbrev xs : List ℕ
+    xs = put busAt (busBytes (at s a)) ys
+
+    long : length xs ≡ recordLength
+    long = length-sets ys busAt (busBytes (at s a)) ∙ h
+
+    counted : deviceIn xs .bus .counter % 0x4000 ≡ a
+    counted = ap (λ (d : Device). d .bus .counter % 0x4000) (bus-put (at s a) ys h) ∙ omega arith
+
+    over : (b : Bus) → put busAt (busBytes b) xs ≡ put busAt (busBytes b) ys
+    over b = put-over b (at s a) ys h
+
+    state : getD xs busAt 0 ≡ stateNumber s
+    state = ap (λ (l : List ℕ). getD l busAt 0) (in-front (at s a) ys h)
+
+    same : deviceIn ys .registers ≡ deviceIn xs .registers
+    same = sym (ap (λ (d : Device). d .registers) (bus-put (at s a) ys h))
+
+  -- the run begins: the bus part may be put first, where an event of the run follows
+  module _ (l : j < length chunk) (c : deviceIn ys .bus .counter % 0x4000 ≡ a) where
+    pub stored-first : getD ys busAt 0 ≡ 5 → kindAt chunk held j ≡ 1 → behind Write ≡ from busCalls (lent ys ram) chunk held j out n
+    stored-first five k =
+        let x : ℕ = getD chunk j 0 in
+        turn (xs Write) ram chunk held j out n 1 l k (omega arith)
+        (stored (xs Write) ys ram a x (long Write) r (counted Write) (over Write) (state Write))
+        (stored-reply (xs Write) ys ram a x (long Write) r (counted Write) (over Write) (state Write))
+        ∙ sym (turn ys ram chunk held j out n 1 l k (omega arith) (stored ys ys ram a x h r c (λ b. refl) five) (stored-reply ys ys ram a x h r c (λ b. refl) five))
+
+    pub fetched-first : getD ys busAt 0 ≡ 6 → kindAt chunk held j ≡ 2 → behind Read ≡ from busCalls (lent ys ram) chunk held j out n
+    fetched-first six k =
+        let x : ℕ = getD chunk j 0 in
+        turn (xs Read) ram chunk held j out n 2 l k (omega arith)
+        (fetched (xs Read) ys ram a x (long Read) r (counted Read) (over Read) (state Read) (same Read))
+        (fetched-reply (xs Read) ys ram a x (long Read) r (counted Read) (over Read) (state Read) (same Read))
+        ∙ sym (turn ys ram chunk held j out n 2 l k (omega arith) (fetched ys ys ram a x h r c (λ b. refl) six refl) (fetched-reply ys ys ram a x h r c (λ b. refl) six refl))
+
+  -- and goes on
+  pub stored-on : {ys′ ram′ out′ : List ℕ} {j′ n′ : ℕ} → j < length chunk → kindAt chunk held j ≡ 1
+      → ys′ ≡ storedOn a (getD chunk j 0) ys → ram′ ≡ ramWith (Store a (getD chunk j 0)) ram → out′ ≡ sets out n (1 ∷ 0 ∷ []) → j′ ≡ suc (suc j) → n′ ≡ suc (suc n)
+      → from busCalls (lent (put busAt (busBytes (at Write ((a + 1) % 0x4000))) ys′) ram′) chunk held j′ out′ n′ ≡ behind Write
+  stored-on l k p q u v w =
+      (λ i. from busCalls (lent (put busAt (busBytes (at Write ((a + 1) % 0x4000))) (p i)) (q i)) chunk held (v i) (u i) (w i))
+      ∙ sym (turn (xs Write) ram chunk held j out n 1 l k (omega arith)
+      (stored (xs Write) ys ram a (getD chunk j 0) (long Write) r (counted Write) (over Write) (state Write))
+      (stored-reply (xs Write) ys ram a (getD chunk j 0) (long Write) r (counted Write) (over Write) (state Write)))
+
+  pub fetched-on : {out′ : List ℕ} {j′ n′ : ℕ} → j < length chunk → kindAt chunk held j ≡ 2
+      → out′ ≡ sets out n (1 ∷ byteIn a (deviceIn ys .registers) ram ∷ []) → j′ ≡ suc (suc j) → n′ ≡ suc (suc n)
+      → from busCalls (lent (put busAt (busBytes (at Read ((a + 1) % 0x4000))) ys) ram) chunk held j′ out′ n′ ≡ behind Read
+  fetched-on l k u v w =
+      (λ i. from busCalls (lent (put busAt (busBytes (at Read ((a + 1) % 0x4000))) ys) ram) chunk held (v i) (u i) (w i))
+      ∙ sym (turn (xs Read) ram chunk held j out n 2 l k (omega arith)
+      (fetched (xs Read) ys ram a (getD chunk j 0) (long Read) r (counted Read) (over Read) (state Read) (same Read))
+      (fetched-reply (xs Read) ys ram a (getD chunk j 0) (long Read) r (counted Read) (over Read) (state Read) (same Read)))
+
+-- ---- the places of a run
+
+-- behind the first event a kind stands before its byte
+pub kind-before : (chunk : List ℕ) (held j k : ℕ) → 0 < j → getD chunk (j - 1) 0 ≡ k → kindAt chunk held j ≡ k
+kind-before chunk held j k h e = rw (ne-eqb j 0 (λ z. omega arith)) e
+
+-- no event
+pub ran-none : (chunk : List ℕ) (first : ℕ) (b : ChipBytes) (out : List ℕ) (i : ℕ) → Ran chunk first b out i b out i
+ran-none chunk first b out i = record { forth = omega arith; events = omega arith; within = λ h. h; left = λ held. refl }
+
+-- the second output byte of an event has room
+pub second-fits : (chunk out₀ out : List ℕ) (first i j v : ℕ) → Place chunk out₀ first i → length out ≡ length out₀ → i ≤ j → (j - i) % 2 ≡ 0
+    → j < length chunk → j - first + 1 < length (set out (j - first) v)
+second-fits chunk out₀ out first i j v p l f e t =
+    rw (length-set out (j - first) v) (omega (arith, l, p .reached, p .events, p .room))
+
+-- the place behind an event, and the place behind the runs that follow it
+pub next-place : (chunk out out′ : List ℕ) (first i j : ℕ) → first ≤ i → (i - first) % 2 ≡ 0 → 2 * ((length chunk + 1 - first) / 2) ≤ length out
+    → length out′ ≡ length out → i + 2 ≤ j → (j - (i + 2)) % 2 ≡ 0 → Place chunk out′ first j
+next-place chunk out out′ first i j f e r l g d =
+    record { behind = omega arith; reached = omega arith; events = omega (arith, e, d); room = omega (arith, r, l) }
+
+pub goes-on : (n i j k : ℕ) → i < n → i + 2 ≤ j → j ≤ k → n + 1 - k < n + 1 - i
+goes-on n i j k l g h = omega arith
+
+pub both-run : (i j k : ℕ) → i ≤ j → (j - i) % 2 ≡ 0 → j ≤ k → (k - j) % 2 ≡ 0 → (k - i) % 2 ≡ 0
+both-run i j k g d h e = omega (arith, d, e)
+
+pub two-more : (i first : ℕ) → first ≤ i → i + 2 - first ≡ suc (suc (i - first))
+two-more i first h = omega arith

@@ -1,0 +1,140 @@
+-- `read_run`: the tests, then a turn is a fetch.
+-- Assumes nothing.
+use Prim.Native.Nat.{ℕ, suc, _+_, _-_, _%_, _≤_, _<_}
+use mathlib.Core.Path.{_≡_, refl, sym, ap, ap₂, _∙_}
+use mathlib.Core.List.{List}
+use native.Mathlib.Omega.{arith}
+use borrow.Author.Needs.{needs}
+use denote.Ref.{now}
+use lib.ListN.{length, set}
+use Rattle.bus.specs.declared.BusState.the-variants.{Read}
+use Rattle.capture.specs.Places.{from}
+use Rattle.layout.specs.Layout.{busAt, put, busBytes}
+use Rattle.interface.specs.Interface.{busCalls}
+use Rattle.feed_bytes.specs.Turns.{lent}
+use Rattle.feed_bytes.proofs.Runs.{at, fetched-first, fetched-on, kind-before, ran-none, second-fits}
+use Rattle.feed_bytes.proofs.read_run.Statement.{statement}
+use Rattle.feed_bytes.proofs.read_run.Tie as tie
+
+abbrev Inv-loop : tie.InvT-loop
+Inv-loop device₀ ram chunk out₀ i first address₀ j₀ device out address j =
+    (device ≡ device₀)
+    × (length device ≡ length device₀)
+    × (length out ≡ length out₀)
+    × (i ≤ j)
+    × ((j - i) % 2 ≡ 0)
+    × (j ≤ length chunk + 1)
+    × (address < 0x4000)
+    × ((held : ℕ) → from busCalls (lent (put busAt (busBytes (at Read address)) device) ram) chunk held j out (j - first) ≡ from busCalls (lent device₀ ram) chunk held i out₀ (i - first))
+
+abbrev μ-loop : tie.MeasureT-loop
+μ-loop device₀ ram chunk out₀ i first address₀ j₀ device out address j = length chunk + 1 - j
+
+returns : tie.Need-returns Inv-loop μ-loop
+returns c = ran-none _ _ _ _ _
+
+returns-2 : tie.Need-returns-2 Inv-loop μ-loop
+returns-2 c = ran-none _ _ _ _ _
+
+returns-3 : tie.Need-returns-3 Inv-loop μ-loop
+returns-3 c = ran-none _ _ _ _ _
+
+loop-holds : tie.Need-loop-holds Inv-loop μ-loop
+loop-holds c =
+    let a = c .before .before .before .before .before .before .before .before .before .before .before in
+    let few : c .counter-of .result % 0x4000 < 0x4000 = omega arith in (
+      refl,
+      refl,
+      refl,
+      omega arith,
+      omega arith,
+      omega (arith, c .before .before .before .before .if2 .left),
+      few,
+      λ held.
+          fetched-first (now (a .args .device)) (now (a .args .ram)) (now (a .args .chunk)) held (a .args .i) (now (a .args .out)) (a .args .i - a .args .first)
+          (c .counter-of .result % 0x4000) (a .pre .0 .0) (a .pre .0 .1) few (c .before .before .before .before .if2 .left) (ap (λ (n : ℕ). n % 0x4000) (sym (c .counter-of .ensures)))
+          (c .before .before .before .before .before .if1 .left) (kind-before (now (a .args .chunk)) held (a .args .i) 2 (a .pre .1 .behind) (c .before .before .if3 .left)),
+    )
+
+returns-4 : tie.Need-returns-4 Inv-loop μ-loop
+returns-4 c =
+    let l = c .before .before .before .before .before .before .before .loop in
+    let a = c .before .before .before .before .before .before .before .before .before .before .before .before .before .before .before .before .before .before .before .args in
+    record {
+      forth = l .inv .3;
+      events = l .inv .4;
+      within = λ h. l .inv .5;
+      left = λ held. ap (λ (xs : List ℕ). from busCalls (lent xs (now (a .ram))) (now (a .chunk)) held (l .j) (l .out) (l .j - a .first)) (c .before .before .end-run .ensures) ∙ l .inv .7 held;
+    }
+
+loop-again : tie.Need-loop-again Inv-loop μ-loop
+loop-again c =
+    let l = c .before .before .before .before .before .before .loop in
+    let a = c .before .before .before .before .before .before .before .before .before .before .before .before .before .before .before .before .before .before in
+    let n : ℕ = l .j - a .args .first in
+    let one : n + 1 ≡ suc n = omega arith in (
+      l .inv .0,
+      search needs,
+      search needs,
+      search needs,
+      search needs,
+      search needs,
+      omega arith,
+      λ held.
+          fetched-on (l .device) (now (a .args .ram)) (now (a .args .chunk)) held (l .j) (l .out) n (l .address) (l .inv .1 ∙ a .pre .0 .0) (a .pre .0 .1) (l .inv .6)
+          (c .before .before .before .before .before .loop-test .taken) (kind-before (now (a .args .chunk)) held (l .j) 2 (omega (arith, l .inv .3, a .pre .1 .behind)) (c .before .before .before .if4 .left))
+          (ap₂ (λ (k b : ℕ). set (set (l .out) n 1) k b) one (c .load .ensures)) (omega arith) (omega arith)
+          ∙ l .inv .7 held,
+    )
+
+slice-write-out-2 : tie.Need-slice-write-out-2 Inv-loop μ-loop
+slice-write-out-2 c =
+    let l = c .before .before .before .before .before .before .loop in
+    let a = c .before .before .before .before .before .before .before .before .before .before .before .before .before .before .before .before .before .before in
+    second-fits (now (a .args .chunk)) (now (a .args .out)) (l .out) (a .args .first) (a .args .i) (l .j) 1 (a .pre .1) (l .inv .2) (l .inv .3) (l .inv .4) (c .before .before .before .before .before .loop-test .taken)
+
+returns-5 : tie.Need-returns-5 Inv-loop μ-loop
+returns-5 c =
+    let l = c .before .before .before .before .before .loop in
+    let a = c .before .before .before .before .before .before .before .before .before .before .before .before .before .before .before .before .before .args in
+    record {
+      forth = l .inv .3;
+      events = l .inv .4;
+      within = λ h. l .inv .5;
+      left = λ held. ap (λ (xs : List ℕ). from busCalls (lent xs (now (a .ram))) (now (a .chunk)) held (l .j) (l .out) (l .j - a .first)) (c .before .before .end-run2 .ensures) ∙ l .inv .7 held;
+    }
+
+pub read-run-spec : {M : Type 1} → statement M
+read-run-spec =
+    tie.close
+    (tie.spec
+    Inv-loop
+    μ-loop
+    (λ c. search needs)
+    returns
+    returns-2
+    (λ c. search needs)
+    (λ c. search needs)
+    returns-3
+    (λ c κs. search needs)
+    loop-holds
+    (λ c. search needs)
+    (λ c. search needs)
+    (λ c κs. search needs)
+    (λ c. search needs)
+    (λ c. search needs)
+    returns-4
+    (λ c κs. search needs)
+    (λ c. search needs)
+    (λ c. search needs)
+    (λ c. search needs)
+    (λ c. search needs)
+    slice-write-out-2
+    (λ c. search needs)
+    (λ c. search needs)
+    (λ c. search needs)
+    loop-again
+    (λ c κs. search needs)
+    (λ c. search needs)
+    (λ c. search needs)
+    returns-5)

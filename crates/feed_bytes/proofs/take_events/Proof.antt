@@ -1,0 +1,165 @@
+-- `take_events`: a turn is an event, and what is left from the next place on is what was left.
+-- Assumes nothing.
+use Prim.Native.Nat.{ℕ, _+_, _-_, _*_, _/_, _%_, _≤_}
+use mathlib.Core.List.{List}
+use native.Mathlib.Nat.{le-trans}
+use mathlib.Core.Path.{_≡_, refl, sym, ap, _∙_}
+use native.Mathlib.Omega.{arith}
+use borrow.Author.Needs.{needs}
+use borrow.Author.Tests.{lt-ltb}
+use denote.Ref.{now}
+use lib.ListN.{length}
+use Rattle.capture.specs.declared.Feed.{Feed}
+use Rattle.capture.specs.Capture.{badKind}
+use Rattle.capture.specs.Places.{from}
+use Rattle.capture.proofs.Laws.{from-bad, from-end, from-first, held-one}
+use Rattle.interface.specs.Interface.{busCalls}
+use Rattle.feed_bytes.specs.Turns.{lent, Place}
+use Rattle.feed_bytes.proofs.Feeds.{Bytes, from-heard, events-taken}
+use Rattle.feed_bytes.proofs.Runs.{next-place, goes-on, both-run, two-more}
+use Rattle.feed_bytes.proofs.take_events.Statement.{statement}
+use Rattle.feed_bytes.proofs.take_events.Tie as tie
+
+abbrev Inv-loop : tie.InvT-loop
+Inv-loop device₀ ram₀ chunk out₀ held first i₀ device ram out i =
+    (length device ≡ length device₀)
+    × (length ram ≡ length ram₀)
+    × (length out ≡ length out₀)
+    × (2 * ((length chunk + 1 - first) / 2) ≤ length out)
+    × (first ≤ i)
+    × (i ≤ length chunk + 1)
+    × ((i - first) % 2 ≡ 0)
+    × Bytes device
+    × Bytes ram
+    × (from busCalls (lent device ram) chunk held i out (i - first) ≡ from busCalls (lent device₀ ram₀) chunk held first out₀ 0)
+
+abbrev μ-loop : tie.MeasureT-loop
+μ-loop device₀ ram₀ chunk out₀ held first i₀ device ram out i = length chunk + 1 - i
+
+sub-first : tie.Need-sub-first Inv-loop μ-loop
+sub-first c =
+    let h = held-one (c .before .before .before .before .before .before .args .feed) in omega (arith, c .held-bytes .ensures, h)
+
+loop-holds : tie.Need-loop-holds Inv-loop μ-loop
+loop-holds c =
+    let a = c .before .before .before .before .before .before .args in
+    let first : ℕ = 1 - c .held-bytes .result in
+    let none : first - first ≡ 0 = omega arith in (
+      refl,
+      refl,
+      refl,
+      omega (arith, c .held-bytes .ensures, held-one (a .feed), c .before .before .before .before .before .before .pre .1 .1),
+      omega arith,
+      omega arith,
+      omega arith,
+      (λ i. c .before .before .before .before .before .slice-known .given i .fits),
+      (λ i. c .before .before .before .before .slice-known2 .given i .fits),
+      ap (from busCalls (lent (now (a .device)) (now (a .ram))) (now (a .chunk)) (c .before .held-kind .result) first (now (a .out))) none,
+    )
+
+returns : tie.Need-returns Inv-loop μ-loop
+returns c =
+    let l = c .before .before .before .loop in
+    let a = c .before .before .before .before .before .before .before .before .before .before .args in
+    events-taken (now (a .device)) (now (a .ram)) (a .feed) (now (a .chunk)) (now (a .out)) (c .before .before .before .before .before .before .before .before .before .before .pre .1 .1)
+    (sym (from-bad busCalls _ (now (a .chunk)) _ (l .i) (l .out) _ (c .before .before .loop-test .taken) (sym (ap badKind (c .before .kind-at .ensures)) ∙ lt-ltb 3 _ (c .if1 .taken)))
+    ∙ l .inv .9
+    ∙ from-first busCalls _ (a .feed) (now (a .chunk)) _ _ _ (c .before .before .before .before .before .held-kind .ensures) (c .before .before .before .before .held-bytes .ensures) (c .before .before .before .before .before .before .before .before .before .before .pre .1 .0))
+
+write-run-requires : tie.Need-write-run-requires Inv-loop μ-loop
+write-run-requires c κs =
+    let l = c .before .before .before .before .before .before .before .before .before .before .before .before .before .before .before .before .before .before .loop in
+    let a = c .before .before .before .before .before .before .before .before .before .before .before .before .before .before .before .before .before .before .before .before .before .before .before .before .before in (
+      (c .before .before .before .before .before .before .before .before .before .before .before .hear .kept .0 ∙ l .inv .0 ∙ a .pre .0 .0, c .before .before .before .before .before .before .before .before .before .before .before .hear .kept .1 .0 ∙ l .inv .1 ∙ a .pre .0 .1),
+      next-place (now (a .args .chunk)) (l .out) _ (1 - c .before .before .before .before .before .before .before .before .before .before .before .before .before .before .before .before .before .before .before .held-bytes .result) (l .i) _ (l .inv .4) (l .inv .6) (l .inv .3) (c .before .before .before .before .before .put-output .kept .0) (omega arith) (omega arith),
+    )
+
+read-run-requires : tie.Need-read-run-requires Inv-loop μ-loop
+read-run-requires c κs =
+    let w = c .before .before .before .before .before .before .before .before .before .write-run in
+    let l = c .before .before .before .before .before .before .before .before .before .before .before .before .before .before .before .before .before .before .before .before .before .before .before .before .before .before .before .before .loop in
+    let a = c .before .before .before .before .before .before .before .before .before .before .before .before .before .before .before .before .before .before .before .before .before .before .before .before .before .before .before .before .before .before .before .before .before .before .before in (
+      (w .kept .0 ∙ c .before .before .before .before .before .before .before .before .before .before .before .before .before .before .before .before .before .before .before .before .before .hear .kept .0 ∙ l .inv .0 ∙ a .pre .0 .0, w .kept .1 .0 ∙ c .before .before .before .before .before .before .before .before .before .before .before .before .before .before .before .before .before .before .before .before .before .hear .kept .1 .0 ∙ l .inv .1 ∙ a .pre .0 .1),
+      next-place (now (a .args .chunk)) (l .out) _ (1 - c .before .before .before .before .before .before .before .before .before .before .before .before .before .before .before .before .before .before .before .before .before .before .before .before .before .before .before .before .before .held-bytes .result) (l .i) _ (l .inv .4) (l .inv .6) (l .inv .3)
+          (w .kept .1 .1 .1 .0 ∙ c .before .before .before .before .before .before .before .before .before .before .before .before .before .before .before .put-output .kept .0) (w .ensures .forth) (w .ensures .events),
+    )
+
+loop-less : tie.Need-loop-less Inv-loop μ-loop
+loop-less c =
+    goes-on (length (now (c .before .before .before .before .before .before .before .before .before .before .before .before .before .before .before .before .before .before .before .before .before .before .before .before .before .before .before .before .before .before .before .before .before .before .before .before .before .before .before .before .before .before .args .chunk))) (c .before .before .before .before .before .before .before .before .before .before .before .before .before .before .before .before .before .before .before .before .before .before .before .before .before .before .before .before .before .before .before .before .before .before .before .loop .i) _ _ (c .before .before .before .before .before .before .before .before .before .before .before .before .before .before .before .before .before .before .before .before .before .before .before .before .before .before .before .before .before .before .before .before .before .before .loop-test .taken) (c .before .before .before .before .before .before .before .before .before .before .before .before .before .before .before .before .write-run .ensures .forth) (c .before .before .before .before .before .before .read-run .ensures .forth)
+
+loop-again : tie.Need-loop-again Inv-loop μ-loop
+loop-again c =
+    let r = c .before .before .before .before .before .before .read-run in
+    let w = c .before .before .before .before .before .before .before .before .before .before .before .before .before .before .before .before .write-run in
+    let b = c .before .before .before .before .before .before .before .before .before .before .before .before .before .before .before .before .before .before .before .before .before .before .before .before .before .before .before .before .hear in
+    let l = c .before .before .before .before .before .before .before .before .before .before .before .before .before .before .before .before .before .before .before .before .before .before .before .before .before .before .before .before .before .before .before .before .before .before .before .loop in
+    let a = c .before .before .before .before .before .before .before .before .before .before .before .before .before .before .before .before .before .before .before .before .before .before .before .before .before .before .before .before .before .before .before .before .before .before .before .before .before .before .before .before .before .before in
+    let chunk : List ℕ = now (a .args .chunk) in
+    let first : ℕ = 1 - c .before .before .before .before .before .before .before .before .before .before .before .before .before .before .before .before .before .before .before .before .before .before .before .before .before .before .before .before .before .before .before .before .before .before .before .before .held-bytes .result in
+    let held : ℕ = c .before .before .before .before .before .before .before .before .before .before .before .before .before .before .before .before .before .before .before .before .before .before .before .before .before .before .before .before .before .before .before .before .before .before .before .before .before .held-kind .result in
+    let out = r .kept .1 .1 .1 .0 ∙ w .kept .1 .1 .1 .0 ∙ c .before .before .before .before .before .before .before .before .before .before .before .before .before .before .before .before .before .before .before .before .before .before .put-output .kept .0 in
+    let at : Place chunk (r .last .1 .1 .1 .0) first (r .result) = next-place chunk (l .out) (r .last .1 .1 .1 .0) first (l .i) (r .result) (l .inv .4) (l .inv .6) (l .inv .3) out
+    (le-trans (w .ensures .forth) (r .ensures .forth)) (both-run (l .i + 2) (w .result) (r .result) (w .ensures .forth) (w .ensures .events) (r .ensures .forth) (r .ensures .events)) in (
+      r .kept .0 ∙ w .kept .0 ∙ b .kept .0 ∙ l .inv .0,
+      r .kept .1 .0 ∙ w .kept .1 .0 ∙ b .kept .1 .0 ∙ l .inv .1,
+      out ∙ l .inv .2,
+      at .room,
+      at .reached,
+      r .ensures .within (w .ensures .within (omega (arith, c .before .before .before .before .before .before .before .before .before .before .before .before .before .before .before .before .before .before .before .before .before .before .before .before .before .before .before .before .before .before .before .before .before .before .loop-test .taken))),
+      at .events,
+      (λ i. c .before .before .before .before .slice-known10 .given i .fits),
+      (λ i. c .before .before .slice-known11 .given i .fits),
+      r .ensures .left held
+          ∙ w .ensures .left held
+          ∙ from-heard (l .device) (l .ram) chunk held (l .i) (l .out) _ {o = record { device = b .last .0; ram = b .last .1 .0; answer = b .result }}
+          (l .inv .0 ∙ a .pre .0 .0) (l .inv .7) (l .inv .8) (c .before .before .before .before .before .before .before .before .before .before .before .before .before .before .before .before .before .before .before .before .before .before .before .before .before .before .before .before .before .before .before .before .before .before .loop-test .taken) (c .before .before .before .before .before .before .before .before .before .before .before .before .before .before .before .before .before .before .before .before .before .before .before .before .before .before .before .before .before .before .before .before .before .kind-at .ensures) (c .before .before .before .before .before .before .before .before .before .before .before .before .before .before .before .before .before .before .before .before .before .before .before .before .before .before .before .before .before .before .before .before .if1 .left)
+          (b .ensures) (c .before .before .before .before .before .before .before .before .before .before .before .before .before .before .before .before .before .before .before .before .before .before .put-output .ensures) (omega arith) (two-more (l .i) first (l .inv .4))
+          ∙ l .inv .9,
+    )
+
+returns-2 : tie.Need-returns-2 Inv-loop μ-loop
+returns-2 c =
+    let l = c .before .before .loop in
+    let a = c .before .before .before .before .before .before .before .before .before .args in
+    let kind : ℕ = c .before .before .before .before .held-kind .result in
+    let n : ℕ = l .i - (1 - c .before .before .before .held-bytes .result) in
+    ap (λ (f : Feed). record { device = l .device; ram = l .ram; out = l .out; feed = f; written = n }) (c .feed-at .ensures)
+    ∙ events-taken (now (a .device)) (now (a .ram)) (a .feed) (now (a .chunk)) (now (a .out)) (c .before .before .before .before .before .before .before .before .before .pre .1 .1)
+    (sym (from-end busCalls _ (now (a .chunk)) kind (l .i) (l .out) n (c .before .loop-test .left))
+    ∙ l .inv .9
+    ∙ from-first busCalls _ (a .feed) (now (a .chunk)) _ _ _ (c .before .before .before .before .held-kind .ensures) (c .before .before .before .held-bytes .ensures) (c .before .before .before .before .before .before .before .before .before .pre .1 .0))
+
+pub take-events-spec : {M : Type 1} → statement M
+take-events-spec =
+    tie.close
+    (tie.spec
+    Inv-loop
+    μ-loop
+    (λ c κs. search needs)
+    (λ c κs. search needs)
+    sub-first
+    loop-holds
+    (λ c κs. search needs)
+    (λ c. search needs)
+    (λ c. search needs)
+    (λ c. search needs)
+    (λ c. search needs)
+    (λ c. search needs)
+    returns
+    (λ c. search needs)
+    (λ c κs. search needs)
+    (λ c. search needs)
+    (λ c κs. search needs)
+    (λ c. search needs)
+    write-run-requires
+    read-run-requires
+    loop-less
+    loop-again
+    (λ c κs. search needs)
+    (λ c. search needs)
+    (λ c. search needs)
+    (λ c. search needs)
+    (λ c. search needs)
+    (λ c. search needs)
+    returns-2)

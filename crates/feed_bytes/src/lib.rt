@@ -1,0 +1,168 @@
+// The events of a chunk on the device record's lent bytes, in place. Data bytes and fetches, nearly all of a capture's events, go in runs.
+ghost use mathlib.Core.Path.{_≡_};
+ghost use mathlib.Core.Bool.{false};
+ghost use Prim.Native.Nat.{_+_, _*_, _≤_, _<_};
+ghost use lib.ListN.{length};
+ghost use lib.Seq.{sets};
+ghost use Rattle.limits.specs.Limits.{ramLength};
+ghost use Rattle.capture.specs.Capture.{isShut, wouldComplete, takenReply};
+ghost use Rattle.layout.specs.Layout.{busAt, recordLength, put, busBytes};
+ghost use Rattle.interface.specs.Interface.{answerOf, chunkMax};
+ghost use Rattle.feed_bytes.specs.Turns.{outputIn, eventsOn, took, lent, Place, Ran};
+use bus::Bus;
+use bus::BusState;
+use capture::Feed;
+use refusals::Refusal;
+
+// The feed after a chunk, and the number of output bytes that its events wrote.
+pub struct Taken {
+    pub feed: Feed,
+    pub written: u16,
+}
+
+// Two bytes for an event's answer: 1 or 0 for acknowledged, then the byte.
+fn put_output(out: &mut [u8], n: usize, answer: u32)
+    requires { ⌜ n + 1 < length (now out) ⌝ }
+    ensures { λ _. ⌜ now (out .exit) ≡ sets (now (out .entry)) n (outputIn answer) ⌝ }
+{
+    out[n] = if answer < 65536 { 1 } else { 0 };
+    out[n + 1] = (answer % 256) as u8;
+}
+
+// The end of a run: the bus part is written once, with the counter that was kept apart.
+fn end_run(device: &mut [u8], state: BusState, counter: u16)
+    requires { ⌜ length (now device) ≡ recordLength ⌝ }
+    ensures { λ _. ⌜ now (device .exit) ≡ put busAt (busBytes (record { state = state; counter = counter })) (now (device .entry)) ⌝ }
+{
+    layout::write_bus(
+        device,
+        Bus {
+            state: state,
+            counter: counter,
+        },
+    );
+}
+
+// A run of data bytes, where a byte at place i would complete the next event; answers the place behind the run. Most of a capture's
+// events are such, so the counter is kept apart from the record until the run ends.
+fn write_run(
+    device: &mut [u8],
+    ram: &mut [u8],
+    chunk: &[u8],
+    out: &mut [u8],
+    i: usize,
+    first: usize,
+) -> usize
+    requires { ⌜ (length (now device) ≡ recordLength) × (length (now ram) ≡ ramLength) ⌝ }
+    requires { ⌜ Place (now chunk) (now out) first i ⌝ }
+    ensures { λ r. ⌜ Ran (now (chunk .entry)) first (lent (now (device .entry)) (now (ram .entry))) (now (out .entry)) i (lent (now (device .exit)) (now (ram .exit))) (now (out .exit)) r ⌝ }
+{
+    if device[layout::BUS_AT] != bus_bytes::WRITING {
+        return i;
+    }
+    if i >= chunk.len() {
+        return i;
+    }
+    if chunk[i - 1] != bus_bytes::HOST_BYTE {
+        return i;
+    }
+    let mut address = layout::counter_of(device) % 0x4000;
+    let mut j = i;
+    while j < chunk.len() {
+        if chunk[j - 1] != bus_bytes::HOST_BYTE {
+            end_run(device, BusState::Write, address);
+            return j;
+        }
+        bus_bytes::store(device, ram, address, chunk[j]);
+        out[j - first] = 1;
+        out[j - first + 1] = 0;
+        address = (address + 1) % 0x4000;
+        j += 2;
+    }
+    end_run(device, BusState::Write, address);
+    j
+}
+
+// A run of fetches, likewise.
+fn read_run(
+    device: &mut [u8],
+    ram: &mut [u8],
+    chunk: &[u8],
+    out: &mut [u8],
+    i: usize,
+    first: usize,
+) -> usize
+    requires { ⌜ (length (now device) ≡ recordLength) × (length (now ram) ≡ ramLength) ⌝ }
+    requires { ⌜ Place (now chunk) (now out) first i ⌝ }
+    ensures { λ r. ⌜ Ran (now (chunk .entry)) first (lent (now (device .entry)) (now (ram .entry))) (now (out .entry)) i (lent (now (device .exit)) (now (ram .exit))) (now (out .exit)) r ⌝ }
+{
+    if device[layout::BUS_AT] != bus_bytes::READING {
+        return i;
+    }
+    if i >= chunk.len() {
+        return i;
+    }
+    if chunk[i - 1] != bus_bytes::FETCH {
+        return i;
+    }
+    let mut address = layout::counter_of(device) % 0x4000;
+    let mut j = i;
+    while j < chunk.len() {
+        if chunk[j - 1] != bus_bytes::FETCH {
+            end_run(device, BusState::Read, address);
+            return j;
+        }
+        let byte = bus_bytes::load(device, ram, address);
+        out[j - first] = 1;
+        out[j - first + 1] = byte;
+        address = (address + 1) % 0x4000;
+        j += 2;
+    }
+    end_run(device, BusState::Read, address);
+    j
+}
+
+// A turn is an event, and the run behind it: i is the place of the byte that completes it. Its kind stands before that byte, or is held.
+pub fn take_events(
+    device: &mut [u8],
+    ram: &mut [u8],
+    chunk: &[u8],
+    out: &mut [u8],
+    feed: Feed,
+) -> Taken
+    requires { ⌜ (length (now device) ≡ recordLength) × (length (now ram) ≡ ramLength) × (length (now chunk) ≤ chunkMax) ⌝ }
+    requires { ⌜ isShut feed ≡ false ⌝ }
+    requires { ⌜ 2 * wouldComplete feed (length (now chunk)) ≤ length (now out) ⌝ }
+    ensures { λ r. ⌜ took r (now (device .exit)) (now (ram .exit)) (now (out .exit)) ≡ eventsOn (now (device .entry)) (now (ram .entry)) feed (now (chunk .entry)) (now (out .entry)) ⌝ }
+{
+    let held = feed.held_kind();
+    let first = 1 - feed.held_bytes();
+    let mut i = first;
+    while i < chunk.len() {
+        let kind = capture::kind_at(chunk, held, i);
+        if kind > capture::LAST_KIND {
+            return Taken {
+                feed: Feed::Shut,
+                written: (i - first) as u16,
+            };
+        }
+        let answer = bus_bytes::hear(device, ram, kind, chunk[i]);
+        put_output(out, i - first, answer);
+        i = write_run(device, ram, chunk, out, i + 2, first);
+        i = read_run(device, ram, chunk, out, i, first);
+    }
+    Taken {
+        feed: capture::feed_at(chunk, held, i),
+        written: (i - first) as u16,
+    }
+}
+
+pub fn fed(feed: Feed, written: u16) -> u32
+    ensures { λ r. ⌜ r ≡ answerOf (takenReply feed written) ⌝ }
+{
+    match feed {
+        Feed::Open => bus_bytes::answer(0, written),
+        Feed::Half(_) => bus_bytes::answer(0, written),
+        Feed::Shut => bus_bytes::answer(Refusal::FeedShut.number(), written),
+    }
+}
