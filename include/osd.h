@@ -26,20 +26,22 @@
  *     feed     OSD_FEED_LEN bytes: the record of a feed, where bus traffic comes as a logger's capture. Make it with
  *              osd_feed_fresh. Any bytes are some feed.
  *     chunk    up to OSD_CHUNK_MAX bytes of a capture, only read.
- *     out      two bytes for each event that a chunk completes; one byte more than the chunk has is always enough. Later bytes stay.
+ *     out      two bytes for each event that a chunk would complete, whatever their kinds; one byte more than the chunk has is always
+ *              enough. It must not lie in the chunk. Later bytes stay.
  *
  * Give each buffer with its true length. A device, RAM, font or feed of any other length is refused, and so is a chunk that is too
  * long and a line or an output that is too short; a length that is larger than the buffer cannot be noticed. A pointer may be NULL
  * where its length is 0. A buffer that a call may write (no const) must overlap no other buffer of that call.
  *
  * Calls on different buffers may run at the same time. While a call runs, nobody else may write its buffers, or read those that it
- * may write: if bus events arrive in an interrupt, keep it out while osd_draw, osd_cell or osd_feed runs.
+ * may write: if bus events arrive in an interrupt, keep it out while any call on the same device or RAM runs.
  *
  * Answers. Every function but osd_device_len and osd_feed_len answers one number, refusal * 65,536 + value: OSD_REFUSAL(answer) is 0
- * where the call was accepted, OSD_VALUE(answer) is then its value. With a refusal the value is 0, but 255 with OSD_NOT_ACKNOWLEDGED,
- * and what a feed has written before a bad kind with OSD_FEED_SHUT. A refused call changes no byte of any buffer, with two exceptions:
- * a bus event with an unknown slave address leaves the device deaf until the next start or stop; and a feed that meets a bad kind has
- * taken the events before it, and is shut. Where several refusals fit, the one that is named first at the function is given.
+ * where the call was accepted, OSD_VALUE(answer) is then its value. With a refusal the value is 0, but 255 with
+ * OSD_NOT_ACKNOWLEDGED, and with OSD_FEED_SHUT the number of output bytes that a feed wrote before a bad kind. A refused call
+ * changes no byte of any buffer, with two exceptions: a bus event with an unknown slave address leaves the device deaf until the
+ * next start or stop; and a feed that meets a bad kind has taken the events before it, and is shut. Where several refusals fit, the
+ * one that is named first at the function is given.
  *
  * Formats. What a host writes over the bus (registers, descriptors, codes, user characters) and the lent font have the formats of
  * the tables below the refusals. They are close to those of the STV9425/26, but not the same: ZY in a descriptor, the low byte of a
@@ -123,9 +125,9 @@ typedef uint64_t osd_len;
 #define OSD_FRAME_LINES 6      /* lines is 0 or above OSD_FRAME_LINES_MAX */
 #define OSD_BENCH_LENGTH 7     /* the bench program's: no function here gives it */
 #define OSD_CELL_RANGE 8       /* cell is OSD_RAM_LEN or above */
-#define OSD_FEED_SHUT 9        /* the feed is shut, or a bad kind shuts it; the value is the number of output bytes written */
+#define OSD_FEED_SHUT 9        /* the feed is shut already (value 0), or a bad kind shuts it (value: output bytes written) */
 #define OSD_OUTPUT_ROOM 10     /* out has less than two bytes for each event that the chunk would complete */
-#define OSD_NOT_TAKEN 255      /* a record's length is wrong, kind is above OSD_STOP, or chunk is above OSD_CHUNK_MAX */
+#define OSD_NOT_TAKEN 255      /* a record's length is wrong, osd_bus's kind is above OSD_STOP, or chunk is too long */
 
 /*
  * Formats. Bus addresses, and bytes in the columns kept, reset and high, are hexadecimal; all other numbers are decimal. Bit 7 is the
@@ -262,8 +264,9 @@ uint32_t osd_feed_fresh(uint8_t *feed, osd_len feed_len);
  * cut, the outputs joined, the records and the RAM are the same, as long as no chunk is refused with OSD_NOT_TAKEN, OSD_RAM_LENGTH or
  * OSD_OUTPUT_ROOM; such a chunk is not taken, and may be fed again.
  * A kind above OSD_STOP is noticed when its event is complete: the answer is OSD_FEED_SHUT, the events before it stand and the value
- * counts their output, the rest of the chunk is dropped, and the feed is shut until osd_feed_fresh.
- * Use it to play a capture; a host that is there answers each event as it comes, by osd_bus.
+ * counts their output, the rest of the chunk is dropped, and the feed is shut until osd_feed_fresh; the chunk after that begins with
+ * an event's kind.
+ * Use it to play a capture; where a live host waits for each answer, call osd_bus once an event.
  * Refusals: OSD_NOT_TAKEN, OSD_RAM_LENGTH, OSD_FEED_SHUT (already shut), OSD_OUTPUT_ROOM, OSD_FEED_SHUT (a bad kind). Value: how many
  * output bytes this chunk wrote.
  */

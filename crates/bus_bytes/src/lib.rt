@@ -19,7 +19,7 @@ use refusals::Refusal;
 use registers::Registers;
 
 // Kinds of events by their numbers.
-pub const START: u8 = 0;
+const START: u8 = 0;
 
 pub const HOST_BYTE: u8 = 1;
 
@@ -162,7 +162,7 @@ fn go(device: &mut [u8], state: BusState)
     );
 }
 
-// Any event: a start or a stop, or by the step of the bus.
+// Any event. A start and a stop leave the counter and are written at once; the others go by the step of the bus.
 pub fn hear(device: &mut [u8], ram: &mut [u8], kind: u8, byte: u8) -> u32
     requires { ⌜ (length (now device) ≡ recordLength) × (length (now ram) ≡ ramLength) × (kind ≤ 3) ⌝ }
     ensures { λ r. ⌜ record { device = now (device .exit); ram = now (ram .exit); answer = r } ≡ busOn (now (device .entry)) (now (ram .entry)) kind byte ⌝ }

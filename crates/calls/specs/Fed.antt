@@ -10,7 +10,7 @@ use Rattle.runs.specs.Runs.{Entry, log, end}
 use Rattle.capture.specs.Capture.{feedChunk, outputOf}
 use Rattle.calls.specs.OnePage.{Call, State, Answer, drawn, asked, heard, fed, renewed, chipOf, calls, fedCalls}
 
--- the two bytes of each bus event's answer, in turn
+-- the two bytes of a bus event's answer
 unfoldable pub twoBytes : Answer → List ℕ
 twoBytes (drawn reply line) = []
 twoBytes (asked reply) = []
@@ -18,11 +18,12 @@ twoBytes (heard reply) = outputOf reply
 twoBytes (fed reply out) = []
 twoBytes renewed = []
 
+-- those of each bus event, in turn
 unfoldable pub answered : List (Entry Call Answer) → List ℕ
 answered [] = []
 answered (x ∷ more) = twoBytes (x .answer) ++ answered more
 
--- a feed, and its events as calls of their own
+-- a feed, and its events as calls of their own. (The refusal's number and the feed that is left stand in crate capture's definition)
 pub record AsEvents (font : List ℕ) (s : State) (chunk out : List ℕ) : Type 0 where
   pub device : feedChunk (chipOf s) (s .feed) chunk out .chip .device ≡ end (calls font) s (fedCalls s chunk out) .device
   pub ram : feedChunk (chipOf s) (s .feed) chunk out .chip .ram ≡ end (calls font) s (fedCalls s chunk out) .ram

@@ -1,7 +1,7 @@
 -- Document 01, "Condition 3 read exactly": no frame shows two pages.
 -- For every list of bus events, line draws and cell questions whose bus writes are quiet as they are made, all answers, lines
 -- and the end state equal those of the run with all draws and questions first, then all events.
--- Feeds of a capture's chunks are in the list (document 02, K1): each fed event is read as one bus event.
+-- Feeds of a capture's chunks are in the list (document 02, K1), and feeds made anew: each fed event is read as one bus event.
 -- It is stated for every device record, feed, RAM and font, of any length, so for every device that earlier calls can reach.
 -- Assumes nothing.
 use Prim.Native.Nat.{ℕ}

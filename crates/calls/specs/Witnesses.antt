@@ -71,14 +71,14 @@ buffer = replicate 60 0
 -- ---- a quiet list does something
 
 -- P becomes 1; a draw; do the remaining lines read cell 020?; it gets another byte, from a capture that is fed in two chunks, cut
--- within the event and with a draw between them, and the code there is blue; the feed is made anew; a fetch
+-- within the event and with a draw between them, and the code there is blue; the feed, which holds a half again, is made anew; a fetch
 unfoldable pub turning : List Call
 turning =
     map event (write 0x3FF3 (0x81 ∷ []))
     ++ draw buffer ∷ ask 0x020
     ∷ feed (0 ∷ 0 ∷ 1 ∷ 0xBA ∷ 1 ∷ 0x00 ∷ 1 ∷ 0x20 ∷ 1 ∷ []) (replicate 8 0)
     ∷ draw buffer
-    ∷ feed (0x10 ∷ 3 ∷ 0 ∷ []) (replicate 5 0)
+    ∷ feed (0x10 ∷ 3 ∷ 0 ∷ 1 ∷ []) (replicate 5 0)
     ∷ anew
     ∷ map event (Start ∷ Byte 0xBB ∷ Fetch ∷ Stop ∷ [])
 

@@ -42,7 +42,7 @@ eventsOn xs ram f chunk out =
 abbrev pub took : Taken → List ℕ → List ℕ → List ℕ → Took
 took t xs ram out = record { device = xs; ram = ram; out = out; feed = t .feed; written = t .written }
 
--- a place behind the first event where a byte would complete the next one, and the output's room for all
+-- a place above 0 where a byte would complete an event, so that its kind stands before it, and the output's room for all events
 pub record Place (chunk out : List ℕ) (first i : ℕ) : Type 0 where
   pub behind : 0 < i
   pub reached : first ≤ i

@@ -49,7 +49,8 @@ AnyCutBytes =
     → FitsBytes (feedsOn .answer s (record { bytes = whole (c ∷ cs); out = out }) .reply)
     → SameCut feedsOn s (c ∷ cs) out
 
--- a capture of more than 65,534 bytes cannot be fed whole: any two cuts of it, each into one or more chunks that fit, do the same
+-- any two cuts of the same bytes, each into one or more chunks that fit, do the same: so also where a capture has more than 65,534 bytes
+-- and cannot be fed whole
 abbrev pub TwoCutsBytes : Type 0
 TwoCutsBytes =
     (s : Records) (c d : Chunk) (cs ds : List Chunk) → whole (c ∷ cs) ≡ whole (d ∷ ds)

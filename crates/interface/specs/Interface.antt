@@ -234,16 +234,16 @@ pub record Crossing : Type 0 where
   pub length-feed : (xs fs ram chunk out : List ℕ)
       → (length (feedOn xs fs ram chunk out .device) ≡ length xs) × (length (feedOn xs fs ram chunk out .feed) ≡ length fs)
       × (length (feedOn xs fs ram chunk out .ram) ≡ length ram) × (length (feedOn xs fs ram chunk out .out) ≡ length out)
-  -- a feed's value has 16 bits: OSD_REFUSAL and OSD_VALUE of the answer are the refusal and the value
+  -- a feed's value fits 16 bits, so that OSD_REFUSAL and OSD_VALUE take its answer apart
   pub value-feed : (xs fs ram chunk out : List ℕ) → length chunk ≤ chunkMax → feedChunk (chip (deviceIn xs) ram) (feedIn fs) chunk out .reply .value ≤ chunkMax
   -- a frame start, a draw or a bus call that the device's function refuses writes no byte of the record ..
   pub silent-start : (xs : List ℕ) (lines : ℕ) → (startFrame (deviceIn xs) lines .reply .refusal ≡ 0 → ⊥) → startOn xs lines .device ≡ xs
   pub silent-draw : (xs ram font line : List ℕ) → (drawLine (deviceIn xs) ram font line .reply .refusal ≡ 0 → ⊥) → drawOn xs ram font line .device ≡ xs
   pub silent-bus : (xs ram : List ℕ) (kind byte : ℕ) → (kind ≡ 1 → deviceIn xs .bus .state ≡ Slave → length ram ≡ ramLength → ⊥)
       → (hearEvent (deviceIn xs) ram (eventOf kind byte) .reply .refusal ≡ 0 → ⊥) → busOn xs ram kind byte .device ≡ xs
-  -- (a feed that its tests refuse writes no byte of any buffer)
-  pub silent-feed : (xs fs ram chunk out : List ℕ) (r : Refusal) → length xs ≡ recordLength → length fs ≡ feedLength → length chunk ≤ chunkMax
-      → verdictOn fs ram chunk out ≡ failed r → feedOn xs fs ram chunk out ≡ notFedOn xs fs ram out (answerOf (refused r))
   -- .. except deaf after an unknown slave address: byte 0 alone
   pub deaf : (xs ram : List ℕ) (byte : ℕ) → length xs ≡ recordLength → length ram ≡ ramLength → deviceIn xs .bus .state ≡ Slave → (byte ≡ 0xBA → ⊥) → (byte ≡ 0xBB → ⊥)
       → busOn xs ram 1 byte ≡ record { device = set xs busAt 1; ram = ram; answer = answerOf (refused NotAcknowledged) }
+  -- a feed that its tests refuse, before any event, writes no byte of any buffer
+  pub silent-feed : (xs fs ram chunk out : List ℕ) (r : Refusal) → length xs ≡ recordLength → length fs ≡ feedLength → length chunk ≤ chunkMax
+      → verdictOn fs ram chunk out ≡ failed r → feedOn xs fs ram chunk out ≡ notFedOn xs fs ram out (answerOf (refused r))

@@ -121,7 +121,7 @@ QuietRun font s cs = AsMade (QuietCall font) (calls font) s cs
 abbrev pub OnePageBytes : Type 0
 OnePageBytes = (font : List ℕ) (s : State) (cs : List Call) → QuietRun font s cs → SameRuns (calls font) s cs
 
--- a no (answer 0) of the cell question stays a no over later draws, questions, quiet bus calls and quiet feeds
+-- a no (answer 0) of the cell question stays a no over later draws, questions, quiet bus calls, quiet feeds and feeds made anew
 abbrev pub NoStaysBytes : Type 0
 NoStaysBytes =
     (font : List ℕ) (s : State) (cs : List Call) (c : ℕ) → QuietRun font s cs → cellOn (s .device) (s .ram) c ≡ 0
