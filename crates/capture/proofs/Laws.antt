@@ -5,6 +5,7 @@ use mathlib.Core.Path.{_≡_, refl, sym, ap, _∙_}
 use mathlib.Core.Bool.{Bool, true, false, not, cond, true≢false}
 use mathlib.Core.List.{List, [], _∷_, _++_}
 use native.Mathlib.Decide.{decLt}
+use native.Mathlib.Nat.{add-zero, zero-add}
 use native.Mathlib.Numerals.{sub-one}
 use native.Mathlib.Omega.{arith}
 use borrow.Author.Tests.{eq-eqb, ne-eqb, lt-ltb, le-ltb, eqb-true, ltb-false}
@@ -27,19 +28,13 @@ module _ {S : Type 0} (m : Machine S Logged Reply) where
   -- no byte left
   pub rest-end : (s : S) (f : Feed) (out : List ℕ) (n : ℕ) → rest m s f [] out n ≡ record { state = s; feed = f; out = out; written = n }
   unfolding rest finished feedAfter log end outputs
-  rest-end s f out n = λ i. record { state = s; feed = f; out = out; written = zeros i }
-    where
-      zeros : n + 0 ≡ n
-      zeros = omega arith
+  rest-end s f out n = λ i. record { state = s; feed = f; out = out; written = add-zero n i }
 
   -- a byte that completes an event of a bad kind: it is dropped, and all after it
   pub rest-bad : (s : S) (kind x : ℕ) (xs out : List ℕ) (n : ℕ) → badKind kind ≡ true
       → rest m s (Half kind) (x ∷ xs) out n ≡ record { state = s; feed = Shut; out = out; written = n }
   unfolding rest finished feedAfter log end outputs
-  rest-bad s kind x xs out n b = rw b (λ i. record { state = s; feed = Shut; out = out; written = zeros i })
-    where
-      zeros : n + 0 ≡ n
-      zeros = omega arith
+  rest-bad s kind x xs out n b = rw b (λ i. record { state = s; feed = Shut; out = out; written = add-zero n i })
 
   -- a byte that completes an event
   pub rest-event : (s : S) (kind x : ℕ) (xs out : List ℕ) (n : ℕ) → badKind kind ≡ false
@@ -131,15 +126,17 @@ output-room m s (Half kind) (x ∷ more) = by (badKind kind) (output-room m (m .
     by false h = omega (arith, h)
 
 -- what is left of a whole chunk has its output in front of the buffer, where there is room
-pub rest-out : {S : Type 0} (m : Machine S Logged Reply) (s : S) (f : Feed) (chunk out : List ℕ) → 2 * wouldComplete f (length chunk) ≤ length out
+pub rest-whole : {S : Type 0} (m : Machine S Logged Reply) (s : S) (f : Feed) (chunk out : List ℕ) → 2 * wouldComplete f (length chunk) ≤ length out
     → let written : List ℕ = outputFrom m s (finished f chunk) in
-    rest m s f chunk out 0 .out ≡ written ++ drop (length written) out
+    rest m s f chunk out 0
+    ≡ record { state = end m s (finished f chunk); feed = feedAfter f chunk; out = written ++ drop (length written) out; written = length written }
 unfolding rest
-rest-out m s f chunk out h =
+rest-whole m s f chunk out h =
     let written : List ℕ = outputFrom m s (finished f chunk) in
     let r : length written ≤ 2 * wouldComplete f (length chunk) = output-room m s f chunk in
-    let zeros : 0 + length written ≡ length written = omega arith in
-    sets-eq written out 0 (omega (arith, r)) ∙ ap (λ (k : ℕ). written ++ drop k out) zeros
+    let zeros : 0 + length written ≡ length written = zero-add (length written) in
+    let front = sets-eq written out 0 (omega (arith, r)) ∙ ap (λ (k : ℕ). written ++ drop k out) zeros in
+    λ i. record { state = end m s (finished f chunk); feed = feedAfter f chunk; out = front i; written = zeros i }
 
 -- ---- the tests
 
@@ -206,15 +203,5 @@ leaves r = record { chip = r .state; feed = r .feed; out = r .out; reply = taken
 
 pub chunk-fed : (c : Chip) (f : Feed) (chunk out : List ℕ) {r : Rest Chip} → 2 * wouldComplete f (length chunk) ≤ length out
     → r ≡ rest busEvents c f chunk out 0 → leaves r ≡ chunkFed c f chunk out
-unfolding chunkFed rest
-chunk-fed c f chunk out h e =
-    let written : List ℕ = outputFrom busEvents c (finished f chunk) in
-    let zeros : 0 + length written ≡ length written = omega arith in
-    ap leaves e
-    ∙ λ i.
-    record {
-      chip = end busEvents c (finished f chunk);
-      feed = feedAfter f chunk;
-      out = rest-out busEvents c f chunk out h i;
-      reply = takenReply (feedAfter f chunk) (zeros i);
-    }
+unfolding chunkFed
+chunk-fed c f chunk out h e = ap leaves (e ∙ rest-whole busEvents c f chunk out h)

@@ -11,7 +11,6 @@ use lib.Dec.{eqb}
 use lib.ListN.{length, getD, length-take, List·getD-eq-default}
 use lib.Seq.{sets}
 use Rattle.facts.proofs.Parts.{getD-part}
-use Rattle.runs.specs.Runs.{end}
 use Rattle.refusals.specs.declared.Refusal.{Refusal}
 use Rattle.refusals.specs.Refusals.{Reply, refused, Verdict, passed, failed}
 use Rattle.bus.specs.declared.Event.{Event}
@@ -19,9 +18,9 @@ use Rattle.bus.specs.Bus.{eventOf}
 use Rattle.bus.proofs.Laws.{value-byte}
 use Rattle.device.specs.Device.{hearEvent}
 use Rattle.capture.specs.declared.Feed.{Feed}
-use Rattle.capture.specs.Capture.{badKind, finished, feedAfter, outputOf, outputFrom, wouldComplete, takenReply}
+use Rattle.capture.specs.Capture.{badKind, outputOf, wouldComplete, takenReply}
 use Rattle.capture.specs.Places.{kindAt, Rest, rest, from}
-use Rattle.capture.proofs.Laws.{from-event, rest-out}
+use Rattle.capture.proofs.Laws.{from-event, rest-whole}
 use Rattle.layout.specs.Layout.{registersAt, registersLength, recordLength, part, deviceIn}
 use Rattle.interface.specs.Interface.{answerOf, BusDone, heardOn, busOn, chunkMax, ChipBytes, busCalls, FeedDone, notFedOn, chunkFedOn, fedOnBy, verdictOn, feedOn}
 use Rattle.layout.specs.FeedLayout.{feedLength, feedBytes, feedIn}
@@ -94,19 +93,8 @@ leaves r = record { device = r .state .device; ram = r .state .ram; out = r .out
 
 pub events-taken : (xs ram : List ℕ) (f : Feed) (chunk out : List ℕ) {r : Rest ChipBytes} → 2 * wouldComplete f (length chunk) ≤ length out
     → r ≡ rest busCalls (lent xs ram) f chunk out 0 → leaves r ≡ eventsOn xs ram f chunk out
-unfolding eventsOn rest
-events-taken xs ram f chunk out h e =
-    let written : List ℕ = outputFrom busCalls (lent xs ram) (finished f chunk) in
-    let zeros : 0 + length written ≡ length written = omega arith in
-    ap leaves e
-    ∙ λ i.
-    record {
-      device = end busCalls (lent xs ram) (finished f chunk) .device;
-      ram = end busCalls (lent xs ram) (finished f chunk) .ram;
-      out = rest-out busCalls (lent xs ram) f chunk out h i;
-      feed = feedAfter f chunk;
-      written = zeros i;
-    }
+unfolding eventsOn
+events-taken xs ram f chunk out h e = ap leaves (e ∙ rest-whole busCalls (lent xs ram) f chunk out h)
 
 -- ---- a feed
 

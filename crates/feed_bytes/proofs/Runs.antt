@@ -120,42 +120,51 @@ module _ (ys ram chunk : List ℕ) (held j : ℕ) (out : List ℕ) (n a : ℕ) (
     same : deviceIn ys .registers ≡ deviceIn xs .registers
     same = sym (ap (λ (d : Device). d .registers) (bus-put (at s a) ys h))
 
-  -- the run begins: the bus part may be put first, where an event of the run follows
-  module _ (l : j < length chunk) (c : deviceIn ys .bus .counter % 0x4000 ≡ a) where
-    pub stored-first : getD ys busAt 0 ≡ 5 → kindAt chunk held j ≡ 1 → behind Write ≡ from busCalls (lent ys ram) chunk held j out n
-    stored-first five k =
-        let x : ℕ = getD chunk j 0 in
+  -- an event of the run, wherever the bus part stands
+  module _ (l : j < length chunk) where
+    stored-turn : kindAt chunk held j ≡ 1 → behind Write
+        ≡ from busCalls (lent (put busAt (busBytes (at Write ((a + 1) % 0x4000))) (storedOn a (getD chunk j 0) ys)) (ramWith (Store a (getD chunk j 0)) ram))
+        chunk held (suc (suc j)) (sets out n (1 ∷ 0 ∷ [])) (suc (suc n))
+    stored-turn k =
         turn (xs Write) ram chunk held j out n 1 l k (omega arith)
-        (stored (xs Write) ys ram a x (long Write) r (counted Write) (over Write) (state Write))
-        (stored-reply (xs Write) ys ram a x (long Write) r (counted Write) (over Write) (state Write))
+        (stored (xs Write) ys ram a (getD chunk j 0) (long Write) r (counted Write) (over Write) (state Write))
+        (stored-reply (xs Write) ys ram a (getD chunk j 0) (long Write) r (counted Write) (over Write) (state Write))
+
+    fetched-turn : kindAt chunk held j ≡ 2 → behind Read
+        ≡ from busCalls (lent (put busAt (busBytes (at Read ((a + 1) % 0x4000))) ys) ram)
+        chunk held (suc (suc j)) (sets out n (1 ∷ byteIn a (deviceIn ys .registers) ram ∷ [])) (suc (suc n))
+    fetched-turn k =
+        turn (xs Read) ram chunk held j out n 2 l k (omega arith)
+        (fetched (xs Read) ys ram a (getD chunk j 0) (long Read) r (counted Read) (over Read) (state Read) (same Read))
+        (fetched-reply (xs Read) ys ram a (getD chunk j 0) (long Read) r (counted Read) (over Read) (state Read) (same Read))
+
+    -- the run begins: the bus part may be put first, where an event of the run follows
+    pub stored-first : deviceIn ys .bus .counter % 0x4000 ≡ a → getD ys busAt 0 ≡ 5 → kindAt chunk held j ≡ 1
+        → behind Write ≡ from busCalls (lent ys ram) chunk held j out n
+    stored-first c five k =
+        let x : ℕ = getD chunk j 0 in
+        stored-turn k
         ∙ sym (turn ys ram chunk held j out n 1 l k (omega arith) (stored ys ys ram a x h r c (λ b. refl) five) (stored-reply ys ys ram a x h r c (λ b. refl) five))
 
-    pub fetched-first : getD ys busAt 0 ≡ 6 → kindAt chunk held j ≡ 2 → behind Read ≡ from busCalls (lent ys ram) chunk held j out n
-    fetched-first six k =
+    pub fetched-first : deviceIn ys .bus .counter % 0x4000 ≡ a → getD ys busAt 0 ≡ 6 → kindAt chunk held j ≡ 2
+        → behind Read ≡ from busCalls (lent ys ram) chunk held j out n
+    fetched-first c six k =
         let x : ℕ = getD chunk j 0 in
-        turn (xs Read) ram chunk held j out n 2 l k (omega arith)
-        (fetched (xs Read) ys ram a x (long Read) r (counted Read) (over Read) (state Read) (same Read))
-        (fetched-reply (xs Read) ys ram a x (long Read) r (counted Read) (over Read) (state Read) (same Read))
+        fetched-turn k
         ∙ sym (turn ys ram chunk held j out n 2 l k (omega arith) (fetched ys ys ram a x h r c (λ b. refl) six refl) (fetched-reply ys ys ram a x h r c (λ b. refl) six refl))
 
-  -- and goes on
-  pub stored-on : {ys′ ram′ out′ : List ℕ} {j′ n′ : ℕ} → j < length chunk → kindAt chunk held j ≡ 1
-      → ys′ ≡ storedOn a (getD chunk j 0) ys → ram′ ≡ ramWith (Store a (getD chunk j 0)) ram → out′ ≡ sets out n (1 ∷ 0 ∷ []) → j′ ≡ suc (suc j) → n′ ≡ suc (suc n)
-      → from busCalls (lent (put busAt (busBytes (at Write ((a + 1) % 0x4000))) ys′) ram′) chunk held j′ out′ n′ ≡ behind Write
-  stored-on l k p q u v w =
-      (λ i. from busCalls (lent (put busAt (busBytes (at Write ((a + 1) % 0x4000))) (p i)) (q i)) chunk held (v i) (u i) (w i))
-      ∙ sym (turn (xs Write) ram chunk held j out n 1 l k (omega arith)
-      (stored (xs Write) ys ram a (getD chunk j 0) (long Write) r (counted Write) (over Write) (state Write))
-      (stored-reply (xs Write) ys ram a (getD chunk j 0) (long Write) r (counted Write) (over Write) (state Write)))
+    -- and goes on
+    pub stored-on : {ys′ ram′ out′ : List ℕ} {j′ n′ : ℕ} → kindAt chunk held j ≡ 1
+        → ys′ ≡ storedOn a (getD chunk j 0) ys → ram′ ≡ ramWith (Store a (getD chunk j 0)) ram → out′ ≡ sets out n (1 ∷ 0 ∷ []) → j′ ≡ suc (suc j) → n′ ≡ suc (suc n)
+        → from busCalls (lent (put busAt (busBytes (at Write ((a + 1) % 0x4000))) ys′) ram′) chunk held j′ out′ n′ ≡ behind Write
+    stored-on k p q u v w =
+        (λ i. from busCalls (lent (put busAt (busBytes (at Write ((a + 1) % 0x4000))) (p i)) (q i)) chunk held (v i) (u i) (w i)) ∙ sym (stored-turn k)
 
-  pub fetched-on : {out′ : List ℕ} {j′ n′ : ℕ} → j < length chunk → kindAt chunk held j ≡ 2
-      → out′ ≡ sets out n (1 ∷ byteIn a (deviceIn ys .registers) ram ∷ []) → j′ ≡ suc (suc j) → n′ ≡ suc (suc n)
-      → from busCalls (lent (put busAt (busBytes (at Read ((a + 1) % 0x4000))) ys) ram) chunk held j′ out′ n′ ≡ behind Read
-  fetched-on l k u v w =
-      (λ i. from busCalls (lent (put busAt (busBytes (at Read ((a + 1) % 0x4000))) ys) ram) chunk held (v i) (u i) (w i))
-      ∙ sym (turn (xs Read) ram chunk held j out n 2 l k (omega arith)
-      (fetched (xs Read) ys ram a (getD chunk j 0) (long Read) r (counted Read) (over Read) (state Read) (same Read))
-      (fetched-reply (xs Read) ys ram a (getD chunk j 0) (long Read) r (counted Read) (over Read) (state Read) (same Read)))
+    pub fetched-on : {out′ : List ℕ} {j′ n′ : ℕ} → kindAt chunk held j ≡ 2
+        → out′ ≡ sets out n (1 ∷ byteIn a (deviceIn ys .registers) ram ∷ []) → j′ ≡ suc (suc j) → n′ ≡ suc (suc n)
+        → from busCalls (lent (put busAt (busBytes (at Read ((a + 1) % 0x4000))) ys) ram) chunk held j′ out′ n′ ≡ behind Read
+    fetched-on k u v w =
+        (λ i. from busCalls (lent (put busAt (busBytes (at Read ((a + 1) % 0x4000))) ys) ram) chunk held (v i) (u i) (w i)) ∙ sym (fetched-turn k)
 
 -- ---- the places of a run
 
