@@ -72,7 +72,7 @@ line-reads ram s address height zoom line c b h = by (s .osd)
     slice = interpolated (following line) height zoom
 
     by : (o : Bool) → among c (cells ram (cond o (codes n slice address) (done []))) ≡ rowReads ram c (ofSlice c slice) (cond o n 0) address
-    by true = row-reads ram c n slice address b (slice-range (following line) height zoom (following-in line height zoom h))
+    by true = row-reads ram c n slice address b (slice-range (following line) height zoom (following-in line height zoom h) .to)
     by false = refl
 
 -- the rows of k lines

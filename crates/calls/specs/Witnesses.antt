@@ -147,8 +147,8 @@ pub record Witnesses : Type 0 where
   pub ld : Seen (ButSetting LD) 0x3FF0 0x04
   -- DD 5: characters start at pixel 39
   pub dd : Seen (ButSetting DD) 0x3FF1 0x05
-  -- CH 37: the strip's first line shows slice 0
-  pub ch : Seen (ButSetting CH) 0x3FF2 0x25
+  -- CH 6: the strip's first line shows slice 3, which is background
+  pub ch : Seen (ButSetting CH) 0x3FF2 0x06
   -- OSD 0: every pixel 0
   pub osd : Seen (ButSetting OSD) 0x3FF3 0x00
   -- FBK 1: plain pixels have FBLK 1

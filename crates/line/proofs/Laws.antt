@@ -47,7 +47,7 @@ rowOf-within : (n : ℕ) (s : Strip) → OnLine s → Within 1024 (rowOf n s)
 unfolding rowOf OnLine
 rowOf-within n (Spacing left) h = within-done 1024 []
 rowOf-within n (Characters address height zoom enabled line) h =
-    either (Within 1024) enabled _ _ (codes-within n (interpolated line height zoom) address (slice-range line height zoom h)) (within-done 1024 [])
+    either (Within 1024) enabled _ _ (codes-within n (interpolated line height zoom) address (slice-range line height zoom h .to)) (within-done 1024 [])
 
 -- every cell that a line reads is below 1,024
 pub scan-within : (s : Settings) (w : Walk) → Within 1024 (scan s w)

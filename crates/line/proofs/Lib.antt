@@ -5,3 +5,4 @@ pub mod Laws
 pub mod Rules
 pub mod Strips
 pub mod Turns
+pub mod UserSlices

@@ -147,7 +147,7 @@ unfolding OnLine
 on-line strip e h = subst OnLine e h
 
 pub slice-most : (r : Slice) (j : ScanLine) (ch : ℕ) (zoom : Bool) → r ≡ interpolated j ch zoom → InStrip j ch zoom → InCharacter r
-slice-most r j ch zoom e h = subst InCharacter (sym e) (slice-range j ch zoom h)
+slice-most r j ch zoom e h = subst InCharacter (sym e) (slice-range j ch zoom h .to)
 
 -- ---- the frame's next line
 

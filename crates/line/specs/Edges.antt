@@ -1,4 +1,4 @@
--- Document 01, "Edges to test": the rows marked P, one table under one claim.
+-- Document 01, "Edges to test": the rows marked P, one table under one claim. The slices for (37,1) and (63,1) are those of request K2.
 -- Assumes nothing.
 use Prim.Native.Nat.{ℕ, _+_, _*_, _≤_}
 use mathlib.Core.Path.{_≡_}
@@ -45,8 +45,8 @@ table =
     ∷ slice 18 18 18
     ∷ slice 36 2 1
     ∷ slice 36 35 18
-    ∷ slice 37 1 0
-    ∷ slice 63 1 0
+    ∷ slice 37 1 1
+    ∷ slice 63 1 1
     ∷ slice 63 2 1
     ∷ slice 1 1 18
     ∷ slice 12 1 2

@@ -55,11 +55,15 @@ module _ (j : ScanLine) (ch : ℕ) (zoom : Bool) where
 
 -- ---- slices
 
--- a slice lies in 0 to 18
+-- a slice lies in 1 to 18
+pub slice-some : (ch n : ℕ) → 1 ≤ sliceNumber ch n
+unfolding sliceNumber
+slice-some ch n = omega arith
+
 pub slice-bound : (ch n : ℕ) → 0 < ch → n ≤ ch → sliceNumber ch n ≤ 18
 unfolding sliceNumber
 slice-bound ch n pos h =
-    let below : sliceNumber ch n < 19 = div-lt-iff-lt-mul {k = 2 * ch} {x = 36 * n + ch} {y = 19} (omega arith) .1 (omega arith) in
+    let below : (36 * n + ch) / (2 * ch) < 19 = div-lt-iff-lt-mul {k = 2 * ch} {x = 36 * n + ch} {y = 19} (omega arith) .1 (omega arith) in
     omega arith
 
 pub unzoomed-bound : (j : ScanLine) (ch : ℕ) (zoom : Bool) → InStrip j ch zoom → unzoomed zoom (j .0) ≤ ch

@@ -1,32 +1,42 @@
 -- Which lines of a strip show a slice: neighbours, so the first that could decides.
 -- Assumes nothing.
 use Prim.Native.Nat.{ℕ, zero, suc, _+_, _-_, _*_, _/_, _≤_, _<_, max}
+use mathlib.Core.Logic.{_↔_}
 use mathlib.Core.Path.{_≡_, refl, sym, ap, _∙_, subst}
-use mathlib.Core.Bool.{Bool, true, false, _||_}
-use native.Mathlib.Nat.{div-mul-le-self, lt-div-mul-add, div-eq-of-lt-le, add-mul, one-mul, mul-le-mul}
+use mathlib.Core.Bool.{Bool, true, false, cond, _||_}
+use native.Mathlib.Nat.{div-lt-iff-lt-mul, le-div-iff-mul-le, add-mul, one-mul, mul-le-mul}
 use native.Mathlib.Decide.{ℕ-discrete, decLe}
 use native.Mathlib.Omega.{arith}
+use borrow.Author.Tests.{lt-ltb, le-ltb}
 use lib.Dec.{T, ltb, eqb→eq, ltb→lt, lt→ltb}
 use mir.Facts.{yes-eqb}
 use Rattle.facts.proofs.Tests.{iff, or-cases, or-first, or-second}
 use Rattle.raster.specs.declared.ScanLine.{ScanLine}
 use Rattle.raster.specs.declared.Slice.{Slice}
 use Rattle.raster.specs.Raster.{stripLines, beforeFirst, following, linesAfter, InCharacter, unzoomed, sliceNumber, interpolated}
-use Rattle.raster.specs.Search.{sameSlice, sliceShown}
-use Rattle.raster.proofs.Laws.{height-pos, following-in}
+use Rattle.raster.specs.Search.{sameSlice, sliceShown, firstFrom}
+use Rattle.raster.proofs.Laws.{slice-some, height-pos, following-in}
 
--- slice u is shown by line n exactly if 36 n + CH lies in the 2 CH numbers from 2 CH u on
-in-range : (ch n u : ℕ) → 0 < ch → sliceNumber ch n ≡ u → (u * (2 * ch) ≤ 36 * n + ch) × (36 * n + ch < u * (2 * ch) + 2 * ch)
-unfolding sliceNumber
-in-range ch n u h e =
-    subst (λ (q : ℕ). (q * (2 * ch) ≤ 36 * n + ch) × (36 * n + ch < q * (2 * ch) + 2 * ch)) e
-    (div-mul-le-self (36 * n + ch) (2 * ch), lt-div-mul-add {a = 36 * n + ch} {b = 2 * ch} (omega arith))
+module _ (ch n u : ℕ) (pos : 0 < ch) (some : 1 ≤ u) where
+  -- line n shows slice u or one below it
+  not-above : sliceNumber ch n ≤ u ↔ 36 * n + ch < u * (2 * ch) + 2 * ch
+  unfolding sliceNumber
+  not-above =
+      let e : (u + 1) * (2 * ch) ≡ u * (2 * ch) + 2 * ch = add-mul u 1 (2 * ch) ∙ ap (λ (x : ℕ). u * (2 * ch) + x) (one-mul (2 * ch)) in
+      let d = div-lt-iff-lt-mul {k = 2 * ch} {x = 36 * n + ch} {y = u + 1} (omega arith) in
+      (λ h. omega (arith, e, d .0 (omega arith)), λ h. omega (arith, d .1 (omega (arith, e))))
 
-is-slice : (ch n u : ℕ) → u * (2 * ch) ≤ 36 * n + ch → 36 * n + ch < u * (2 * ch) + 2 * ch → sliceNumber ch n ≡ u
-unfolding sliceNumber
-is-slice ch n u l h =
-    div-eq-of-lt-le (2 * ch) l
-    (subst (λ (x : ℕ). 36 * n + ch < x) (sym (add-mul u 1 (2 * ch) ∙ ap (λ (x : ℕ). u * (2 * ch) + x) (one-mul (2 * ch)))) h)
+  -- or one above it
+  not-below : u ≤ sliceNumber ch n ↔ firstFrom ch u ≤ n
+  unfolding sliceNumber firstFrom
+  not-below = by (decLe 2 u)
+    where
+      d : u ≤ (36 * n + ch) / (2 * ch) ↔ u * (2 * ch) ≤ 36 * n + ch
+      d = le-div-iff-mul-le {k = 2 * ch} {x = u} {y = 36 * n + ch} (omega arith)
+
+      by : Dec (2 ≤ u) → u ≤ max 1 ((36 * n + ch) / (2 * ch)) ↔ cond (ltb u 2) 0 ((u * (2 * ch) - ch + 35) / 36) ≤ n
+      by (yes h) = rw (le-ltb u 2 h) (λ l. omega (arith, d .0 (omega arith)), λ l. omega (arith, d .1 (omega arith)))
+      by (no h) = rw (lt-ltb u 2 (omega arith)) (λ l. omega arith, λ l. omega arith)
 
 -- some line among the k after line j shows it
 record Some (j : ScanLine) (k ch : ℕ) (zoom : Bool) (s : Slice) : Type 0 where
@@ -85,19 +95,35 @@ rising : (zoom : Bool) (j a b : ℕ) → a ≤ b → unzoomed zoom (j + a) ≤ u
 rising true j a b h = omega arith
 rising false j a b h = omega arith
 
+-- no line shows slice 0
+pub shown-none : (j : ScanLine) (k ch : ℕ) (zoom : Bool) (s : Slice) → s .0 ≡ 0 → false ≡ sliceShown j k ch zoom s
+shown-none j k ch zoom s z =
+    iff false (sliceShown j k ch zoom s) (λ t. absurd t)
+    (λ t.
+    let m : Some j k ch zoom s = shown-some ch zoom s k j t in
+    absurd (omega (arith, m .shows, slice-some ch (unzoomed zoom (j .0 + m .by)))))
+
 -- the first line, unzoomed, after line j whose slice is not below s
 abbrev pub firstOf : ScanLine → ℕ → Bool → Slice → ℕ
-firstOf j ch zoom s = max (unzoomed zoom (j .0 + 1)) ((s .0 * (2 * ch) - ch + 35) / 36)
+firstOf j ch zoom s = max (unzoomed zoom (j .0 + 1)) (firstFrom ch (s .0))
 
-module _ (j : ScanLine) (k ch : ℕ) (zoom : Bool) (s : Slice) (pos : 0 < ch) (some : 1 ≤ k) where
+module _ (j : ScanLine) (k ch : ℕ) (zoom : Bool) (s : Slice) (pos : 0 < ch) (some : 1 ≤ k) (real : 1 ≤ s .0) where
+  -- a line that shows the slice is not before it, and shows none above
+  shows-from : (m : Some j k ch zoom s)
+      → (firstOf j ch zoom s ≤ unzoomed zoom (j .0 + m .by)) × (36 * unzoomed zoom (j .0 + m .by) + ch < s .0 * (2 * ch) + 2 * ch)
+  shows-from m =
+      let n : ℕ = unzoomed zoom (j .0 + m .by) in (
+        omega (arith, not-below ch n (s .0) pos real .0 (omega (arith, m .shows)), rising zoom (j .0) 1 (m .by) (m .from)),
+        not-above ch n (s .0) pos real .0 (omega (arith, m .shows)),
+      )
+
   -- it lies past the lines: none shows the slice
   pub shown-past : unzoomed zoom (j .0 + k) < firstOf j ch zoom s → false ≡ sliceShown j k ch zoom s
   shown-past h =
       iff false (sliceShown j k ch zoom s) (λ t. absurd t)
       (λ t.
       let m : Some j k ch zoom s = shown-some ch zoom s k j t in
-      let r = in-range ch (unzoomed zoom (j .0 + m .by)) (s .0) pos (m .shows) in
-      absurd (omega (arith, r .0, rising zoom (j .0) (m .by) k (m .to), rising zoom (j .0) 1 (m .by) (m .from))))
+      absurd (omega (arith, shows-from m .0, rising zoom (j .0) (m .by) k (m .to))))
 
   -- it is one of the lines: they show the slice exactly if it does
   pub shown-first : firstOf j ch zoom s ≤ unzoomed zoom (j .0 + k)
@@ -105,15 +131,15 @@ module _ (j : ScanLine) (k ch : ℕ) (zoom : Bool) (s : Slice) (pos : 0 < ch) (s
   shown-first h =
       iff (ltb (36 * firstOf j ch zoom s + ch) (s .0 * (2 * ch) + 2 * ch)) (sliceShown j k ch zoom s)
       (λ t.
-      let b = between zoom k (j .0) (firstOf j ch zoom s) some (omega arith) h in
-      let u = ltb→lt (36 * firstOf j ch zoom s + ch) (s .0 * (2 * ch) + 2 * ch) t in
-      some-shown ch zoom s k j (b .by) (b .from) (b .to)
-      (ap (sliceNumber ch) (b .is) ∙ is-slice ch (firstOf j ch zoom s) (s .0) (omega arith) u))
+      let n : ℕ = firstOf j ch zoom s in
+      let b = between zoom k (j .0) n some (omega arith) h in
+      let u = not-above ch n (s .0) pos real .1 (ltb→lt (36 * n + ch) (s .0 * (2 * ch) + 2 * ch) t) in
+      let l = not-below ch n (s .0) pos real .1 (omega arith) in
+      some-shown ch zoom s k j (b .by) (b .from) (b .to) (ap (sliceNumber ch) (b .is) ∙ omega (arith, u, l)))
       (λ t.
       let m : Some j k ch zoom s = shown-some ch zoom s k j t in
-      let r = in-range ch (unzoomed zoom (j .0 + m .by)) (s .0) pos (m .shows) in
-      lt→ltb (36 * firstOf j ch zoom s + ch) (s .0 * (2 * ch) + 2 * ch)
-      (omega (arith, r .0, r .1, rising zoom (j .0) 1 (m .by) (m .from))))
+      let r = shows-from m in
+      lt→ltb (36 * firstOf j ch zoom s + ch) (s .0 * (2 * ch) + 2 * ch) (omega (arith, r .0, r .1)))
 
 -- a strip that is shown whole shows the same slices with zoom
 pub whole-zoom : (ch : ℕ) (zoom : Bool) (s : Slice) → sliceShown beforeFirst (stripLines ch zoom) ch zoom s ≡ sliceShown beforeFirst ch ch false s

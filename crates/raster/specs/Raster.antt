@@ -1,5 +1,5 @@
--- Document 01, "From line to slice", with the lines of a character strip of "Walk of a frame", and of "Pixels" the width, the first
--- pixel and the hidden time.
+-- Document 01, "From line to slice", as request K2 mends it, with the lines of a character strip of "Walk of a frame", and of "Pixels"
+-- the width, the first pixel and the hidden time.
 -- Assumes nothing.
 use Prim.Native.Nat.{ℕ, zero, suc, _+_, _-_, _*_, _/_, _≤_, _<_, max}
 use mathlib.Core.Bool.{Bool, false, cond}
@@ -40,9 +40,14 @@ HasNext j = j .0 < 65535
 
 -- ---- the slices of a character
 
--- a slice lies in 0 to 18
+-- a slice of a character: 0 to 18 (0 is in a user character's first two cells, and no line shows it)
 abbrev pub InCharacter : Slice → Type 0
 InCharacter s = s .0 ≤ 18
+
+-- a slice on screen: 1 to 18
+pub record OnScreen (s : Slice) : Type 0 where
+  pub from : 1 ≤ s .0
+  pub to : InCharacter s
 
 -- ---- from line to slice
 
@@ -50,9 +55,9 @@ InCharacter s = s .0 ≤ 18
 abbrev pub unzoomed : Bool → ℕ → ℕ
 unzoomed zoom j = cond zoom ((j + 1) / 2) j
 
--- the slice is n times 18 over CH, rounded, halves up (H)
+-- the slice is n times 18 over CH, rounded, halves up (H). A rounded slice below 1 is taken as 1 (K2)
 unfoldable pub sliceNumber : ℕ → ℕ → ℕ
-sliceNumber ch n = (36 * n + ch) / (2 * ch)
+sliceNumber ch n = max 1 ((36 * n + ch) / (2 * ch))
 
 -- only this turns a scan line of a strip into a slice of a character
 unfoldable pub interpolated : ScanLine → ℕ → Bool → Slice

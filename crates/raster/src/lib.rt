@@ -2,7 +2,7 @@
 ghost use mathlib.Core.Path.{_≡_};
 ghost use Prim.Native.Nat.{_-_, _≤_, max};
 ghost use Rattle.raster.specs.Raster.{stripLines, beforeFirst, following, InStrip, isLast, linesAfter, HasNext, InCharacter, unzoomed, interpolated, widthOf, firstPixelOf, charactersOf, hiddenIn};
-ghost use Rattle.raster.specs.Search.{sliceShown};
+ghost use Rattle.raster.specs.Search.{sliceShown, firstFrom};
 
 // A scan line of a strip, counted from 1; 0 before the first.
 pub struct ScanLine(pub u16);
@@ -46,6 +46,18 @@ fn strip_lines(height: u8, zoom: bool) -> u16
     height as u16
 }
 
+// The first line of a strip, counted without zoom, whose slice is this or more; 0 for slices 0 and 1, since every line's is 1 or more.
+fn first_from(height: u8, slice: Slice) -> u16
+    requires { ⌜ InCharacter slice ⌝ }
+    ensures { λ r. ⌜ r ≡ firstFrom height (slice .0) ⌝ }
+{
+    if slice.0 < 2 {
+        return 0;
+    }
+    let ch = height as u16;
+    (slice.0 as u16 * (2 * ch) - ch + 35) / 36
+}
+
 impl ScanLine {
     // Before a strip's first line.
     pub fn before_first() -> ScanLine
@@ -76,31 +88,32 @@ impl ScanLine {
         rest(strip_lines(height, zoom), self.0)
     }
 
-    // The slice that this line of a strip of characters shows.
+    // The slice that this line of a strip of characters shows. A slice that rounds to 0 is taken as 1.
     pub fn slice(self, height: u8, zoom: bool) -> Slice
         requires { ⌜ InStrip self height zoom ⌝ }
         ensures { λ r. ⌜ r ≡ interpolated self height zoom ⌝ }
     {
         let n = unzoom(self.0, zoom);
         let ch = height as u16;
-        Slice(((36 * n + ch) / (2 * ch)) as u8)
+        Slice(most(1, (36 * n + ch) / (2 * ch)) as u8)
     }
 
     // Does one of the next lines of the strip, so many, show a slice? The lines that show a slice are neighbours, so the first that
-    // could is looked at.
+    // could is looked at. No line shows slice 0.
     pub fn shows(self, count: u16, height: u8, zoom: bool, slice: Slice) -> bool
         requires { ⌜ (1 ≤ count) × (count ≤ linesAfter self height zoom) ⌝ }
         requires { ⌜ InCharacter slice ⌝ }
         ensures { λ r. ⌜ r ≡ sliceShown self count height zoom slice ⌝ }
     {
-        let ch = height as u16;
-        let from = slice.0 as u16 * (2 * ch);
-        let first = (rest(from, ch) + 35) / 36;
-        let n = most(unzoom(self.0 + 1, zoom), first);
+        if slice.0 == 0 {
+            return false;
+        }
+        let n = most(unzoom(self.0 + 1, zoom), first_from(height, slice));
         if unzoom(self.0 + count, zoom) < n {
             return false;
         }
-        36 * n + ch < from + 2 * ch
+        let ch = height as u16;
+        36 * n + ch < slice.0 as u16 * (2 * ch) + 2 * ch
     }
 }
 

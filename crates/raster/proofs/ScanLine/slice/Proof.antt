@@ -15,22 +15,24 @@ in-strip c = (
   height-pos (c .args .self) (c .args .height) (c .args .zoom) (c .pre),
 )
 
-mul-t6 : tie.Need-mul-t6
-mul-t6 c = omega (arith, c .unzoom .ensures, in-strip (c .before) .0)
+mul-most : tie.Need-mul-most
+mul-most c = omega (arith, c .unzoom .ensures, in-strip (c .before) .0)
 
-add-t7 : tie.Need-add-t7
-add-t7 c = omega (arith, c .unzoom .ensures, in-strip (c .before) .0)
+add-most : tie.Need-add-most
+add-most c = omega (arith, c .unzoom .ensures, in-strip (c .before) .0)
 
-div-t9 : tie.Need-div-t9
-div-t9 c = omega (arith, in-strip (c .before) .1)
+div-most : tie.Need-div-most
+div-most c = omega (arith, in-strip (c .before) .1)
 
-cast-t10 : tie.Need-cast-t10
+cast-t11 : tie.Need-cast-t11
 unfolding sliceNumber
-cast-t10 c = rw (c .unzoom .ensures) (omega (arith, slice-bound _ _ (in-strip (c .before) .1) (in-strip (c .before) .0)))
+cast-t11 c =
+    let h = in-strip (c .before .before) in
+    rw (c .most .ensures, c .before .unzoom .ensures) (omega (arith, slice-bound _ _ (h .1) (h .0)))
 
 returns : tie.Need-returns
 unfolding interpolated sliceNumber
-returns c = rw (c .unzoom .ensures)
+returns c = rw (c .most .ensures, c .before .unzoom .ensures)
 
 pub slice-spec : {M : Type 1} → statement M
-slice-spec = tie.close (tie.spec (λ c κs. search needs) mul-t6 add-t7 (λ c. search needs) div-t9 cast-t10 returns)
+slice-spec = tie.close (tie.spec (λ c κs. search needs) mul-most add-most (λ c. search needs) div-most (λ c κs. search needs) cast-t11 returns)
