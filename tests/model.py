@@ -125,7 +125,7 @@ class Device:
         if self.kind == 'spacing' or not self.shown:
             return line
         n = -(-self.line_of_strip // 2) if self.zoom else self.line_of_strip
-        s = math.floor(Fraction(18 * n, self.height) + Fraction(1, 2))
+        s = max(1, math.floor(Fraction(18 * n, self.height) + Fraction(1, 2)))      # request K2: 0 is taken as 1
         mode = control >> 4 & 3
         x, a = 3 * (max(self.registers[1], 4) + 8), self.codes
         while x < width:
