@@ -2,7 +2,8 @@
 
 use crate::{RamWords, RAM_WORDS};
 
-/// Slices of a character, 0 to this.
+/// Lines show slices 1 to this. A user character has room for a slice 0 too,
+/// which no line shows.
 pub(crate) const LAST_SLICE: u16 = 18;
 
 /// The two bytes that define a strip.
@@ -161,11 +162,12 @@ pub(crate) fn next_word(word: u16) -> u16 {
     (word + 1) % RAM_WORDS as u16
 }
 
-/// The slice that step n of a strip shows: n × 18 / height, halves up.
+/// The slice that step n of a strip shows: n × 18 / height, halves up, and 1
+/// where that is 0, so that a tall letter has its top line.
 #[inline]
 pub(crate) fn slice_of_step(step: u16, height: u8) -> u16 {
     let height = u16::from(height);
-    (36 * step + height) / (2 * height)
+    ((36 * step + height) / (2 * height)).max(1)
 }
 
 /// The steps that show one slice: `first..=last`, empty if `first > last`.
@@ -178,11 +180,17 @@ pub(crate) struct Steps {
 impl Steps {
     pub(crate) const NONE: Steps = Steps { first: 1, last: 0 };
 
-    /// [`slice_of_step`] turned round.
+    /// [`slice_of_step`] turned round: slice 1 has the steps that round to 0
+    /// too, and slice 0 has none.
     #[inline]
     pub(crate) fn of_slice(slice: u16, height: u8) -> Steps {
         let height = u16::from(height);
-        Steps { first: ((2 * slice).saturating_sub(1) * height).div_ceil(36), last: ((2 * slice + 1) * height - 1) / 36 }
+        let last = ((2 * slice + 1) * height - 1) / 36;
+        match slice {
+            0 => Steps::NONE,
+            1 => Steps { first: 1, last },
+            _ => Steps { first: ((2 * slice - 1) * height).div_ceil(36), last },
+        }
     }
 
     /// Is one of them in `from..=to`?

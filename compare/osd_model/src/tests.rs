@@ -2,6 +2,7 @@
 //! a slow model that takes the specification word by word.
 
 extern crate std;
+use std::ops::Range;
 use std::vec;
 use std::vec::Vec;
 
@@ -38,6 +39,11 @@ fn example() -> (Device, Vec<u8>, Vec<u8>, Vec<u8>) {
     let registers = [4, 4, 0x12, 0x80, 0, 0, 0, 0, 0, 0, 0, 0, 0, 0, 0, 0];
     poke(&mut device, &mut ram, 0x3FF0, &registers);
     (device, ram, font, line)
+}
+
+/// Which of these cells the frame's remaining lines read.
+fn cells_left(device: &Device, ram: &[u8], cells: Range<u32>) -> Vec<u32> {
+    cells.filter(|&cell| device.cell(ram, cell).unwrap()).collect()
 }
 
 fn hex(line: &[u8]) -> std::string::String {
@@ -77,7 +83,7 @@ fn shadow_and_flash() {
 
 #[test]
 fn slices() {
-    let table = [(18, 1, 1), (18, 18, 18), (36, 2, 1), (36, 35, 18), (37, 1, 0), (63, 1, 0), (63, 2, 1), (1, 1, 18), (12, 1, 2)];
+    let table = [(18, 1, 1), (18, 18, 18), (36, 2, 1), (36, 35, 18), (37, 1, 1), (63, 1, 1), (63, 2, 1), (1, 1, 18), (12, 1, 2)];
     for (height, step, slice) in table {
         assert_eq!(slice_of_step(step, height), slice);
     }
@@ -89,6 +95,83 @@ fn slices() {
             }
         }
     }
+}
+
+/// Request K2. CH, ZY's bit, and how many lines from the first on show slice 1.
+const TALL: [(u8, u8, u32); 6] = [(36, 0, 2), (37, 0, 3), (63, 0, 5), (36, 0x20, 4), (37, 0x20, 6), (63, 0x20, 10)];
+
+/// The example's page with CH, ZY and a character of choice: slice 1 of font
+/// character 65 and of user character 1 is 80F, slice 2 is 001; the user
+/// character's slice 0 is FFF.
+fn tall(height: u8, zoom: u8, code: u8) -> (Device, Vec<u8>, Vec<u8>, Vec<u8>) {
+    let (mut device, mut ram, mut font, line) = example();
+    poke(&mut device, &mut ram, 0x3FF2, &[height]);
+    (ram[1], ram[5]) = (0xC0 | zoom, code);
+    ram[38..44].copy_from_slice(&[0xFF, 0x0F, 0x0F, 0x08, 0x01, 0x00]);
+    font[2342] = 0x01;
+    (device, ram, font, line)
+}
+
+#[test]
+fn tall_letters_have_their_top_line() {
+    for (height, zoom, lines) in TALL {
+        for (code, reads) in [(0x41, 4), (0x81, 6)] {
+            let (mut device, ram, font, mut line) = tall(height, zoom, code);
+            device.frame_start(lines + 1).unwrap();
+            for drawn in 0..=lines {
+                let descriptor = if drawn == 0 { 2 } else { 0 };
+                assert_eq!(device.draw(&ram, &font, &mut line), Ok(descriptor + reads));
+                let slice = if drawn < lines { "F9999999FFFF" } else { "99999999999F" };
+                assert_eq!(hex(&line[36..48]), slice);
+            }
+        }
+    }
+}
+
+#[test]
+fn first_cells_of_a_tall_user_character() {
+    for (height, zoom, lines) in TALL {
+        let (mut device, ram, font, mut line) = tall(height, zoom, 0x81);
+        // Every line of these frames shows slice 1.
+        for frame in 1..=lines {
+            device.frame_start(frame).unwrap();
+            for _ in 0..frame {
+                assert_eq!(cells_left(&device, &ram, 38..44), [40, 41]);
+                device.draw(&ram, &font, &mut line).unwrap();
+            }
+            assert!(cells_left(&device, &ram, 38..44).is_empty());
+        }
+        // The frame's end does not cut this strip.
+        device.frame_start(2 * u32::from(height)).unwrap();
+        assert_eq!(cells_left(&device, &ram, 38..44), [40, 41, 42, 43]);
+        for _ in 0..lines {
+            device.draw(&ram, &font, &mut line).unwrap();
+        }
+        assert_eq!(cells_left(&device, &ram, 38..44), [42, 43]);
+    }
+}
+
+#[test]
+fn first_cells_as_descriptors_and_codes() {
+    let (mut device, mut ram, font, mut line) = tall(37, 0x20, 0x80);
+    let mut left = |ram: &[u8], frame, drawn, cells| {
+        device.frame_start(frame).unwrap();
+        for _ in 0..drawn {
+            device.draw(ram, &font, &mut line).unwrap();
+        }
+        cells_left(&device, ram, cells)
+    };
+    // Character 0: slice 0 is the strip's descriptor, slice 1 that of line 75.
+    assert_eq!(left(&ram, 2, 0, 0..4), [0, 1, 2, 3]);
+    assert_eq!(left(&ram, 2, 1, 0..4), [2, 3]);
+    assert!(left(&ram, 74, 6, 0..4).is_empty());
+    assert_eq!(left(&ram, 75, 6, 0..4), [2, 3]);
+    // Character 1: slice 0 is the code that ends its row.
+    ram[0] = 36;
+    ram[36..40].copy_from_slice(&[0x71, 0x81, 0x00, 0xFF]);
+    assert_eq!(left(&ram, 2, 0, 38..42), [38, 39, 40, 41]);
+    assert_eq!(left(&ram, 2, 1, 38..42), [38, 39, 40, 41]);
+    assert_eq!(left(&ram, 7, 6, 38..42), [38, 39]);
 }
 
 #[test]
@@ -116,8 +199,7 @@ fn user_character_25_slice_18() {
     ram[986..988].copy_from_slice(&[0x01, 0xF8]);
     poke(&mut device, &mut ram, 0x3FF2, &[1]); // CH 1: slice 18 only
     device.frame_start(1).unwrap();
-    let asked: Vec<u32> = (0..1024).filter(|&cell| device.cell(&ram, cell).unwrap()).collect();
-    assert_eq!(asked, [0, 1, 4, 5, 6, 7, 986, 987]);
+    assert_eq!(cells_left(&device, &ram, 0..1024), [0, 1, 4, 5, 6, 7, 986, 987]);
     assert_eq!(device.draw(&ram, &font, &mut line), Ok(8));
     assert_eq!(hex(&line[36..48]), "F9999999999F");
     assert_eq!(device.cell(&ram, 0), Ok(false));
@@ -373,7 +455,7 @@ impl Slow {
             return (line, reads);
         }
         let n = if zy { j.div_ceil(2) } else { j };
-        let slice = (36 * n + ch) / (2 * ch);
+        let slice = ((36 * n + ch) / (2 * ch)).max(1);
         let hidden = self.number >= [64, 32, 16, 48][mode];
         let mut address = (usize::from(high % 4) * 256 + usize::from(low)) & !1;
         let mut x = 3 * (r[1].max(4) + 8);
