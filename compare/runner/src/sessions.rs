@@ -141,6 +141,10 @@ impl<L: Library> Session<'_, L> {
             1 => self.random.next() as u32,
             _ => 1 + self.random.below(300) as u32,
         };
+        self.start(lines);
+    }
+
+    fn start(&mut self, lines: u32) {
         let model = packed(self.model.frame_start(lines).map(|()| 0));
         let ours = self.library.frame_start(&mut self.device, lines);
         self.check("frame start", ours, model);
@@ -189,6 +193,22 @@ impl<L: Library> Session<'_, L> {
         let model = packed(self.model.cell(&self.model_ram, cell).map(u32::from));
         let ours = self.library.cell(&self.device, &self.ram, cell);
         self.check("cell question", ours, model);
+    }
+
+    /// The top of tall letters, whose slice would round to 0: a frame of one to three lines, and before each draw a question about one
+    /// of the first four cells of every user character.
+    fn tall_letters(&mut self) {
+        let (ch, control) = (37 + self.random.below(27) as u8, self.random.byte() | 0x80);
+        self.settings(&[63, 4, ch, control]);
+        let lines = 1 + self.random.below(3) as u32;
+        self.start(lines);
+        for _ in 0..lines {
+            for number in 0..26 {
+                let cell = 38 * number + self.random.below(4) as u32;
+                self.ask(cell);
+            }
+            self.draw();
+        }
     }
 
     /// A chunk of what has arrived of a capture, mostly with the room that it needs.
@@ -343,6 +363,7 @@ impl<L: Library> Session<'_, L> {
         for cell in 0..RAM as u32 {
             self.ask(cell);
         }
+        self.tall_letters();
     }
 }
 
