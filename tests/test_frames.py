@@ -115,6 +115,12 @@ def text(s):
     output.append(s)
 
 
+def ask(a, n):
+    """The cell question about n cells from a on."""
+    step(14, a >> 8, a & 255, n)
+    output.append('ask %s\n' % ' '.join('%d:%d' % device.ask(ram, c) for c in range(a, a + n)))
+
+
 # ---- what several cases share
 
 def case(f):
@@ -378,12 +384,17 @@ def shadows():
         draw(8, DIGEST if fbk else PIXELS)
 
 
-def height_case(heights, zy, way):
-    """A strip of each height and the first line of the next, with a user character and a font character whose slices all differ."""
+def height_row():
+    """A user character and a font character whose slices all differ."""
     for s in range(19):
         user(4, s, s << 6 | 0b100001)
     glyph(9, *[s << 5 | 1 for s in range(1, 19)])
     codes(400, (0x70, 0x84), (0x61, 0x09))
+
+
+def height_case(heights, zy, way):
+    """A strip of each height and the first line of the next."""
+    height_row()
     for ch in heights:
         strip(strip(0, 400, zy=zy), 402, zy=zy)
         settings(ch=ch)
@@ -394,7 +405,7 @@ def height_case(heights, zy, way):
 
 @case
 def heights():
-    # CH 0 counts as 1; 37 and 63 begin with slice 0, which a user character has and a font character has not
+    # CH 0 counts as 1; 37 and 63 begin with slice 1, as 18 and 36 do
     height_case((0, 1, 12), 0, PIXELS)
     height_case((18, 36, 37, 63), 0, DIGEST)
 
@@ -404,6 +415,47 @@ def zoomed_heights():
     # with ZY each n has two lines, CH even or odd
     height_case((0, 1, 2, 3, 5), 1, PIXELS)
     height_case((12, 19), 1, DIGEST)
+
+
+def top_of_strip(cells, zy):
+    """A frame that ends with n = 1 of a strip, and one that ends with n = 2: before it, between its lines and after it, the cell
+    question about four cells."""
+    for n in (1, 2):
+        start(n << zy)
+        for _ in range(n << zy):
+            ask(cells, 4)
+            draw()
+        ask(cells, 4)
+
+
+@case
+def tall_letters():
+    # what rounds to slice 0 shows slice 1: n = 1 of CH 37 and 63, not of CH 36
+    height_row()
+    for zy in range(2):
+        strip(strip(0, 400, zy=zy), 400, zy=zy)
+        for ch in (36, 37, 63):
+            settings(ch=ch)
+            top_of_strip(38 * 4, zy)
+            # a strip and the top line of the next, which alone shows slice 1 then
+            start((ch << zy) + 1)
+            draw(ch << zy, SUM)
+            show_sum()
+            ask(38 * 4, 4)
+            draw()
+
+
+@case
+def tall_letters_over_descriptors_and_codes():
+    # cells 0 to 3 are two descriptors and slices 0 and 1 of user character 0; cells 38 to 41 two codes and slices 0 and 1 of character 1
+    fill(ram, 0x5A)
+    for zy in range(2):
+        strip(strip(0, 38, zy=zy), 40, zy=zy)
+        codes(38, (0x70, 0x80), (0x61, 0x81))
+        for ch in (36, 37, 63):
+            settings(ch=ch)
+            for cells in (0, 38):
+                top_of_strip(cells, zy)
 
 
 @case
@@ -483,7 +535,7 @@ def most_reads():
 
 @case
 def user_character_25():
-    # slice 18 lies at cells 986 and 987; slice 0 at 950 and 951, read with CH 37 and 63 in line 1
+    # slice 18 lies at cells 986 and 987; slice 1 at 952 and 953, read with CH 37 and 63 in line 1, and slice 0 at 950 and 951, never read
     noise(ram, 14)
     cell(950, 0x55, 0x0A)
     cell(952, 0xCC, 0xF3)
@@ -500,7 +552,7 @@ def user_character_25():
 
 @case
 def every_user_character():
-    # all 26, each slice from 0 to 18, in RAM full of noise
+    # all 26, each slice from 1 to 18, in RAM full of noise
     noise(ram, 1234)
     for n in range(26):
         codes(1000, (0x71, 0x80 + n), (0x4A, 0x80 + n))
@@ -513,7 +565,7 @@ def every_user_character():
 
 @case
 def every_font_character():
-    # all 128, each slice from 0 to 18, in a font of noise
+    # all 128, each slice from 1 to 18, in a font of noise
     noise(font, 4321)
     for n in range(0, 128, 8):
         codes(1000, *[(0x71 + i, n + i) for i in range(8)])
@@ -552,7 +604,7 @@ def blanks_and_end_of_line():
 
 @case
 def every_high_byte():
-    # each SET and number at slice 0, 9 and 18
+    # each SET and number at slice 1, 9 and 18
     noise(ram, 88)
     strip(0, 1000)
     for high in range(256):

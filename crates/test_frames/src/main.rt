@@ -13,6 +13,7 @@
 // 11 a, b draws; c says how each is told: 0 the line buffer, 1 its digest, otherwise only in the sum
 // 12 prints the sum, and begins a new one
 // 13 prints the characters a, b and c
+// 14 the cell question about c cells, from a, b on, in a line: of each its refusal, and 1 for yes or 0
 //
 // Before a draw every byte of its line buffer is 170, which prints as a dot. A refused frame start prints its refusal, and an event
 // its refusal and byte where they are not both 0.
@@ -73,7 +74,7 @@ fn word(high: u8, low: u8) -> usize {
     high as usize * 256 + low as usize
 }
 
-// ---- steps 0 to 3 and 11
+// ---- steps 0 to 3, 11 and 14
 
 fn turn(
     device: Device,
@@ -98,6 +99,7 @@ fn calls_of(step: Step) -> usize {
         0 | 2 | 3 => 1,
         1 => 6,
         11 => word(step.a, step.b),
+        14 => step.c as usize,
         _ => 0,
     }
 }
@@ -114,6 +116,10 @@ fn call(
         return draw(device, step.c, ram, font, kept);
     }
     let done = test_script::make(device, ram, call_of(step, i));
+    if step.kind == 14 {
+        show_answer(step, i, done.refusal, done.value);
+        return done.device;
+    }
     show(step.kind, done.refusal, done.value);
     done.device
 }
@@ -124,6 +130,7 @@ fn call_of(step: Step, i: usize) -> Call {
         0 => Call::Hear(Event::of_kind(step.a, step.b)),
         1 => Call::Hear(event_of(step, i)),
         2 => Call::Start(step.a as u32 * 65536 + step.b as u32 * 256 + step.c as u32),
+        14 => Call::Ask(step.a as u32 * 256 + step.b as u32 + (i % 256) as u32),
         _ => Call::Reset,
     }
 }
@@ -154,6 +161,22 @@ fn show(kind: u8, refusal: u8, byte: u16) {
     io::write_all(1, b"event ");
     test_script::print_decimal(refusal as u64, b' ');
     test_script::print_decimal(byte as u64, b'\n');
+}
+
+fn show_answer(step: Step, i: usize, refusal: u8, value: u16) {
+    if i == 0 {
+        io::write_all(1, b"ask ");
+    }
+    test_script::print_decimal(refusal as u64, b':');
+    test_script::print_decimal(value as u64, after(step, i));
+}
+
+fn after(step: Step, i: usize) -> u8 {
+    if i % 256 + 1 < step.c as usize {
+        b' '
+    } else {
+        b'\n'
+    }
 }
 
 fn draw<'a>(device: Device, way: u8, ram: &'a [u8], font: &'a [u8], kept: &mut [u64; 4]) -> Device {
