@@ -4,39 +4,40 @@ use Prim.Native.Nat.{ℕ, zero, suc, _+_, _-_, _*_, _/_, _≤_, _<_, max}
 use mathlib.Core.Logic.{_↔_}
 use mathlib.Core.Path.{_≡_, refl, sym, ap, _∙_, subst}
 use mathlib.Core.Bool.{Bool, true, false, cond, _||_}
-use native.Mathlib.Nat.{div-lt-iff-lt-mul, le-div-iff-mul-le, add-mul, one-mul, mul-le-mul}
+use native.Mathlib.Nat.{le-div-iff-mul-le, lt-of-not-le, add-mul, one-mul, zero-mul, mul-assoc, mul-le-mul}
 use native.Mathlib.Decide.{ℕ-discrete, decLe}
 use native.Mathlib.Omega.{arith}
 use borrow.Author.Tests.{lt-ltb, le-ltb}
 use lib.Dec.{T, ltb, eqb→eq, ltb→lt, lt→ltb}
 use mir.Facts.{yes-eqb}
+use Rattle.facts.proofs.Choice.{either}
 use Rattle.facts.proofs.Tests.{iff, or-cases, or-first, or-second}
 use Rattle.raster.specs.declared.ScanLine.{ScanLine}
 use Rattle.raster.specs.declared.Slice.{Slice}
 use Rattle.raster.specs.Raster.{stripLines, beforeFirst, following, linesAfter, InCharacter, unzoomed, sliceNumber, interpolated}
-use Rattle.raster.specs.Search.{sameSlice, sliceShown, firstFrom}
-use Rattle.raster.proofs.Laws.{slice-some, height-pos, following-in}
+use Rattle.raster.specs.Search.{sameSlice, sliceShown, startsAt}
+use Rattle.raster.proofs.Laws.{height-pos, following-in}
 
-module _ (ch n u : ℕ) (pos : 0 < ch) (some : 1 ≤ u) where
-  -- line n shows slice u or one below it
-  not-above : sliceNumber ch n ≤ u ↔ 36 * n + ch < u * (2 * ch) + 2 * ch
-  unfolding sliceNumber
-  not-above =
-      let e : (u + 1) * (2 * ch) ≡ u * (2 * ch) + 2 * ch = add-mul u 1 (2 * ch) ∙ ap (λ (x : ℕ). u * (2 * ch) + x) (one-mul (2 * ch)) in
-      let d = div-lt-iff-lt-mul {k = 2 * ch} {x = 36 * n + ch} {y = u + 1} (omega arith) in
-      (λ h. omega (arith, e, d .0 (omega arith)), λ h. omega (arith, d .1 (omega (arith, e))))
+-- line n shows slice u or one above it
+from-start : (ch n u : ℕ) → 0 < ch → u ≤ sliceNumber ch n ↔ startsAt u * ch ≤ 36 * n
+unfolding sliceNumber startsAt
+from-start ch n u pos = by (decLe 2 u)
+  where
+    d : u ≤ (36 * n + ch) / (2 * ch) ↔ u * (2 * ch) ≤ 36 * n + ch
+    d = le-div-iff-mul-le {k = 2 * ch} {x = u} {y = 36 * n + ch} (omega arith)
 
-  -- or one above it
-  not-below : u ≤ sliceNumber ch n ↔ firstFrom ch u ≤ n
-  unfolding sliceNumber firstFrom
-  not-below = by (decLe 2 u)
-    where
-      d : u ≤ (36 * n + ch) / (2 * ch) ↔ u * (2 * ch) ≤ 36 * n + ch
-      d = le-div-iff-mul-le {k = 2 * ch} {x = u} {y = 36 * n + ch} (omega arith)
+    halves : 1 ≤ u → (2 * u - 1) * ch + ch ≡ u * (2 * ch)
+    halves h =
+        ap (λ (x : ℕ). (2 * u - 1) * ch + x) (sym (one-mul ch))
+        ∙ sym (add-mul (2 * u - 1) 1 ch)
+        ∙ ap (λ (x : ℕ). x * ch) (omega arith)
+        ∙ mul-assoc u 2 ch
 
-      by : Dec (2 ≤ u) → u ≤ max 1 ((36 * n + ch) / (2 * ch)) ↔ cond (ltb u 2) 0 ((u * (2 * ch) - ch + 35) / 36) ≤ n
-      by (yes h) = rw (le-ltb u 2 h) (λ l. omega (arith, d .0 (omega arith)), λ l. omega (arith, d .1 (omega arith)))
-      by (no h) = rw (lt-ltb u 2 (omega arith)) (λ l. omega arith, λ l. omega arith)
+    by : Dec (2 ≤ u) → u ≤ max 1 ((36 * n + ch) / (2 * ch)) ↔ cond (ltb u 2) 0 (2 * u - 1) * ch ≤ 36 * n
+    by (yes h) =
+        let e = halves (omega arith) in
+        rw (le-ltb u 2 h) (λ l. omega (arith, e, d .0 (omega arith)), λ l. omega (arith, d .1 (omega (arith, e))))
+    by (no h) = rw (lt-ltb u 2 (omega arith), zero-mul) (λ l. omega arith, λ l. omega arith)
 
 -- some line among the k after line j shows it
 record Some (j : ScanLine) (k ch : ℕ) (zoom : Bool) (s : Slice) : Type 0 where
@@ -95,26 +96,19 @@ rising : (zoom : Bool) (j a b : ℕ) → a ≤ b → unzoomed zoom (j + a) ≤ u
 rising true j a b h = omega arith
 rising false j a b h = omega arith
 
--- no line shows slice 0
-pub shown-none : (j : ScanLine) (k ch : ℕ) (zoom : Bool) (s : Slice) → s .0 ≡ 0 → false ≡ sliceShown j k ch zoom s
-shown-none j k ch zoom s z =
-    iff false (sliceShown j k ch zoom s) (λ t. absurd t)
-    (λ t.
-    let m : Some j k ch zoom s = shown-some ch zoom s k j t in
-    absurd (omega (arith, m .shows, slice-some ch (unzoomed zoom (j .0 + m .by)))))
-
 -- the first line, unzoomed, after line j whose slice is not below s
 abbrev pub firstOf : ScanLine → ℕ → Bool → Slice → ℕ
-firstOf j ch zoom s = max (unzoomed zoom (j .0 + 1)) (firstFrom ch (s .0))
+firstOf j ch zoom s = max (unzoomed zoom (j .0 + 1)) ((startsAt (s .0) * ch + 35) / 36)
 
-module _ (j : ScanLine) (k ch : ℕ) (zoom : Bool) (s : Slice) (pos : 0 < ch) (some : 1 ≤ k) (real : 1 ≤ s .0) where
-  -- a line that shows the slice is not before it, and shows none above
+module _ (j : ScanLine) (k ch : ℕ) (zoom : Bool) (s : Slice) (pos : 0 < ch) (some : 1 ≤ k) where
+  -- a line that shows the slice is not before it, and the next slice starts after that line
   shows-from : (m : Some j k ch zoom s)
-      → (firstOf j ch zoom s ≤ unzoomed zoom (j .0 + m .by)) × (36 * unzoomed zoom (j .0 + m .by) + ch < s .0 * (2 * ch) + 2 * ch)
+      → (firstOf j ch zoom s ≤ unzoomed zoom (j .0 + m .by)) × (36 * unzoomed zoom (j .0 + m .by) < startsAt (s .0 + 1) * ch)
   shows-from m =
-      let n : ℕ = unzoomed zoom (j .0 + m .by) in (
-        omega (arith, not-below ch n (s .0) pos real .0 (omega (arith, m .shows)), rising zoom (j .0) 1 (m .by) (m .from)),
-        not-above ch n (s .0) pos real .0 (omega (arith, m .shows)),
+      let n : ℕ = unzoomed zoom (j .0 + m .by) in
+      let above = from-start ch n (s .0 + 1) pos .1 in (
+        omega (arith, from-start ch n (s .0) pos .0 (omega (arith, m .shows)), rising zoom (j .0) 1 (m .by) (m .from)),
+        lt-of-not-le (λ h. omega (arith, above h, m .shows)),
       )
 
   -- it lies past the lines: none shows the slice
@@ -127,19 +121,20 @@ module _ (j : ScanLine) (k ch : ℕ) (zoom : Bool) (s : Slice) (pos : 0 < ch) (s
 
   -- it is one of the lines: they show the slice exactly if it does
   pub shown-first : firstOf j ch zoom s ≤ unzoomed zoom (j .0 + k)
-      → ltb (36 * firstOf j ch zoom s + ch) (s .0 * (2 * ch) + 2 * ch) ≡ sliceShown j k ch zoom s
+      → ltb (36 * firstOf j ch zoom s) (startsAt (s .0 + 1) * ch) ≡ sliceShown j k ch zoom s
   shown-first h =
-      iff (ltb (36 * firstOf j ch zoom s + ch) (s .0 * (2 * ch) + 2 * ch)) (sliceShown j k ch zoom s)
+      iff (ltb (36 * firstOf j ch zoom s) (startsAt (s .0 + 1) * ch)) (sliceShown j k ch zoom s)
       (λ t.
       let n : ℕ = firstOf j ch zoom s in
       let b = between zoom k (j .0) n some (omega arith) h in
-      let u = not-above ch n (s .0) pos real .1 (ltb→lt (36 * n + ch) (s .0 * (2 * ch) + 2 * ch) t) in
-      let l = not-below ch n (s .0) pos real .1 (omega arith) in
-      some-shown ch zoom s k j (b .by) (b .from) (b .to) (ap (sliceNumber ch) (b .is) ∙ omega (arith, u, l)))
+      let u = ltb→lt (36 * n) (startsAt (s .0 + 1) * ch) t in
+      let l = from-start ch n (s .0) pos .1 (omega arith) in
+      let a = lt-of-not-le (λ q. omega (arith, u, from-start ch n (s .0 + 1) pos .0 q)) in
+      some-shown ch zoom s k j (b .by) (b .from) (b .to) (ap (sliceNumber ch) (b .is) ∙ omega (arith, l, a)))
       (λ t.
       let m : Some j k ch zoom s = shown-some ch zoom s k j t in
       let r = shows-from m in
-      lt→ltb (36 * firstOf j ch zoom s + ch) (s .0 * (2 * ch) + 2 * ch) (omega (arith, r .0, r .1)))
+      lt→ltb (36 * firstOf j ch zoom s) (startsAt (s .0 + 1) * ch) (omega (arith, r .0, r .1)))
 
 -- a strip that is shown whole shows the same slices with zoom
 pub whole-zoom : (ch : ℕ) (zoom : Bool) (s : Slice) → sliceShown beforeFirst (stripLines ch zoom) ch zoom s ≡ sliceShown beforeFirst ch ch false s
@@ -158,8 +153,12 @@ whole-zoom ch true s =
 
 -- ---- what the code's sums need
 
-pub slice-product : (s : Slice) (ch : ℕ) → InCharacter s → ch < 256 → s .0 * (2 * ch) ≤ 9180
-slice-product s ch l h = mul-le-mul {n₁ = s .0} {m₁ = 2 * ch} {n₂ = 18} {m₂ = 510} l (omega arith)
+pub start-bound : (u ch : ℕ) → u ≤ 19 → ch < 256 → startsAt u * ch ≤ 9435
+unfolding startsAt
+start-bound u ch l h = mul-le-mul {n₁ = cond (ltb u 2) 0 (2 * u - 1)} {m₁ = ch} {n₂ = 37} {m₂ = 255} most (omega arith)
+  where
+    most : cond (ltb u 2) 0 (2 * u - 1) ≤ 37
+    most = either (λ (x : ℕ). x ≤ 37) (ltb u 2) 0 (2 * u - 1) (omega arith) (omega arith)
 
 module _ (j : ScanLine) (k ch : ℕ) (zoom : Bool) (some : 1 ≤ k) (in-strip : k ≤ linesAfter j ch zoom) where
   pub lines-bound : ch < 256 → j .0 + k ≤ 510

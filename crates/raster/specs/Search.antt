@@ -1,6 +1,6 @@
 -- Which lines of a strip show a slice: what the search for a cell asks.
 -- Assumes nothing.
-use Prim.Native.Nat.{ℕ, zero, suc, _+_, _-_, _*_, _/_}
+use Prim.Native.Nat.{ℕ, zero, suc, _-_, _*_}
 use mathlib.Core.Bool.{Bool, false, cond, _||_}
 use lib.Dec.{eqb, ltb}
 use Rattle.raster.specs.declared.ScanLine.{ScanLine}
@@ -15,6 +15,6 @@ unfoldable pub sliceShown : ScanLine → ℕ → ℕ → Bool → Slice → Bool
 sliceShown j zero ch zoom s = false
 sliceShown j (suc k) ch zoom s = sameSlice (interpolated (following j) ch zoom) s || sliceShown (following j) k ch zoom s
 
--- the least n whose slice is s or more; 0 for s below 2, since every line's slice is 1 or more
-unfoldable pub firstFrom : ℕ → ℕ → ℕ
-firstFrom ch s = cond (ltb s 2) 0 ((s * (2 * ch) - ch + 35) / 36)
+-- line n shows slice s, or one above it, exactly where 36 n is so many times CH or more: every line shows slice 1 or more
+unfoldable pub startsAt : ℕ → ℕ
+startsAt s = cond (ltb s 2) 0 (2 * s - 1)

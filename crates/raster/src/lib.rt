@@ -2,7 +2,7 @@
 ghost use mathlib.Core.Path.{_≡_};
 ghost use Prim.Native.Nat.{_-_, _≤_, max};
 ghost use Rattle.raster.specs.Raster.{stripLines, beforeFirst, following, InStrip, isLast, linesAfter, HasNext, InCharacter, unzoomed, interpolated, widthOf, firstPixelOf, charactersOf, hiddenIn};
-ghost use Rattle.raster.specs.Search.{sliceShown, firstFrom};
+ghost use Rattle.raster.specs.Search.{sliceShown, startsAt};
 
 // A scan line of a strip, counted from 1; 0 before the first.
 pub struct ScanLine(pub u16);
@@ -46,16 +46,15 @@ fn strip_lines(height: u8, zoom: bool) -> u16
     height as u16
 }
 
-// The first line of a strip, counted without zoom, whose slice is this or more; 0 for slices 0 and 1, since every line's is 1 or more.
-fn first_from(height: u8, slice: Slice) -> u16
-    requires { ⌜ InCharacter slice ⌝ }
-    ensures { λ r. ⌜ r ≡ firstFrom height (slice .0) ⌝ }
+// Line n of a strip shows this slice, or one above it, where 36 n is so many times CH or more. Every line shows slice 1 or more.
+fn starts_at(slice: u16) -> u16
+    requires { ⌜ slice ≤ 19 ⌝ }
+    ensures { λ r. ⌜ r ≡ startsAt slice ⌝ }
 {
-    if slice.0 < 2 {
+    if slice < 2 {
         return 0;
     }
-    let ch = height as u16;
-    (slice.0 as u16 * (2 * ch) - ch + 35) / 36
+    2 * slice - 1
 }
 
 impl ScanLine {
@@ -99,21 +98,20 @@ impl ScanLine {
     }
 
     // Does one of the next lines of the strip, so many, show a slice? The lines that show a slice are neighbours, so the first that
-    // could is looked at. No line shows slice 0.
+    // could is looked at.
     pub fn shows(self, count: u16, height: u8, zoom: bool, slice: Slice) -> bool
         requires { ⌜ (1 ≤ count) × (count ≤ linesAfter self height zoom) ⌝ }
         requires { ⌜ InCharacter slice ⌝ }
         ensures { λ r. ⌜ r ≡ sliceShown self count height zoom slice ⌝ }
     {
-        if slice.0 == 0 {
-            return false;
-        }
-        let n = most(unzoom(self.0 + 1, zoom), first_from(height, slice));
+        let s = slice.0 as u16;
+        let ch = height as u16;
+        let first = (starts_at(s) * ch + 35) / 36;
+        let n = most(unzoom(self.0 + 1, zoom), first);
         if unzoom(self.0 + count, zoom) < n {
             return false;
         }
-        let ch = height as u16;
-        36 * n + ch < slice.0 as u16 * (2 * ch) + 2 * ch
+        36 * n < starts_at(s + 1) * ch
     }
 }
 
