@@ -163,7 +163,7 @@ typedef uint64_t osd_len;
  *
  * A strip of characters has CH lines, with ZY (zoom) twice as many. With DE 0 its lines are plain, and no code is read. Line j of
  * the strip, counted from 1, shows slice (36 * n + CH) / (2 * CH), rounded down, where n is j, or with ZY (j + 1) / 2 rounded down.
- * The slice is 0 to 18; it is 0 only where n is 1 and CH is 37 or more.
+ * Where that is 0 (n is 1 and CH is 37 or more) it shows slice 1, so the slice is 1 to 18.
  *
  * Codes. Two bytes at an even address, low byte first; the next lies 2 cells on, after cell 1022 at cell 0. Every line of a strip
  * reads codes from the code address on, up to the end of line, while the next character's first pixel is below W. A character has 12
@@ -181,8 +181,9 @@ typedef uint64_t osd_len;
  * Slices. Two bytes, a bit for each of twelve pixels, 1 foreground and 0 background: first PX7 to PX0, then PX11 to PX8 in bits 3 to
  * 0 (the upper four do not count). PX11 is leftmost.
  *
- *     user character k, 0 to 25   38 bytes at cell 38 * k, so cells 0 to 987; slice s, 0 to 18, at cell 38 * k + 2 * s
- *     font character k, 0 to 127  36 bytes at byte 36 * k; slice s, 1 to 18, at byte 36 * k + 2 * (s - 1); slice 0 is background
+ *     user character k, 0 to 25   38 bytes at cell 38 * k, so cells 0 to 987; slice s, 1 to 18, at cell 38 * k + 2 * s; the first two
+ *                                 bytes are not shown
+ *     font character k, 0 to 127  36 bytes at byte 36 * k; slice s, 1 to 18, at byte 36 * k + 2 * (s - 1)
  *
  * Pixels. One byte, 8 * FBLK + 4 * R + 2 * G + B.
  *
