@@ -14,7 +14,7 @@ use Rattle.facts.proofs.Choice.{either}
 use Rattle.facts.proofs.Tests.{iff, or-cases, or-first, or-second}
 use Rattle.raster.specs.declared.ScanLine.{ScanLine}
 use Rattle.raster.specs.declared.Slice.{Slice}
-use Rattle.raster.specs.Raster.{stripLines, beforeFirst, following, linesAfter, InCharacter, unzoomed, sliceNumber, interpolated}
+use Rattle.raster.specs.Raster.{stripLines, beforeFirst, following, linesAfter, unzoomed, sliceNumber, interpolated}
 use Rattle.raster.specs.Search.{sameSlice, sliceShown, startsAt}
 use Rattle.raster.proofs.Laws.{height-pos, following-in}
 
