@@ -439,6 +439,7 @@ def tall_letters():
             top_of_strip(38 * 4, zy)
             # a strip and the top line of the next, which alone shows slice 1 then
             start((ch << zy) + 1)
+            ask(38 * 4, 4)
             draw(ch << zy, SUM)
             show_sum()
             ask(38 * 4, 4)
@@ -604,7 +605,7 @@ def blanks_and_end_of_line():
 
 @case
 def every_high_byte():
-    # each SET and number at slice 1, 9 and 18
+    # each SET and number at slices 1 to 9, every fourth number up to 18
     noise(ram, 88)
     strip(0, 1000)
     for high in range(256):

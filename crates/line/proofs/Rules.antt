@@ -10,7 +10,7 @@ use Rattle.raster.specs.Raster.{charactersOf}
 use Rattle.line.specs.Line.{scan}
 use Rattle.line.specs.Rules.{MostCells, LinePixels}
 use Rattle.line.proofs.Laws.{scan-within, paint-length, paint-below}
-use Rattle.line.proofs.UserSlices.{scan-none}
+use Rattle.line.proofs.UserSlices.{scan-shown}
 use Rattle.line.proofs.Counts.{scan-descriptors, scan-codes, scan-slices, characters-bound, line-most}
 
 pub most-cells : MostCells
@@ -23,7 +23,7 @@ most-cells r w ram =
       slices = omega (arith, scan-slices s w ram);
       most = line-most r w ram;
       below = within-cells 1024 ram (scan s w) (scan-within s w);
-      no-slice-0 = scan-none ram s w;
+      on-screen = scan-shown ram s w;
     }
 
 pub line-pixels : LinePixels

@@ -1,7 +1,7 @@
--- A line reads no slice 0: what it reads as slices is of slices 1 to 18 of user characters.
+-- What a line reads as slices is of slices on screen, 1 to 18 of user characters.
 -- Assumes nothing.
-use Prim.Native.Nat.{ℕ, zero, suc, _+_, _/_, _%_, _≤_}
-use mathlib.Core.Path.{ap, _∙_, subst}
+use Prim.Native.Nat.{ℕ, zero, suc, _+_, _-_, _*_, _/_, _%_}
+use mathlib.Core.Path.{_≡_, ap, _∙_, subst}
 use mathlib.Core.List.{List, []}
 use native.Mathlib.Omega.{arith}
 use lib.Dec.{T, eqb, ltb, eqb→eq}
@@ -22,58 +22,67 @@ use Rattle.walk.specs.declared.Walk.{Walk}
 use Rattle.walk.specs.Walk.{even, next, over, begun, nextLine, OnLine}
 use Rattle.walk.proofs.Laws.{nextLine-on}
 use Rattle.glyph.specs.Glyph.{endsLine, userCell, glyphOf, inRam}
+use Rattle.glyph.specs.Cells.{userSlice}
 use Rattle.line.specs.Line.{codes, rowOf, shownRow, scan}
 
+-- the two cells of a user character's slice are of that slice
+of-slice : (number c : ℕ) (s : Slice) → OnScreen s → c / 2 * 2 ≡ userCell number (s .0) → OnScreen (userSlice c)
+unfolding userSlice
+of-slice number c s h e =
+    let d : c / 38 ≡ number = omega (arith, h .to) in
+    let m : c % 38 ≡ c - 38 * number = omega arith in
+    record { from = omega (arith, h .from); to = omega (arith, h .to) }
+
 module _ (ram : List ℕ) where
-  -- no cell is read as slice 0
-  abbrev None0 : {A : Type 0} → Reading A → Type 0
-  None0 p = (c : ℕ) → T (among c (cellsAs slice ram p)) → 2 ≤ c % 38
+  -- each cell that is read as a slice is of a slice on screen
+  abbrev Shown : {A : Type 0} → Reading A → Type 0
+  Shown p = (c : ℕ) → T (among c (cellsAs slice ram p)) → OnScreen (userSlice c)
 
-  none-done : {A : Type 0} (a : A) → None0 (done a)
+  shown-done : {A : Type 0} (a : A) → Shown (done a)
   unfolding cellsAs among
-  none-done a c t = absurd t
+  shown-done a c t = absurd t
 
-  none-bind : {A B : Type 0} (p : Reading A) (f : A → Reading B) → None0 p → None0 (f (value ram p)) → None0 (bind p f)
-  none-bind p f h k c t =
+  shown-bind : {A B : Type 0} (p : Reading A) (f : A → Reading B) → Shown p → Shown (f (value ram p)) → Shown (bind p f)
+  shown-bind p f h k c t =
       or-cases (among c (cellsAs slice ram p)) (among c (cellsAs slice ram (f (value ram p))))
       (subst T (ap (among c) (cellsAs-bind slice ram p f) ∙ among-append c (cellsAs slice ram p) _) t) (h c) (k c)
 
-  none-fmap : {A B : Type 0} (f : A → B) (p : Reading A) → None0 p → None0 (fmap f p)
-  none-fmap f p h c t = h c (subst T (ap (among c) (cellsAs-fmap slice ram f p)) t)
+  shown-fmap : {A B : Type 0} (f : A → B) (p : Reading A) → Shown p → Shown (fmap f p)
+  shown-fmap f p h c t = h c (subst T (ap (among c) (cellsAs-fmap slice ram f p)) t)
 
-  none-walk : (ch : ℕ) (w : Walk) → None0 (nextLine ch w)
+  shown-walk : (ch : ℕ) (w : Walk) → Shown (nextLine ch w)
   unfolding nextLine begun cellsAs sameRole among
-  none-walk ch w = none-fmap _ (begun ch w) (either None0 (over (w .strip)) _ _ (λ c t. absurd t) (λ c t. absurd t))
+  shown-walk ch w = shown-fmap _ (begun ch w) (either Shown (over (w .strip)) _ _ (λ c t. absurd t) (λ c t. absurd t))
 
-  none-glyph : (high : ℕ) (s : Slice) → OnScreen s → None0 (glyphOf high s)
+  shown-glyph : (high : ℕ) (s : Slice) → OnScreen s → Shown (glyphOf high s)
   unfolding glyphOf inRam cellsAs sameRole among
-  none-glyph high s h =
-      either None0 (eqb (high / 128 % 2) 0) _ _ (λ c t. absurd t)
-      (either None0 (ltb (high % 128) 26) _ _
+  shown-glyph high s h =
+      either Shown (eqb (high / 128 % 2) 0) _ _ (λ c t. absurd t)
+      (either Shown (ltb (high % 128) 26) _ _
       (λ c t.
       let a : ℕ = userCell (high % 128) (s .0) in
-      or-cases (eqb c a) _ t (λ e. omega (arith, eqb→eq c a e, h .from, h .to))
-      (λ u. or-cases (eqb c (a + 1)) _ u (λ e. omega (arith, eqb→eq c (a + 1) e, h .from, h .to)) (λ v. absurd v)))
+      or-cases (eqb c a) _ t (λ e. of-slice (high % 128) c s h (omega (arith, eqb→eq c a e)))
+      (λ u. or-cases (eqb c (a + 1)) _ u (λ e. of-slice (high % 128) c s h (omega (arith, eqb→eq c (a + 1) e))) (λ v. absurd v)))
       (λ c t. absurd t))
 
-  none-codes : (n : ℕ) (s : Slice) (a : ℕ) → OnScreen s → None0 (codes n s a)
+  shown-codes : (n : ℕ) (s : Slice) (a : ℕ) → OnScreen s → Shown (codes n s a)
   unfolding codes cellsAs sameRole among
-  none-codes zero s a h = λ c t. absurd t
-  none-codes (suc n) s a h =
-      either None0 (endsLine (getD ram (even a + 1) 0)) _ _ (λ c t. absurd t)
-      (none-bind (glyphOf (getD ram (even a + 1) 0) s) _ (none-glyph (getD ram (even a + 1) 0) s h)
-      (none-fmap _ (codes n s (next a)) (none-codes n s (next a) h)))
+  shown-codes zero s a h = λ c t. absurd t
+  shown-codes (suc n) s a h =
+      either Shown (endsLine (getD ram (even a + 1) 0)) _ _ (λ c t. absurd t)
+      (shown-bind (glyphOf (getD ram (even a + 1) 0) s) _ (shown-glyph (getD ram (even a + 1) 0) s h)
+      (shown-fmap _ (codes n s (next a)) (shown-codes n s (next a) h)))
 
-  none-row : (n : ℕ) (t : Strip) → OnLine t → None0 (rowOf n t)
+  shown-row : (n : ℕ) (t : Strip) → OnLine t → Shown (rowOf n t)
   unfolding rowOf OnLine
-  none-row n (Spacing left) h = none-done []
-  none-row n (Characters address height zoom enabled line) h =
-      either None0 enabled _ _ (none-codes n (interpolated line height zoom) address (slice-range line height zoom h)) (none-done [])
+  shown-row n (Spacing left) h = shown-done []
+  shown-row n (Characters address height zoom enabled line) h =
+      either Shown enabled _ _ (shown-codes n (interpolated line height zoom) address (slice-range line height zoom h)) (shown-done [])
 
-  pub scan-none : (s : Settings) (w : Walk) → None0 (scan s w)
+  pub scan-shown : (s : Settings) (w : Walk) → Shown (scan s w)
   unfolding scan shownRow
-  scan-none s w =
+  scan-shown s w =
       let n : ℕ = charactersOf (s .ld) (s .dd) in
       let on = gives-value (λ (v : Walk). OnLine (v .strip)) ram (nextLine (s .ch) w) (nextLine-on (s .ch) w) in
-      none-bind (nextLine (s .ch) w) _ (none-walk (s .ch) w)
-      (none-fmap _ _ (either None0 (s .osd) _ _ (none-row n (value ram (nextLine (s .ch) w) .strip) on) (none-done [])))
+      shown-bind (nextLine (s .ch) w) _ (shown-walk (s .ch) w)
+      (shown-fmap _ _ (either Shown (s .osd) _ _ (shown-row n (value ram (nextLine (s .ch) w) .strip) on) (shown-done [])))

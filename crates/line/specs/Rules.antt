@@ -1,7 +1,7 @@
 -- Document 01, "Pixels": how many cells a line reads and which, and how many pixels it has and which.
 -- For every record of registers and every walk, made-up ones too: the walk's next line brings any strip to one of its lines.
 -- Assumes nothing.
-use Prim.Native.Nat.{ℕ, _*_, _%_, _≤_, _<_}
+use Prim.Native.Nat.{ℕ, _*_, _≤_, _<_}
 use mathlib.Core.Path.{_≡_}
 use mathlib.Core.List.{List}
 use lib.Dec.{T}
@@ -10,8 +10,9 @@ use Rattle.limits.specs.Limits.{ramLength, lineCells}
 use Rattle.cells.specs.Reading.{Reading, descriptor, code, slice, cells, cellsAs, among}
 use Rattle.registers.specs.declared.Registers.{Registers}
 use Rattle.registers.specs.Registers.{settingsOf}
-use Rattle.raster.specs.Raster.{widthOf}
+use Rattle.raster.specs.Raster.{OnScreen, widthOf}
 use Rattle.walk.specs.declared.Walk.{Walk}
+use Rattle.glyph.specs.Cells.{userSlice}
 use Rattle.line.specs.Line.{Place, Scanned, scan, paint}
 
 -- what a line reads over a RAM of any length
@@ -26,8 +27,8 @@ pub record FewCells (line : Reading Scanned) (ram : List ℕ) : Type 0 where
   pub most : length (cells ram line) ≤ lineCells
   -- each is a cell of the RAM
   pub below : (c : ℕ) → T (among c (cells ram line)) → c < ramLength
-  -- none is read as slice 0, the first two of a user character's 38 cells (K2)
-  pub no-slice-0 : (c : ℕ) → T (among c (cellsAs slice ram line)) → 2 ≤ c % 38
+  -- each that is read as a slice is of a slice on screen, so never of slice 0 (K2)
+  pub on-screen : (c : ℕ) → T (among c (cellsAs slice ram line)) → OnScreen (userSlice c)
 
 -- the claim: this holds of every line
 abbrev pub MostCells : Type 0

@@ -17,7 +17,7 @@
 //
 // Before a draw every byte of its line buffer is 170, which prints as a dot. A refused frame start prints its refusal, and an event
 // its refusal and byte where they are not both 0.
-// The stored output comes from tests/model.py, which was written from document 01 and not from this code
+// The stored output comes from tests/model.py, which was written from documents 01 and 02 and not from this code
 // (tests/test_frames.py has the script).
 use bus::Event;
 use device::Device;
@@ -171,6 +171,7 @@ fn show_answer(step: Step, i: usize, refusal: u8, value: u16) {
     test_script::print_decimal(value as u64, after(step, i));
 }
 
+// Between two answers, or behind the last; i is below 256, as c is.
 fn after(step: Step, i: usize) -> u8 {
     if i % 256 + 1 < step.c as usize {
         b' '

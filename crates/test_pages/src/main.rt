@@ -16,7 +16,7 @@
 // 15 prints the digests, and begins new ones
 // 16 the next a steps are a list, and the b steps behind them show the state that it leaves: both are played for each order
 //
-// The stored output comes from tests/model.py, which was written from document 01 and not from this code
+// The stored output comes from tests/model.py, which was written from documents 01 and 02 and not from this code
 // (tests/test_pages.py has the script).
 ghost use Prim.Native.Nat.{_<_};
 use bus::Event;

@@ -24,7 +24,8 @@ some c = height-some (c .args .self) (c .args .count) (c .args .height) (c .args
 first-is : (c : tie.After-most)
     → let a = c .before .before .before .before .before .args in c .most .result ≡ firstOf (a .self) (a .height) (a .zoom) (a .slice)
 first-is c =
-    c .most .ensures ∙ ap₂ max (c .before .unzoom .ensures) (ap (λ (x : ℕ). (x * c .before .before .before .before .before .args .height + 35) / 36) (c .before .before .before .starts-at .ensures))
+    let ch : ℕ = c .before .before .before .before .before .args .height in
+    c .most .ensures ∙ ap₂ max (c .before .unzoom .ensures) (ap (λ (x : ℕ). (x * ch + 35) / 36) (c .before .before .before .starts-at .ensures))
 
 starts-at-requires : tie.Need-starts-at-requires
 starts-at-requires c κs = omega (arith, c .before .pre .1)
