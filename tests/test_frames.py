@@ -448,7 +448,7 @@ def tall_letters():
 
 @case
 def tall_letters_over_descriptors_and_codes():
-    # cells 0 to 3 are two descriptors and slices 0 and 1 of user character 0; cells 38 to 41 two codes and slices 0 and 1 of character 1
+    # cells 0 to 3 are two descriptors and slices 0 and 1 of user character 0; cells 38 to 41 two codes and those of character 1
     fill(ram, 0x5A)
     for zy in range(2):
         strip(strip(0, 38, zy=zy), 40, zy=zy)
@@ -536,7 +536,7 @@ def most_reads():
 
 @case
 def user_character_25():
-    # slice 18 lies at cells 986 and 987; slice 1 at 952 and 953, read with CH 37 and 63 in line 1, and slice 0 at 950 and 951, never read
+    # slice 18 lies at cells 986 and 987; slice 1 at 952 and 953, read with CH 37 and 63 in line 1; slice 0 before it, never read
     noise(ram, 14)
     cell(950, 0x55, 0x0A)
     cell(952, 0xCC, 0xF3)

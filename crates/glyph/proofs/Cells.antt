@@ -23,6 +23,14 @@ abbrev pub ofSlice : ℕ → Slice → Bool
 ofSlice c s = sameSlice s (userSlice c) && ofUser c
 
 module _ (c : ℕ) (s : Slice) where
+  -- the two cells of a user character's slice belong to that character and to that slice
+  pub belongs : (number : ℕ) → InCharacter s → c / 2 * 2 ≡ userCell number (s .0) → (c / 38 ≡ number) × (userSlice c .0 ≡ s .0)
+  unfolding userSlice
+  belongs number k e =
+      let d : c / 38 ≡ number = omega arith in
+      let m : c % 38 ≡ c - 38 * number = omega arith in
+      (d, omega arith)
+
   -- what a user character's slice reads
   user-reads : (number : ℕ) → number < 26 → InCharacter s → eqb (c / 2 * 2) (userCell number (s .0)) ≡ ofSlice c s && eqb (128 + number) (userHigh c)
   unfolding userSlice
@@ -30,8 +38,7 @@ module _ (c : ℕ) (s : Slice) where
       iff (eqb (c / 2 * 2) (userCell number (s .0))) (ofSlice c s && eqb (128 + number) (userHigh c))
       (λ t.
       let e : c / 2 * 2 ≡ userCell number (s .0) = eqb-yes t in
-      let d : c / 38 ≡ number = omega arith in
-      let m : c % 38 ≡ c - 38 * number = omega arith in
+      let (d, m) = belongs number k e in
       yes-and (ofSlice c s) (eqb (128 + number) (userHigh c))
       (yes-and (sameSlice s (userSlice c)) (ofUser c) (yes-eqb {a = s .0} {b = c % 38 / 2} (omega arith)) (lt→ltb c 988 (omega arith)))
       (yes-eqb {a = 128 + number} {b = userHigh c} (omega arith)))

@@ -1,16 +1,16 @@
 -- What a line reads as slices is of slices on screen, 1 to 18 of user characters.
 -- Assumes nothing.
-use Prim.Native.Nat.{ℕ, zero, suc, _+_, _-_, _*_, _/_, _%_}
+use Prim.Native.Nat.{ℕ, zero, suc, _+_, _*_, _/_, _%_}
 use mathlib.Core.Path.{_≡_, ap, _∙_, subst}
 use mathlib.Core.List.{List, []}
 use native.Mathlib.Omega.{arith}
 use lib.Dec.{T, eqb, ltb, eqb→eq}
 use lib.ListN.{getD}
 use Rattle.facts.proofs.Choice.{either}
+use Rattle.facts.proofs.Pairs.{pair-is}
 use Rattle.facts.proofs.Tests.{or-cases}
 use Rattle.cells.specs.Reading.{slice, Reading, done, bind, fmap, value, sameRole, cellsAs, among}
 use Rattle.cells.proofs.Laws.{among-append}
-use Rattle.cells.proofs.Bounds.{gives-value}
 use Rattle.cells.proofs.Roles.{cellsAs-bind, cellsAs-fmap}
 use Rattle.registers.specs.declared.Settings.{Settings}
 use Rattle.raster.specs.declared.Slice.{Slice}
@@ -20,18 +20,17 @@ use Rattle.walk.specs.declared.Strip.{Strip}
 use Rattle.walk.specs.declared.Strip.the-variants.{Spacing, Characters}
 use Rattle.walk.specs.declared.Walk.{Walk}
 use Rattle.walk.specs.Walk.{even, next, over, begun, nextLine, OnLine}
-use Rattle.walk.proofs.Laws.{nextLine-on}
 use Rattle.glyph.specs.Glyph.{endsLine, userCell, glyphOf, inRam}
 use Rattle.glyph.specs.Cells.{userSlice}
+use Rattle.glyph.proofs.Cells.{belongs}
 use Rattle.line.specs.Line.{codes, rowOf, shownRow, scan}
+use Rattle.line.proofs.Strips.{walked-line}
 
--- the two cells of a user character's slice are of that slice
+-- the two cells of a slice on screen
 of-slice : (number c : ℕ) (s : Slice) → OnScreen s → c / 2 * 2 ≡ userCell number (s .0) → OnScreen (userSlice c)
-unfolding userSlice
 of-slice number c s h e =
-    let d : c / 38 ≡ number = omega (arith, h .to) in
-    let m : c % 38 ≡ c - 38 * number = omega arith in
-    record { from = omega (arith, h .from); to = omega (arith, h .to) }
+    let m = belongs c s number (h .to) e .1 in
+    record { from = omega (arith, m, h .from); to = omega (arith, m, h .to) }
 
 module _ (ram : List ℕ) where
   -- each cell that is read as a slice is of a slice on screen
@@ -61,8 +60,7 @@ module _ (ram : List ℕ) where
       (either Shown (ltb (high % 128) 26) _ _
       (λ c t.
       let a : ℕ = userCell (high % 128) (s .0) in
-      or-cases (eqb c a) _ t (λ e. of-slice (high % 128) c s h (omega (arith, eqb→eq c a e)))
-      (λ u. or-cases (eqb c (a + 1)) _ u (λ e. of-slice (high % 128) c s h (omega (arith, eqb→eq c (a + 1) e))) (λ v. absurd v)))
+      of-slice (high % 128) c s h (eqb→eq (c / 2 * 2) a (subst T (pair-is c a (omega arith)) t)))
       (λ c t. absurd t))
 
   shown-codes : (n : ℕ) (s : Slice) (a : ℕ) → OnScreen s → Shown (codes n s a)
@@ -83,6 +81,5 @@ module _ (ram : List ℕ) where
   unfolding scan shownRow
   scan-shown s w =
       let n : ℕ = charactersOf (s .ld) (s .dd) in
-      let on = gives-value (λ (v : Walk). OnLine (v .strip)) ram (nextLine (s .ch) w) (nextLine-on (s .ch) w) in
       shown-bind (nextLine (s .ch) w) _ (shown-walk (s .ch) w)
-      (shown-fmap _ _ (either Shown (s .osd) _ _ (shown-row n (value ram (nextLine (s .ch) w) .strip) on) (shown-done [])))
+      (shown-fmap _ _ (either Shown (s .osd) _ _ (shown-row n (value ram (nextLine (s .ch) w) .strip) (walked-line ram (s .ch) w)) (shown-done [])))

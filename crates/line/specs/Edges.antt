@@ -1,4 +1,4 @@
--- Document 01, "Edges to test": the rows marked P, one table under one claim. The slices for (37,1) and (63,1) are those of request K2.
+-- Document 01, "Edges to test": the rows marked P, one table under one claim. The slices for (37,1) and (63,1) are request K2's.
 -- Assumes nothing.
 use Prim.Native.Nat.{ℕ, _+_, _*_, _≤_}
 use mathlib.Core.Path.{_≡_}

@@ -1,5 +1,5 @@
--- Document 01, "From line to slice", as request K2 mends it, with the lines of a character strip of "Walk of a frame", and of "Pixels"
--- the width, the first pixel and the hidden time.
+-- Document 01, "From line to slice", as request K2 mends it, with the lines of a character strip of "Walk of a frame", and of
+-- "Pixels" the width, the first pixel and the hidden time.
 -- Assumes nothing.
 use Prim.Native.Nat.{ℕ, zero, suc, _+_, _-_, _*_, _/_, _≤_, _<_, max}
 use mathlib.Core.Bool.{Bool, false, cond}

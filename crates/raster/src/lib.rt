@@ -87,8 +87,8 @@ impl ScanLine {
         rest(strip_lines(height, zoom), self.0)
     }
 
-    // The slice that this line of a strip of characters shows. What rounds to 0 is taken as 1, so that a
-    // tall letter has its top line.
+    // The slice that this line of a strip of characters shows. What rounds to 0 is taken as 1, so that a tall letter has its top
+    // line.
     pub fn slice(self, height: u8, zoom: bool) -> Slice
         requires { ⌜ InStrip self height zoom ⌝ }
         ensures { λ r. ⌜ r ≡ interpolated self height zoom ⌝ }
