@@ -345,6 +345,18 @@ impl Noise {
         ram
     }
 
+    /// A device record of noise, mostly in a bus state that there is; in one
+    /// round of three the address counter is at a register.
+    fn record(&mut self, round: usize) -> [u8; DEVICE_LEN] {
+        let mut bytes = [0; DEVICE_LEN];
+        bytes.fill_with(|| self.byte());
+        bytes[0] %= 9;
+        if round % 3 == 0 {
+            (bytes[2], bytes[3]) = (0xF0 | bytes[2], 0xFF);
+        }
+        bytes
+    }
+
     fn register(&mut self, number: u16) -> u8 {
         match (number, self.below(4)) {
             (1, 0..3) => self.below(40) as u8,
@@ -596,13 +608,7 @@ fn same_as_the_slow_model() {
 fn any_bytes_make_a_device() {
     let mut noise = Noise(0x1234_5678_9ABC_DEF1);
     for round in 0..40_000 {
-        let mut bytes = [0; DEVICE_LEN];
-        bytes.fill_with(|| noise.byte());
-        bytes[0] %= 9;
-        if round % 3 == 0 {
-            bytes[3] |= 0xFF;
-            bytes[2] |= 0xF0;
-        }
+        let mut bytes = noise.record(round);
         let mut device = Device::from_bytes(&bytes);
         assert_eq!(Device::from_bytes(&device.to_bytes()), device);
         let mut ram = noise.ram();
@@ -852,12 +858,7 @@ fn any_bytes_make_a_feed() {
 fn same_as_bus_events() {
     let mut noise = Noise(0x0123_4567_89AB_CDEF);
     for round in 0..20_000 {
-        let mut record = [0; DEVICE_LEN];
-        record.fill_with(|| noise.byte());
-        record[0] %= 9;
-        if round % 3 == 0 {
-            (record[2], record[3]) = (0xF0 | record[2], 0xFF);
-        }
+        let mut record = noise.record(round);
         // Mostly runs of one kind, as transfers have them.
         let mut kind = 0;
         let mut capture = vec![];
