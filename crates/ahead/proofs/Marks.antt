@@ -5,14 +5,14 @@ use mathlib.Core.Path.{_≡_, refl, sym, ap, ap₂, _∙_, subst}
 use mathlib.Core.Bool.{Bool, true, false, cond, _&&_, _||_, true≢false}
 use mathlib.Core.List.{List}
 use native.Mathlib.Decide.{decLt, ℕ-discrete}
-use native.Mathlib.Nat.{not-suc-le-zero, le-of-suc-le-suc, lt-of-not-le, pow-suc, mod-eq-of-lt, mod-add-mod}
+use native.Mathlib.Nat.{not-suc-le-zero, le-of-suc-le-suc, lt-of-not-le, pow-suc, mod-eq-of-lt, mod-add-mod, div-add-mod'}
 use native.Mathlib.Numerals.{add-one, sub-one}
 use native.Mathlib.Omega.{arith}
 use lib.Bits.{bitOr, or-step, or-shr, or-mod, or-lt, or-zero-r, shifted-half, shifted-even}
 use lib.Arith.{lt-one}
 use lib.Dec.{T, eqb}
 use lib.ListN.{getD, set, length-set, replicate, length-replicate, getD-replicate}
-use lib.Pow.{pow-pos, mod-pow-add, shl-exact, shr-shr}
+use lib.Pow.{mod-pow-add, shl-exact, shr-shr}
 use lib.Seq.{getD-set-same}
 use mir.Facts.{and-yes}
 use Rattle.facts.proofs.Lists.{set-at}
@@ -79,14 +79,15 @@ low-zeros (suc h) x e j l = by j l (sym (mod-pow-add x h 1) ∙ ap (λ (k : ℕ)
     by zero l f ih = omega arith
     by (suc j) l f ih = ih (omega arith) j (le-of-suc-le-suc l)
 
-module _ (low : Passed) (h : ℕ) (small : h ≤ 16) where
-  power : 1 * 2 ^ h % 2 ^ 32 ≡ 2 ^ h
-  power = shl-exact 1 h 32 (omega arith) (omega arith) ∙ omega arith
+module _ (low : Passed) (h : ℕ) (fits : low .rest < 2 ^ 32) where
+  -- shifted there and back, the word has lost its lowest h digits
+  there-and-back : low .rest / 2 ^ h * 2 ^ h % 2 ^ 32 + low .rest % 2 ^ h ≡ low .rest
+  there-and-back =
+      let e = div-add-mod' (low .rest) (2 ^ h) in
+      let l : low .rest / 2 ^ h * 2 ^ h < 2 ^ 32 = omega (arith, e) in
+      ap (λ (k : ℕ). k + low .rest % 2 ^ h) (mod-eq-of-lt l) ∙ e
 
-  pub power-some : 0 < 1 * 2 ^ h % 2 ^ 32
-  power-some = omega (arith, power, pow-pos h)
-
-  pub zeros-passed : low .rest % (1 * 2 ^ h % 2 ^ 32) ≡ 0 → (x : ℕ) → ZerosOf x (h + h) low
+  pub zeros-passed : low .rest / 2 ^ h * 2 ^ h % 2 ^ 32 ≡ low .rest → (x : ℕ) → ZerosOf x (h + h) low
       → ZerosOf x h (record { zeros = low .zeros + h; rest = low .rest / 2 ^ h })
   zeros-passed e x z =
       record {
@@ -98,7 +99,7 @@ module _ (low : Passed) (h : ℕ) (small : h ≤ 16) where
       }
     where
       none : low .rest % 2 ^ h ≡ 0
-      none = ap (λ (k : ℕ). low .rest % k) (sym power) ∙ e
+      none = omega (arith, there-and-back, e)
 
       by : (j : ℕ) → j < low .zeros + h → Dec (j < low .zeros) → digit j x ≡ 0
       by j l (yes k) = z .zeros j k
@@ -106,8 +107,8 @@ module _ (low : Passed) (h : ℕ) (small : h ≤ 16) where
           let f : j ≡ low .zeros + (j - low .zeros) = omega arith in
           ap (λ (i : ℕ). digit i x) f ∙ sym (z .after (j - low .zeros)) ∙ low-zeros h (low .rest) none (j - low .zeros) (omega arith)
 
-  pub zeros-stay : (low .rest % (1 * 2 ^ h % 2 ^ 32) ≡ 0 → ⊥) → (x : ℕ) → ZerosOf x (h + h) low → ZerosOf x h low
-  zeros-stay e x z = record { zeros = z .zeros; after = z .after; some = λ f. e (ap (λ (k : ℕ). low .rest % k) power ∙ f) }
+  pub zeros-stay : (low .rest / 2 ^ h * 2 ^ h % 2 ^ 32 ≡ low .rest → ⊥) → (x : ℕ) → ZerosOf x (h + h) low → ZerosOf x h low
+  zeros-stay e x z = record { zeros = z .zeros; after = z .after; some = λ f. e (omega (arith, there-and-back, f)) }
 
 pub no-zeros : (x : ℕ) → x < 2 ^ 32 → (x ≡ 0 → ⊥) → ZerosOf x 32 (record { zeros = 0; rest = x })
 no-zeros x l e =

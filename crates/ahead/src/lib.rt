@@ -268,10 +268,11 @@ fn pass_zeros(low: Passed, h: u32) -> Passed
     requires { ⌜ (low .zeros ≤ 32) × (h ≤ 16) ⌝ }
     ensures { λ r. ⌜ (r .zeros ≤ low .zeros + h) × ((x : ℕ) → ZerosOf x (h + h) low → ZerosOf x h r) ⌝ }
 {
-    if low.rest % (1 << h) == 0 {
+    let rest = low.rest >> h;
+    if rest << h == low.rest {
         return Passed {
             zeros: low.zeros + h as usize,
-            rest: low.rest >> h,
+            rest: rest,
         };
     }
     low
