@@ -92,7 +92,7 @@ between true k j n h l m = by (decLe (2 * n) (j + k))
     by (no q) = record { by = k; from = h; to = omega arith; is = omega arith }
 between false k j n h l m = record { by = n - j; from = omega arith; to = omega arith; is = omega arith }
 
-rising : (zoom : Bool) (j a b : ℕ) → a ≤ b → unzoomed zoom (j + a) ≤ unzoomed zoom (j + b)
+pub rising : (zoom : Bool) (j a b : ℕ) → a ≤ b → unzoomed zoom (j + a) ≤ unzoomed zoom (j + b)
 rising true j a b h = omega arith
 rising false j a b h = omega arith
 
@@ -161,14 +161,6 @@ start-bound u ch l h = mul-le-mul {n₁ = cond (ltb u 2) 0 (2 * u - 1)} {m₁ = 
     most = either (λ (x : ℕ). x ≤ 37) (ltb u 2) 0 (2 * u - 1) (omega arith) (omega arith)
 
 module _ (j : ScanLine) (k ch : ℕ) (zoom : Bool) (some : 1 ≤ k) (in-strip : k ≤ linesAfter j ch zoom) where
-  pub lines-bound : ch < 256 → j .0 + k ≤ 510
-  unfolding linesAfter
-  lines-bound h = by zoom in-strip
-    where
-      by : (z : Bool) → k ≤ stripLines ch z - j .0 → j .0 + k ≤ 510
-      by true l = omega arith
-      by false l = omega arith
-
   pub last-bound : unzoomed zoom (j .0 + k) ≤ ch
   unfolding linesAfter
   last-bound = by zoom in-strip

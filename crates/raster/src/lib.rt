@@ -1,6 +1,6 @@
 // The geometry of a line: which slice a scan line shows, how wide a line is, where its characters start, and what flashes.
 ghost use mathlib.Core.Path.{_≡_};
-ghost use Prim.Native.Nat.{_-_, _≤_, max};
+ghost use Prim.Native.Nat.{_-_, _*_, _/_, _≤_, _<_, max};
 ghost use Rattle.raster.specs.Raster.{stripLines, beforeFirst, following, InStrip, isLast, linesAfter, HasNext, InCharacter, unzoomed, interpolated, widthOf, firstPixelOf, charactersOf, hiddenIn};
 ghost use Rattle.raster.specs.Search.{sliceShown, startsAt};
 
@@ -26,8 +26,56 @@ fn most(a: u16, b: u16) -> u16
     if a < b { b } else { a }
 }
 
+// How many whole steps go into a number: fewer than 4, 8, 16 or 18. By comparing and adding doubled steps, as the module's processor
+// divides slowly. A step is 2 CH, 510 at the most.
+fn steps_below_4(number: u32, step: u32) -> u32
+    requires { ⌜ (number < 4 * step) × (step ≤ 510) ⌝ }
+    ensures { λ r. ⌜ r ≡ number / step ⌝ }
+{
+    let mut left = number;
+    let mut steps = 0;
+    if 2 * step <= left {
+        left -= 2 * step;
+        steps = 2;
+    }
+    if step <= left {
+        return steps + 1;
+    }
+    steps
+}
+
+fn steps_below_8(number: u32, step: u32) -> u32
+    requires { ⌜ (number < 8 * step) × (step ≤ 510) ⌝ }
+    ensures { λ r. ⌜ r ≡ number / step ⌝ }
+{
+    if 4 * step <= number {
+        return steps_below_4(number - 4 * step, step) + 4;
+    }
+    steps_below_4(number, step)
+}
+
+fn steps_below_16(number: u32, step: u32) -> u32
+    requires { ⌜ (number < 16 * step) × (step ≤ 510) ⌝ }
+    ensures { λ r. ⌜ r ≡ number / step ⌝ }
+{
+    if 8 * step <= number {
+        return steps_below_8(number - 8 * step, step) + 8;
+    }
+    steps_below_8(number, step)
+}
+
+fn steps_below_18(number: u32, step: u32) -> u32
+    requires { ⌜ (number < 18 * step) × (step ≤ 510) ⌝ }
+    ensures { λ r. ⌜ r ≡ number / step ⌝ }
+{
+    if 16 * step <= number {
+        return steps_below_4(number - 16 * step, step) + 16;
+    }
+    steps_below_16(number, step)
+}
+
 // The line counted without zoom: half of it, rounded up.
-fn unzoom(line: u16, zoom: bool) -> u16
+fn unzoom(line: u32, zoom: bool) -> u32
     ensures { λ r. ⌜ r ≡ unzoomed zoom line ⌝ }
 {
     if zoom {
@@ -87,19 +135,22 @@ impl ScanLine {
         rest(strip_lines(height, zoom), self.0)
     }
 
-    // The slice that this line of a strip of characters shows. What rounds to 0 is taken as 1, so that a tall letter has its top
-    // line.
+    // The slice that this line of a strip of characters shows. Steps of 2 CH are counted from where 36 n is CH; there and before it the
+    // slice is 1, so that a tall letter has its top line.
     pub fn slice(self, height: u8, zoom: bool) -> Slice
         requires { ⌜ InStrip self height zoom ⌝ }
         ensures { λ r. ⌜ r ≡ interpolated self height zoom ⌝ }
     {
-        let n = unzoom(self.0, zoom);
-        let ch = height as u16;
-        Slice(most(1, (36 * n + ch) / (2 * ch)) as u8)
+        let n = unzoom(self.0 as u32, zoom);
+        let ch = height as u32;
+        if 36 * n < ch {
+            return Slice(1);
+        }
+        Slice((steps_below_18(36 * n - ch, 2 * ch) + 1) as u8)
     }
 
     // Does one of the next lines of the strip, so many, show a slice? The lines that show a slice are neighbours, so the first that
-    // could is looked at.
+    // could is looked at. The division by 36 is of 16 bits: one of 32 would be a function of the run-time library on a Cortex-M0.
     pub fn shows(self, count: u16, height: u8, zoom: bool, slice: Slice) -> bool
         requires { ⌜ (1 ≤ count) × (count ≤ linesAfter self height zoom) ⌝ }
         requires { ⌜ InCharacter slice ⌝ }
@@ -108,8 +159,10 @@ impl ScanLine {
         let s = slice.0 as u16;
         let ch = height as u16;
         let first = (starts_at(s) * ch + 35) / 36;
-        let n = most(unzoom(self.0 + 1, zoom), first);
-        if unzoom(self.0 + count, zoom) < n {
+        let line = self.0 as u32;
+        let n = most(unzoom(line + 1, zoom) as u16, first);
+        let last = unzoom(line + count as u32, zoom) as u16;
+        if last < n {
             return false;
         }
         36 * n < starts_at(s + 1) * ch

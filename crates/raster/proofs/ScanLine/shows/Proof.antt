@@ -5,20 +5,22 @@ use mathlib.Core.Path.{_≡_, ap, ap₂, _∙_}
 use native.Mathlib.Omega.{arith}
 use Rattle.raster.specs.Raster.{unzoomed}
 use Rattle.raster.specs.Search.{startsAt}
-use Rattle.raster.proofs.Slices.{firstOf, shown-past, shown-first, start-bound, lines-bound, last-bound, height-some}
+use Rattle.raster.proofs.Slices.{rising, firstOf, shown-past, shown-first, start-bound, last-bound, height-some}
 use borrow.Author.Needs.{needs}
 use Rattle.raster.proofs.ScanLine.shows.Statement.{statement}
 use Rattle.raster.proofs.ScanLine.shows.Tie as tie
 
 -- what holds of the lines from the start
-bound : (c : tie.Start) → c .args .self .0 + c .args .count ≤ 510
-bound c = lines-bound (c .args .self) (c .args .count) (c .args .height) (c .args .zoom) (c .pre .0 .0) (c .pre .0 .1) (search needs)
-
 last : (c : tie.Start) → unzoomed (c .args .zoom) (c .args .self .0 + c .args .count) ≤ c .args .height
 last c = last-bound (c .args .self) (c .args .count) (c .args .height) (c .args .zoom) (c .pre .0 .0) (c .pre .0 .1)
 
 some : (c : tie.Start) → 0 < c .args .height
 some c = height-some (c .args .self) (c .args .count) (c .args .height) (c .args .zoom) (c .pre .0 .0) (c .pre .0 .1)
+
+-- the first of the lines is not after the last
+first-last : (c : tie.Start)
+    → unzoomed (c .args .zoom) (c .args .self .0 + 1) ≤ unzoomed (c .args .zoom) (c .args .self .0 + c .args .count)
+first-last c = rising (c .args .zoom) (c .args .self .0) 1 (c .args .count) (c .pre .0 .0)
 
 -- the line that is looked at
 first-is : (c : tie.After-most)
@@ -43,34 +45,33 @@ mul-first c = rw (c .starts-at .ensures) (omega (arith, start (c .before .before
 add-first : tie.Need-add-first
 add-first c = rw (c .starts-at .ensures) (omega (arith, start (c .before .before)))
 
-add-unzoom : tie.Need-add-unzoom
-add-unzoom c = let s = c .before .before .before in omega (arith, s .pre .0 .0, bound s)
+cast-most : tie.Need-cast-most
+cast-most c = let s = c .before .before .before .before in omega (arith, c .unzoom .ensures, first-last s, last s)
 
-add-unzoom-2 : tie.Need-add-unzoom-2
-add-unzoom-2 c = omega (arith, bound (c .before .before .before .before .before .before))
+cast-last : tie.Need-cast-last
+cast-last c = omega (arith, c .unzoom2 .ensures, last (c .before .before .before .before .before .before))
 
 returns : tie.Need-returns
 returns c =
-    let s = c .before .before .before .before .before .before .before .before in
+    let s = c .before .before .before .before .before .before .before in
     shown-past (s .args .self) (s .args .count) (s .args .height) (s .args .zoom) (s .args .slice) (some s) (s .pre .0 .0)
-    (rw (c .before .unzoom2 .ensures, first-is (c .before .before .before)) at (c .if1 .taken))
+    (rw (c .before .unzoom2 .ensures, first-is (c .before .before)) at (c .if1 .taken))
 
 mul-result : tie.Need-mul-result
-mul-result c = omega (arith, c .before .unzoom2 .ensures, last (c .before .before .before .before .before .before .before .before))
+mul-result c = omega (arith, c .before .unzoom2 .ensures, last (c .before .before .before .before .before .before .before))
 
 starts-at-requires-2 : tie.Need-starts-at-requires-2
-starts-at-requires-2 c κs = omega (arith, c .before .before .before .before .before .before .before .before .pre .1)
+starts-at-requires-2 c κs = omega (arith, c .before .before .before .before .before .before .before .pre .1)
 
 mul-result-2 : tie.Need-mul-result-2
-mul-result-2 c =
-    rw (c .starts-at2 .ensures) (omega (arith, next-start (c .before .before .before .before .before .before .before .before .before)))
+mul-result-2 c = rw (c .starts-at2 .ensures) (omega (arith, next-start (c .before .before .before .before .before .before .before .before)))
 
 returns-2 : tie.Need-returns-2
 returns-2 c =
-    let s = c .before .before .before .before .before .before .before .before .before in
-    rw (first-is (c .before .before .before .before), c .starts-at2 .ensures)
+    let s = c .before .before .before .before .before .before .before .before in
+    rw (first-is (c .before .before .before), c .starts-at2 .ensures)
     (shown-first (s .args .self) (s .args .count) (s .args .height) (s .args .zoom) (s .args .slice) (some s) (s .pre .0 .0)
-    (rw (c .before .before .unzoom2 .ensures, first-is (c .before .before .before .before)) at (c .before .if1 .left)))
+    (rw (c .before .before .unzoom2 .ensures, first-is (c .before .before .before)) at (c .before .if1 .left)))
 
 pub shows-spec : {M : Type 1} → statement M
 shows-spec =
@@ -80,11 +81,14 @@ shows-spec =
     starts-at-requires
     mul-first
     add-first
-    add-unzoom
+    (λ c. search needs)
+    (λ c. search needs)
     (λ c κs. search needs)
+    cast-most
     (λ c κs. search needs)
-    add-unzoom-2
+    (λ c. search needs)
     (λ c κs. search needs)
+    cast-last
     returns
     mul-result
     (λ c. search needs)
