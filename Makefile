@@ -8,7 +8,7 @@ MANIFEST = --quiet --offline --manifest-path compare/Cargo.toml
 STORED = test_bus test_feed test_frames test_pages test_bench demo door_monitor
 INTO = .
 
-.PHONY: demo claims stored stored-check library example model comparison speed ports port-known ports-refusals ports-test
+.PHONY: demo claims stored stored-check library divisions example model comparison speed ports port-known ports-refusals ports-test
 
 # the picture: proves, builds and runs it, and shows it as text
 demo:
@@ -25,6 +25,10 @@ claims:
 # proves osd and all below it, and writes target/staticlib/libosd.a (rt staticlib osd); its module is kept for the ports
 library:
 	ports/library
+
+# the library does not divide; a port that does is refused as it is built
+divisions: library
+	ports/divisions target/staticlib/libosd.a
 
 # the library for ARM, RISC-V and WebAssembly, under target/ports/ (docs/PORTS.md); PORT names one, before anything is proved
 ports: port-known library

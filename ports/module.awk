@@ -12,7 +12,7 @@ BEGIN {
     known("alloca load store getelementptr call br switch ret unreachable phi select icmp zext sext trunc freeze", opcode)
     known("add sub mul udiv urem sdiv srem and or xor shl lshr ashr", opcode)
     known("i1 i8 i16 i32 i64", number)
-    known("memmove memcpy memset trap", intrinsic)
+    known("memmove memcpy memset", intrinsic)
     known("umin umax smin smax abs ctlz cttz ctpop bswap fshl fshr usub.sat uadd.sat ssub.sat sadd.sat", intrinsic)
 }
 
