@@ -5,8 +5,8 @@
  * hands out each scan line's red, green, blue and fast blanking. Every function is proved to end and to stay within the buffers
  * that you lend it, for any bytes in them.
  *
- * It allocates nothing and keeps no state outside these buffers. It needs memset from your C library, and __aeabi_uidiv from the
- * compiler's run-time where an ARM has no division (thumbv6m, armv7a); nothing else. Where there is no C library, three lines do:
+ * It allocates nothing and keeps no state outside these buffers. It needs memset from your C library and nothing else: no division
+ * function, even on a processor without division. Where there is no C library, three lines do:
  *
  *     void *memset(void *to, int byte, size_t n) {
  *         for (volatile uint8_t *p = to; n > 0; n--) *p++ = (uint8_t)byte;   // volatile: else a compiler may put in a memset for it
