@@ -27,7 +27,8 @@ use Rattle.walk.specs.Walk.{even, next, stripOf, over, linesLeft, begun, advanc
 use Rattle.walk.proofs.Laws.{left-over, none-over, left-advanced, stripOf-begun}
 use Rattle.glyph.specs.Cells.{ofUser, userSlice}
 use Rattle.glyph.proofs.Cells.{ofSlice}
-use Rattle.line.specs.Line.{Place, Scanned, codes, rowOf, shownRow, scan}
+use Rattle.glyph.specs.Glyph.{Glyph}
+use Rattle.line.specs.Line.{Place, Scanned, codes, rowBy, shownBy, shownRow, scanBy, scan}
 use Rattle.line.proofs.Strips.{scan-value, scan-cells}
 use Rattle.ahead.specs.Ahead.{remaining}
 use Rattle.ahead.specs.Looking.{rowReads, userShown, rowCells, stripReads, pairOf, codesAtMost}
@@ -41,7 +42,7 @@ hasRow (Spacing left) = false
 hasRow (Characters address height zoom enabled line) = enabled
 
 row-none : (s : Settings) (t : Strip) → hasRow t ≡ false → shownRow s t ≡ done []
-unfolding shownRow rowOf hasRow
+unfolding shownBy rowBy hasRow
 row-none s (Spacing left) e = cond-same (s .osd) (done [])
 row-none s (Characters address height zoom enabled line) e = rw e (cond-same (s .osd) (done []))
 
@@ -55,14 +56,14 @@ unfolding rowCells cells
 rows-none ram s zero t e = refl
 rows-none ram s (suc k) t e =
     let f = still-none t ∙ e in
-    ap₂ (λ (p : Reading (List Place)) (l : List ℕ). cells ram p ++ l) (row-none s (advanced t) f) (rows-none ram s k (advanced t) f)
+    ap₂ (λ (p : Reading (List (Place Glyph))) (l : List ℕ). cells ram p ++ l) (row-none s (advanced t) f) (rows-none ram s k (advanced t) f)
 
 -- the row of one line of characters
 line-reads : (ram : List ℕ) (s : Settings) (address height : ℕ) (zoom : Bool) (line : ScanLine) (c : ℕ) → Bytes ram
     → 1 ≤ linesAfter line height zoom
     → among c (cells ram (shownRow s (advanced (Characters address height zoom true line))))
     ≡ rowReads ram c (ofSlice c (interpolated (following line) height zoom)) (codesAtMost s) address
-unfolding shownRow advanced rowOf rowReads cells among
+unfolding shownBy advanced rowBy rowReads cells among
 line-reads ram s address height zoom line c b h = by (s .osd)
   where
     n : ℕ
@@ -158,7 +159,7 @@ line-first ram s n w e =
     cells-bind ram (scan s w) _
     ∙ ap₂ (λ (l : List ℕ) (v : Walk). l ++ cells ram (remaining s n v))
     (scan-cells ram s w ∙ ap (λ (p : Reading Walk). cells ram p ++ cells ram (shownRow s (value ram p .strip))) e)
-    (ap (λ (x : Scanned). x .walk) (scan-value ram s w) ∙ ap (value ram) e)
+    (ap (λ (x : Scanned Glyph). x .walk) (scan-value ram s w) ∙ ap (value ram) e)
 
 -- a strip that has one left
 line-on : (ram : List ℕ) (s : Settings) (n a : ℕ) (t : Strip) → over t ≡ false
@@ -191,7 +192,7 @@ lines-on (suc k) ram s (suc n) a t h l =
 
 -- any strip that is over stands for any other, and any address of a descriptor for its even one
 same-scan : (s : Settings) (a b : ℕ) (t : Strip) → over t ≡ true → even a ≡ even b → scan s (at a t) ≡ scan s (at b (Spacing 0))
-unfolding scan over
+unfolding scanBy over
 same-scan s a b t e f =
     ap (λ (p : Reading Walk). bind p λ v. fmap (λ row. record { walk = v; row = row }) (shownRow s (v .strip)))
     (step-read (s .ch) (at a t) e
@@ -203,7 +204,7 @@ over-same : (ram : List ℕ) (s : Settings) (n a b : ℕ) (t : Strip) → (1 ≤
     → cells ram (remaining s n (at a t)) ≡ cells ram (remaining s n (at b (Spacing 0)))
 unfolding remaining cells
 over-same ram s zero a b t e f = refl
-over-same ram s (suc n) a b t e f = ap (λ (p : Reading Scanned). cells ram (bind p λ x. remaining s n (x .walk))) (same-scan s a b t (e (omega arith)) f)
+over-same ram s (suc n) a b t e f = ap (λ (p : Reading (Scanned Glyph)). cells ram (bind p λ x. remaining s n (x .walk))) (same-scan s a b t (e (omega arith)) f)
 
 -- ---- strip by strip
 

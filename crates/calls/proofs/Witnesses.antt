@@ -18,7 +18,7 @@ use Rattle.bus.specs.Bus.{step, ramWith, registersWith, answerTo, taken, busEve
 use Rattle.walk.specs.Walk.{walkFrom, stripOf, over, begun, advanced, nextLine}
 use Rattle.glyph.specs.Glyph.{glyphOf, inRam, bitsOf}
 use Rattle.paint.specs.Pixels.{inkOf, columns, twelveColumns}
-use Rattle.line.specs.Line.{codes, rowOf, shownRow, scan, character, painted, paint}
+use Rattle.line.specs.Line.{codesBy, rowBy, shownBy, scanBy, character, painted, paint}
 use Rattle.ahead.specs.Ahead.{remaining}
 use Rattle.device.specs.Device.{freshDevice, hearEvent, startFrame, inFrame, pixelsOf, lineOn, lineDrawn, drawVerdict, drawBy, drawLine, cellsLeft, askCell, remainingOf}
 use Rattle.capture.specs.Capture.{finished, feedAfter, outputs, feedVerdict, chunkFed, feedBy, eventsBy, feedChunk}
@@ -144,8 +144,8 @@ pixelIn i (x ∷ xs) = pixelOf i (x .answer)
 pixelTest : ℕ → State → List Call → Bool
 unfolding addressing write font heard started traffic picture buffer turning refusalOf firstLine but ready alikeTest sameTest eventTest
     runTest quietTest pixelOf pixelIn answer after isEvent Stores freshDevice hearEvent startFrame inFrame pixelsOf lineOn lineDrawn drawVerdict drawBy drawLine
-    cellsLeft askCell log end select step ramWith registersWith answerTo taken busEvent settingsOf remaining scan nextLine walkFrom
-    over begun advanced stripOf rowOf shownRow codes glyphOf inRam bind fmap value cells cellsAs sameRole among beforeFirst following isLast
+    cellsLeft askCell log end select step ramWith registersWith answerTo taken busEvent settingsOf remaining scanBy nextLine walkFrom
+    over begun advanced stripOf rowBy shownBy codesBy glyphOf inRam bind fmap value cells cellsAs sameRole among beforeFirst following isLast
     interpolated sliceNumber paint painted character twelveColumns inkOf columns bitsOf
     finished feedAfter outputs feedVerdict chunkFed feedBy eventsBy feedChunk
 pixelTest i s cs =

@@ -1,63 +1,71 @@
--- What a reading program can do over any RAM: the answers that it can give, and the cells that it can read.
+-- What a reading program can do over any RAM: the cells that it can read, and what as, and the answers that it can give.
 -- Assumes nothing.
-use Prim.Native.Nat.{ℕ, _<_}
-use mathlib.Core.Path.{sym, subst}
-use mathlib.Core.List.{List}
+use Prim.Native.Nat.{ℕ}
+use mathlib.Core.Path.{_≡_, refl, sym, subst, subst₂}
+use mathlib.Core.Bool.{Bool, true, false, cond, false≢true}
+use mathlib.Core.List.{List, _∷_}
 use lib.Dec.{T, eqb, eqb→eq}
 use lib.ListN.{getD}
 use Rattle.facts.proofs.Tests.{or-cases}
-use Rattle.cells.specs.Reading.{Reading, done, read, bind, fmap, value, cells, among}
+use Rattle.cells.specs.Reading.{Role, descriptor, code, slice, sameRole, Reading, done, read, bind, fmap, value, cells, cellsAs, among}
 
--- every answer has P
-unfoldable pub Gives : {A : Type 0} → (A → Type 0) → Reading A → Type 0
-Gives P (done a) = P a
-Gives P (read r c k) = (x : ℕ) → Gives P (k x)
-
--- every cell read is below n
-unfoldable pub Within : {A : Type 0} → ℕ → Reading A → Type 0
-Within n (done a) = Unit
-Within n (read r c k) = (c < n) × ((x : ℕ) → Within n (k x))
+-- every read has P, of its role and its cell, and every answer has Q
+unfoldable pub Only : {A : Type 0} → (Role → ℕ → Type 0) → (A → Type 0) → Reading A → Type 0
+Only P Q (done a) = Q a
+Only P Q (read r c k) = P r c × ((x : ℕ) → Only P Q (k x))
 
 -- ---- over one RAM
 
-pub gives-value : {A : Type 0} (P : A → Type 0) (ram : List ℕ) (p : Reading A) → Gives P p → P (value ram p)
-unfolding Gives value
-gives-value P ram (done a) g = g
-gives-value P ram (read r c k) g = gives-value P ram (k (getD ram c 0)) (g (getD ram c 0))
+same-role : (q r : Role) → sameRole q r ≡ true → q ≡ r
+unfolding sameRole
+same-role descriptor descriptor e = refl
+same-role descriptor code e = absurd (false≢true e)
+same-role descriptor slice e = absurd (false≢true e)
+same-role code descriptor e = absurd (false≢true e)
+same-role code code e = refl
+same-role code slice e = absurd (false≢true e)
+same-role slice descriptor e = absurd (false≢true e)
+same-role slice code e = absurd (false≢true e)
+same-role slice slice e = refl
 
-pub within-cells : {A : Type 0} (n : ℕ) (ram : List ℕ) (p : Reading A) → Within n p → (c : ℕ) → T (among c (cells ram p)) → c < n
-unfolding Within cells among
-within-cells n ram (done a) w c t = absurd t
-within-cells n ram (read r x k) w c t =
-    or-cases (eqb c x) _ t (λ e. subst (λ (m : ℕ). m < n) (sym (eqb→eq c x e)) (w .0))
-    (within-cells n ram (k (getD ram x 0)) (w .1 (getD ram x 0)) c)
+module _ {A : Type 0} (P : Role → ℕ → Type 0) (Q : A → Type 0) (ram : List ℕ) where
+  -- the answer
+  pub only-value : (p : Reading A) → Only P Q p → Q (value ram p)
+  unfolding Only value
+  only-value (done a) h = h
+  only-value (read r c k) h = only-value (k (getD ram c 0)) (h .1 (getD ram c 0))
 
--- ---- a program that reads nothing
+  -- a cell that is read, whatever as
+  pub only-cells : (R : ℕ → Type 0) → ((q : Role) (c : ℕ) → P q c → R c) → (p : Reading A) → Only P Q p
+      → (c : ℕ) → T (among c (cells ram p)) → R c
+  unfolding Only cells among
+  only-cells R f (done a) h c t = absurd t
+  only-cells R f (read r x k) h c t =
+      or-cases (eqb c x) _ t (λ e. subst R (sym (eqb→eq c x e)) (f r x (h .0))) (only-cells R f (k (getD ram x 0)) (h .1 (getD ram x 0)) c)
 
-pub within-done : {A : Type 0} (n : ℕ) (a : A) → Within n (done a)
-unfolding Within
-within-done n a = tt
+  -- a cell that is read in a role
+  pub only-as : (q : Role) (p : Reading A) → Only P Q p → (c : ℕ) → T (among c (cellsAs q ram p)) → P q c
+  unfolding Only cellsAs among
+  only-as q (done a) h c t = absurd t
+  only-as q (read r x k) h c t = by (sameRole q r) refl t (only-as q (k (getD ram x 0)) (h .1 (getD ram x 0)) c)
+    where
+      rest : List ℕ
+      rest = cellsAs q ram (k (getD ram x 0))
+
+      by : (b : Bool) → sameRole q r ≡ b → T (among c (cond b (x ∷ rest) rest)) → (T (among c rest) → P q c) → P q c
+      by true e m later = or-cases (eqb c x) _ m (λ i. subst₂ P (sym (same-role q r e)) (sym (eqb→eq c x i)) (h .0)) later
+      by false e m later = later m
 
 -- ---- one program after another
 
-pub gives-fmap : {A B : Type 0} (P : A → Type 0) (Q : B → Type 0) (f : A → B) (p : Reading A)
-    → Gives P p → ((a : A) → P a → Q (f a)) → Gives Q (fmap f p)
-unfolding Gives fmap
-gives-fmap P Q f (done a) g h = h a g
-gives-fmap P Q f (read r c k) g h = λ x. gives-fmap P Q f (k x) (g x) h
+pub only-bind : {A B : Type 0} (P : Role → ℕ → Type 0) (Q : A → Type 0) (R : B → Type 0) (p : Reading A) (f : A → Reading B)
+    → Only P Q p → ((a : A) → Q a → Only P R (f a)) → Only P R (bind p f)
+unfolding Only bind
+only-bind P Q R (done a) f h g = g a h
+only-bind P Q R (read r c k) f h g = (h .0, λ x. only-bind P Q R (k x) f (h .1 x) g)
 
-pub gives-all : {A : Type 0} (P : A → Type 0) → ((a : A) → P a) → (p : Reading A) → Gives P p
-unfolding Gives
-gives-all P h (done a) = h a
-gives-all P h (read r c k) = λ x. gives-all P h (k x)
-
-pub within-bind : {A B : Type 0} (P : A → Type 0) (n : ℕ) (p : Reading A) (f : A → Reading B)
-    → Gives P p → Within n p → ((a : A) → P a → Within n (f a)) → Within n (bind p f)
-unfolding Gives Within bind
-within-bind P n (done a) f g w h = h a g
-within-bind P n (read r c k) f g w h = (w .0, λ x. within-bind P n (k x) f (g x) (w .1 x) h)
-
-pub within-fmap : {A B : Type 0} (n : ℕ) (f : A → B) (p : Reading A) → Within n p → Within n (fmap f p)
-unfolding Within fmap
-within-fmap n f (done a) w = tt
-within-fmap n f (read r c k) w = (w .0, λ x. within-fmap n f (k x) (w .1 x))
+pub only-fmap : {A B : Type 0} (P : Role → ℕ → Type 0) (Q : A → Type 0) (R : B → Type 0) (f : A → B) (p : Reading A)
+    → Only P Q p → ((a : A) → Q a → R (f a)) → Only P R (fmap f p)
+unfolding Only fmap
+only-fmap P Q R f (done a) h g = g a h
+only-fmap P Q R f (read r c k) h g = (h .0, λ x. only-fmap P Q R f (k x) (h .1 x) g)

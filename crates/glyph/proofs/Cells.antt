@@ -1,21 +1,24 @@
--- Which codes read a cell in a slice: those of the user character that it belongs to, in its own slice.
+-- What a code's glyph reads: two cells of a user character's slice. Which codes read a cell: those of the user character that it belongs
+-- to, in its own slice.
 -- Assumes nothing.
 use Prim.Native.Nat.{ℕ, _+_, _-_, _*_, _/_, _%_, _<_}
-use mathlib.Core.Path.{_≡_, ap, _∙_}
-use mathlib.Core.Bool.{Bool, false, _&&_}
+use mathlib.Core.Path.{_≡_, refl, ap, _∙_}
+use mathlib.Core.Bool.{Bool, true, false, cond, _&&_}
 use mathlib.Core.List.{List}
 use native.Mathlib.Decide.{ℕ-discrete, decLt}
 use native.Mathlib.Omega.{arith}
-use borrow.Author.Tests.{eq-eqb, ne-eqb, lt-ltb, le-ltb}
-use lib.Dec.{eqb, lt→ltb}
+use borrow.Author.Tests.{ltb-true, eq-eqb, ne-eqb, lt-ltb, le-ltb}
+use lib.Dec.{eqb, ltb, lt→ltb}
 use mir.Facts.{and-yes, yes-and, eqb-yes, yes-eqb, ltb-yes}
+use Rattle.facts.proofs.Choice.{either}
 use Rattle.facts.proofs.Pairs.{pair-is}
 use Rattle.facts.proofs.Tests.{iff}
-use Rattle.cells.specs.Reading.{cells, among}
+use Rattle.cells.specs.Reading.{Role, slice, done, read, cells, among}
+use Rattle.cells.proofs.Bounds.{Only}
 use Rattle.raster.specs.declared.Slice.{Slice}
-use Rattle.raster.specs.Raster.{InCharacter}
+use Rattle.raster.specs.Raster.{InCharacter, OnScreen}
 use Rattle.raster.specs.Search.{sameSlice}
-use Rattle.glyph.specs.Glyph.{userCell, inRam, glyphOf}
+use Rattle.glyph.specs.Glyph.{Glyph, user, blank, userCell, inRam, glyphOf}
 use Rattle.glyph.specs.Cells.{ofUser, userHigh, userSlice}
 
 -- the cell is of a user character's slice s
@@ -71,3 +74,28 @@ module _ (c : ℕ) (s : Slice) where
           (pair-is c (userCell (high % 128) (s .0)) (omega arith)
           ∙ user-reads (high % 128) l k
           ∙ ap (λ (m : ℕ). ofSlice c s && eqb m (userHigh c)) n)
+
+-- ---- what a glyph reads, as slices
+
+module _ (P : Role → ℕ → Type 0) (s : Slice) (on : OnScreen s) (slices : (c : ℕ) → c < 1024 → OnScreen (userSlice c) → P slice c) where
+  of-slice : (number c : ℕ) → c / 2 * 2 ≡ userCell number (s .0) → OnScreen (userSlice c)
+  of-slice number c e =
+      let m = belongs c s number (on .to) e .1 in
+      record { from = omega (arith, m, on .from); to = omega (arith, m, on .to) }
+
+  pub glyphOf-only : (high : ℕ) → Only P (λ (g : Glyph). Unit {0}) (glyphOf high s)
+  unfolding glyphOf inRam Only
+  glyphOf-only high = either (Only P (λ (g : Glyph). Unit {0})) (eqb (high / 128 % 2) 0) _ _ tt (by (ltb (high % 128) 26) refl)
+    where
+      by : (t : Bool) → ltb (high % 128) 26 ≡ t
+          → Only P (λ (g : Glyph). Unit {0})
+          (cond t
+          (read slice (userCell (high % 128) (s .0)) λ first. read slice (userCell (high % 128) (s .0) + 1) λ second. done (user first second))
+          (done blank))
+      by true e =
+          let a : ℕ = userCell (high % 128) (s .0) in
+          let l = ltb-true (high % 128) 26 e in (
+            slices a (omega (arith, l, on .to)) (of-slice (high % 128) a (omega arith)),
+            λ first. (slices (a + 1) (omega (arith, l, on .to)) (of-slice (high % 128) (a + 1) (omega arith)), λ second. tt),
+          )
+      by false e = tt

@@ -1,4 +1,4 @@
--- The laws of codes and glyphs: what a glyph reads lies below 1,024, and what its word shows.
+-- The laws of codes and glyphs: the two bytes of a slice, and what their word shows.
 -- Assumes nothing.
 use Prim.Native.Nat.{ℕ, _+_, _%_, _/_, _≤_, _<_}
 use mathlib.Core.Path.{_≡_, refl}
@@ -10,27 +10,11 @@ use mathlib.Core.List.{List}
 use lib.Dec.{ltb, eqb}
 use native.Mathlib.Decide.{ℕ-discrete}
 use lib.ListN.{length, getD, take, drop, length-take, length-drop}
-use Rattle.facts.proofs.Choice.{either}
 use Rattle.facts.proofs.Parts.{getD-part}
 use Rattle.cells.specs.Reading.{slice, Reading, done, read, value, cells}
-use Rattle.cells.proofs.Bounds.{Within}
 use Rattle.raster.specs.declared.Slice.{Slice}
-use Rattle.raster.specs.Raster.{InCharacter}
 use Rattle.glyph.specs.Glyph.{Glyph, font, user, blank, userCell, fontByte, inRam, glyphOf, twelve, bitsOf, slicePart, Lent, Sliced}
 use Rattle.glyph.specs.Words.{inOrder, wordOf, wordIn}
-
-inRam-within : (number s : ℕ) → s ≤ 18 → Within 1024 (inRam number s)
-unfolding inRam Within
-inRam-within number s h = by (ltb number 26) refl
-  where
-    by : (t : Bool) → ltb number 26 ≡ t
-        → Within 1024 (cond t (read slice (userCell number s) λ first. read slice (userCell number s + 1) λ second. done (user first second)) (done blank))
-    by true e = (omega (arith, ltb-true number 26 e), λ first. (omega (arith, ltb-true number 26 e), λ second. tt))
-    by false e = tt
-
-pub glyphOf-within : (high : ℕ) (s : Slice) → InCharacter s → Within 1024 (glyphOf high s)
-unfolding glyphOf
-glyphOf-within high s h = either (Within 1024) (eqb (high / 128 % 2) 0) _ _ (unfold Within in tt) (inRam-within (high % 128) (s .0) h)
 
 -- ---- the two bytes of a slice are the part that the lookup returns
 

@@ -21,7 +21,7 @@ use Rattle.walk.specs.declared.Strip.the-variants.{Spacing, Characters}
 use Rattle.walk.specs.declared.Walk.{Walk}
 use Rattle.walk.specs.Walk.{even, next, over, begun, nextLine}
 use Rattle.glyph.specs.Glyph.{endsLine, glyphOf, inRam}
-use Rattle.line.specs.Line.{codes, rowOf, shownRow, scan}
+use Rattle.line.specs.Line.{codesBy, codes, rowBy, shownBy, scanBy, scan}
 
 two-more : (t : Bool) (a b : ℕ) (l : List ℕ) → length (cond t (a ∷ cond t (b ∷ l) l) (cond t (b ∷ l) l)) ≡ cond t 2 0 + length l
 two-more true a b l = omega arith
@@ -71,7 +71,7 @@ module _ (r : Role) (ram : List ℕ) where
   each = two code + two slice
 
   codes-few : (n : ℕ) (s : Slice) (a : ℕ) → Few (n * each) (codes n s a)
-  unfolding codes each
+  unfolding codesBy each
   codes-few zero s a = few-done (0 * each) []
   codes-few (suc n) s a =
       few-two code (suc n * each) (two slice + n * each) (even a) (even a + 1) _ (omega arith)
@@ -79,14 +79,14 @@ module _ (r : Role) (ram : List ℕ) where
       (few-bind (two slice) (n * each) (glyphOf (getD ram (even a + 1) 0) s) _ (glyph-few (getD ram (even a + 1) 0) s)
       (few-fmap (n * each) _ (codes n s (next a)) (codes-few n s (next a)))))
 
-  row-few : (n : ℕ) (s : Strip) → Few (n * each) (rowOf n s)
-  unfolding rowOf
+  row-few : (n : ℕ) (s : Strip) → Few (n * each) (rowBy glyphOf n s)
+  unfolding rowBy
   row-few n (Spacing left) = few-done (n * each) []
   row-few n (Characters address height zoom enabled line) =
       either (Few (n * each)) enabled _ _ (codes-few n (interpolated line height zoom) address) (few-done _ [])
 
   scan-few : (s : Settings) (w : Walk) → Few (two descriptor + charactersOf (s .ld) (s .dd) * each) (scan s w)
-  unfolding scan shownRow
+  unfolding scanBy shownBy
   scan-few s w =
       let n : ℕ = charactersOf (s .ld) (s .dd) in
       few-bind (two descriptor) (n * each) (nextLine (s .ch) w) _ (walk-few (s .ch) w)

@@ -1,75 +1,36 @@
--- The laws of a line: it has W pixels, each below 16; each cell that it reads is below 1,024.
+-- The laws of a line: it has W pixels, each below 16.
 -- Assumes nothing.
-use Prim.Native.Nat.{ℕ, zero, suc, _-_, _<_, min}
+use Prim.Native.Nat.{ℕ, _-_, _<_, min}
 use mathlib.Core.Path.{_≡_}
 use mathlib.Core.Bool.{Bool}
 use mathlib.Core.List.{List, [], _∷_}
 use native.Mathlib.Omega.{arith}
 use lib.ListN.{length, getD, length-append, length-take, length-replicate}
 use Rattle.facts.proofs.Choice.{either}
-use Rattle.cells.specs.Reading.{done}
-use Rattle.cells.proofs.Bounds.{Within, gives-all, within-done, within-bind, within-fmap}
 use Rattle.registers.specs.declared.Settings.{Settings}
 use Rattle.registers.specs.declared.Registers.{Registers}
 use Rattle.registers.specs.Registers.{settingsOf}
 use Rattle.registers.proofs.Laws.{fbk-bound}
-use Rattle.raster.specs.declared.Slice.{Slice}
-use Rattle.raster.specs.Raster.{InCharacter, interpolated, widthOf, firstPixelOf, charactersOf, hiddenIn}
-use Rattle.raster.proofs.Rules.{slice-range}
-use Rattle.walk.specs.declared.Strip.{Strip}
-use Rattle.walk.specs.declared.Strip.the-variants.{Spacing, Characters}
-use Rattle.walk.specs.declared.Walk.{Walk}
-use Rattle.walk.specs.Walk.{next, nextLine, OnLine}
-use Rattle.walk.proofs.Laws.{even-bound, nextLine-on, nextLine-within}
-use Rattle.glyph.specs.Glyph.{Glyph, endsLine, glyphOf, bitsOf}
-use Rattle.glyph.proofs.Laws.{glyphOf-within}
+use Rattle.raster.specs.Raster.{widthOf, firstPixelOf, hiddenIn}
+use Rattle.glyph.specs.Glyph.{Glyph, bitsOf}
 use Rattle.paint.specs.Pixels.{plainOf}
 use Rattle.paint.proofs.Laws.{Pixels, pixels-at, pixels-append, pixels-take, pixels-replicate, twelve-length, twelve-pixels}
-use Rattle.line.specs.Line.{Place, codes, rowOf, shownRow, scan, character, painted, paint}
-
--- ---- the cells that a line reads
-
-codes-within : (n : ℕ) (s : Slice) (a : ℕ) → InCharacter s → Within 1024 (codes n s a)
-unfolding codes Within
-codes-within zero s a h = tt
-codes-within (suc n) s a h = (
-  omega (arith, even-bound a),
-  λ low. (
-    even-bound a,
-    λ high.
-        either (Within 1024) (endsLine high) (done []) _ tt
-        (within-bind (λ (g : Glyph). Unit {0}) 1024 (glyphOf high s) _ (gives-all (λ (g : Glyph). Unit {0}) (λ g. tt) (glyphOf high s))
-        (glyphOf-within high s h) (λ g t. within-fmap 1024 _ (codes n s (next a)) (codes-within n s (next a) h))),
-  ),
-)
-
-rowOf-within : (n : ℕ) (s : Strip) → OnLine s → Within 1024 (rowOf n s)
-unfolding rowOf OnLine
-rowOf-within n (Spacing left) h = within-done 1024 []
-rowOf-within n (Characters address height zoom enabled line) h =
-    either (Within 1024) enabled _ _ (codes-within n (interpolated line height zoom) address (slice-range line height zoom h .to)) (within-done 1024 [])
-
--- every cell that a line reads is below 1,024
-pub scan-within : (s : Settings) (w : Walk) → Within 1024 (scan s w)
-unfolding scan shownRow
-scan-within s w =
-    within-bind (λ (v : Walk). OnLine (v .strip)) 1024 (nextLine (s .ch) w) _ (nextLine-on (s .ch) w) (nextLine-within (s .ch) w)
-    (λ v h. within-fmap 1024 _ _ (either (Within 1024) (s .osd) _ _ (rowOf-within (charactersOf (s .ld) (s .dd)) (v .strip) h) (within-done 1024 [])))
+use Rattle.line.specs.Line.{Place, character, painted, paint}
 
 -- ---- the width
 
-pub character-length : (font : List ℕ) (plain : ℕ) (hidden : Bool) (p : Place) → length (character font plain hidden p) ≡ 12
+pub character-length : (font : List ℕ) (plain : ℕ) (hidden : Bool) (p : Place Glyph) → length (character font plain hidden p) ≡ 12
 unfolding character
 character-length font plain hidden p = twelve-length plain hidden (p .low) (bitsOf font (p .glyph))
 
-pub painted-length : (font : List ℕ) (plain : ℕ) (hidden : Bool) (room : ℕ) (ps : List Place) → length (painted font plain hidden room ps) ≡ room
+pub painted-length : (font : List ℕ) (plain : ℕ) (hidden : Bool) (room : ℕ) (ps : List (Place Glyph)) → length (painted font plain hidden room ps) ≡ room
 unfolding painted
 painted-length font plain hidden room [] = length-replicate room plain
 painted-length font plain hidden room (p ∷ ps) =
     simp (length-append, length-take, character-length, painted-length font plain hidden (room - 12) ps) (omega arith)
 
 -- a drawn line has exactly W pixels
-pub paint-length : (s : Settings) (font : List ℕ) (f : ℕ) (row : List Place) → length (paint s font f row) ≡ widthOf (s .ld)
+pub paint-length : (s : Settings) (font : List ℕ) (f : ℕ) (row : List (Place Glyph)) → length (paint s font f row) ≡ widthOf (s .ld)
 unfolding paint
 paint-length s font f row =
     either (λ (l : List ℕ). length l ≡ widthOf (s .ld)) (s .osd) _ _ (simp (length-append, length-replicate, painted-length) (omega arith))
@@ -77,14 +38,14 @@ paint-length s font f row =
 
 -- ---- the pixels
 
-painted-pixels : (font : List ℕ) (plain : ℕ) (hidden : Bool) (room : ℕ) (ps : List Place) → plain < 16 → Pixels (painted font plain hidden room ps)
+painted-pixels : (font : List ℕ) (plain : ℕ) (hidden : Bool) (room : ℕ) (ps : List (Place Glyph)) → plain < 16 → Pixels (painted font plain hidden room ps)
 unfolding painted character
 painted-pixels font plain hidden room [] h = pixels-replicate room plain h
 painted-pixels font plain hidden room (p ∷ ps) h =
     pixels-append (pixels-take room (twelve-pixels plain hidden (p .low) (bitsOf font (p .glyph)) h))
     (painted-pixels font plain hidden (room - 12) ps h)
 
-paint-pixels : (s : Settings) (font : List ℕ) (f : ℕ) (row : List Place) → s .fbk < 2 → Pixels (paint s font f row)
+paint-pixels : (s : Settings) (font : List ℕ) (f : ℕ) (row : List (Place Glyph)) → s .fbk < 2 → Pixels (paint s font f row)
 unfolding paint
 paint-pixels s font f row h =
     either Pixels (s .osd) _ _
@@ -93,5 +54,5 @@ paint-pixels s font f row h =
     (pixels-replicate (widthOf (s .ld)) 0 (omega arith))
 
 -- each pixel of a line is below 16
-pub paint-below : (r : Registers) (font : List ℕ) (f : ℕ) (row : List Place) (i : ℕ) → getD (paint (settingsOf r) font f row) i 0 < 16
+pub paint-below : (r : Registers) (font : List ℕ) (f : ℕ) (row : List (Place Glyph)) (i : ℕ) → getD (paint (settingsOf r) font f row) i 0 < 16
 paint-below r font f row = pixels-at (paint-pixels (settingsOf r) font f row (fbk-bound r))

@@ -1,3 +1,4 @@
+pub mod Asks
 pub mod Claims
 pub mod Counts
 pub mod Edges
@@ -5,4 +6,3 @@ pub mod Laws
 pub mod Rules
 pub mod Strips
 pub mod Turns
-pub mod UserSlices

@@ -8,9 +8,9 @@ use native.Mathlib.Omega.{arith}
 use lib.ListN.{length, take, drop, replicate, length-append, length-replicate, replicate-append-replicate}
 use lib.Seq.{take-at, drop-at}
 use borrow.Rule.Slice.PartMut.{post-is}
-use Rattle.cells.specs.Reading.{Reading, done, value, cells}
+use Rattle.cells.specs.Reading.{Role, Reading, done, value, cells}
 use Rattle.cells.proofs.Laws.{value-bind, cells-bind, value-fmap, cells-fmap}
-use Rattle.cells.proofs.Bounds.{gives-value}
+use Rattle.cells.proofs.Bounds.{only-value}
 use Rattle.registers.specs.declared.Registers.{Registers}
 use Rattle.registers.specs.declared.Settings.{Settings}
 use Rattle.registers.specs.Registers.{settingsOf}
@@ -23,10 +23,11 @@ use Rattle.walk.specs.declared.Strip.the-variants.{Spacing, Characters}
 use Rattle.walk.specs.declared.Walk.{Walk}
 use Rattle.walk.specs.Walk.{nextLine, OnLine, walked}
 use Rattle.walk.specs.declared.Walked.{Walked}
-use Rattle.walk.proofs.Laws.{nextLine-on}
+use Rattle.walk.proofs.Laws.{nextLine-only}
+use Rattle.glyph.specs.Glyph.{Glyph, glyphOf}
 use Rattle.line.specs.declared.Pen.{Pen}
 use Rattle.paint.specs.Pixels.{plainOf}
-use Rattle.line.specs.Line.{Place, rowOf, shownRow, Scanned, scan, paint}
+use Rattle.line.specs.Line.{Place, rowBy, shownBy, shownRow, Scanned, scanBy, scan, paint}
 use Rattle.line.specs.Contracts.{roomOf, RowDrawn, CharactersDrawn, StripDrawn, LineDrawn}
 use Rattle.line.proofs.Counts.{line-most}
 use Rattle.line.proofs.Turns.{no-room, no-reads, painted-none}
@@ -72,12 +73,12 @@ module _ (ram font : List ℕ) (address : ℕ) (pen : Pen) (x w : ℕ) (out : Li
 -- OSD 0
 pub strip-off : (ram font : List ℕ) (s : Settings) (strip : Strip) (f : ℕ) (out out′ : List ℕ) (w : ℕ) → w ≡ widthOf (s .ld) → s .osd ≡ false
     → out′ ≡ replicate w 0 ++ drop w out → StripDrawn ram font s strip f out 0 out′
-unfolding paint shownRow
+unfolding paint shownBy
 strip-off ram font s strip f out out′ w q o e =
     record { pixels = rw o (e ∙ ap (λ (k : ℕ). replicate k 0 ++ drop k out) q); reads = rw o (unfold cells in refl) }
 
-row-none : (s : Settings) (strip : Strip) → s .osd ≡ true → ((n : ℕ) → rowOf n strip ≡ done []) → shownRow s strip ≡ done []
-unfolding shownRow
+row-none : (s : Settings) (strip : Strip) → s .osd ≡ true → ((n : ℕ) → rowBy glyphOf n strip ≡ done []) → shownRow s strip ≡ done []
+unfolding shownBy
 row-none s strip o none = rw o (none _)
 
 -- a line with no character is plain
@@ -91,7 +92,7 @@ paint-none s font f o =
 
 -- no character on the line
 pub strip-plain : (ram font : List ℕ) (s : Settings) (strip : Strip) (f : ℕ) (out out′ : List ℕ) (w : ℕ) → w ≡ widthOf (s .ld) → s .osd ≡ true
-    → ((n : ℕ) → rowOf n strip ≡ done []) → out′ ≡ replicate w (plainOf (s .fbk)) ++ drop w out → StripDrawn ram font s strip f out 0 out′
+    → ((n : ℕ) → rowBy glyphOf n strip ≡ done []) → out′ ≡ replicate w (plainOf (s .fbk)) ++ drop w out → StripDrawn ram font s strip f out 0 out′
 unfolding value cells
 strip-plain ram font s strip f out out′ w q o none e =
     let row : shownRow s strip ≡ done [] = row-none s strip o none in
@@ -101,18 +102,18 @@ strip-plain ram font s strip f out out′ w q o none e =
           e
           ∙ ap (λ (k : ℕ). replicate k (plainOf (s .fbk)) ++ drop k out) q
           ∙ ap (λ (l : List ℕ). l ++ drop (widthOf (s .ld)) out) (sym plain)
-          ∙ ap (λ (p : Reading (List Place)). paint s font f (value ram p) ++ drop (widthOf (s .ld)) out) (sym row);
-      reads = ap (λ (p : Reading (List Place)). length (cells ram p)) (sym row);
+          ∙ ap (λ (p : Reading (List (Place Glyph))). paint s font f (value ram p) ++ drop (widthOf (s .ld)) out) (sym row);
+      reads = ap (λ (p : Reading (List (Place Glyph))). length (cells ram p)) (sym row);
     }
 
 -- spacing, and characters with DE 0, have no row
-pub spacing-none : (left n : ℕ) → rowOf n (Spacing left) ≡ done []
-unfolding rowOf
+pub spacing-none : (left n : ℕ) → rowBy glyphOf n (Spacing left) ≡ done []
+unfolding rowBy
 spacing-none left n = refl
 
 pub disabled-none : (address height : ℕ) (zoom enabled : Bool) (line : ScanLine) → enabled ≡ false → (n : ℕ)
-    → rowOf n (Characters address height zoom enabled line) ≡ done []
-unfolding rowOf
+    → rowBy glyphOf n (Characters address height zoom enabled line) ≡ done []
+unfolding rowBy
 disabled-none address height zoom enabled line e n = rw e
 
 -- a line of characters
@@ -122,7 +123,7 @@ pub strip-characters : (ram font : List ℕ) (s : Settings) (address height : �
     → x ≡ firstPixelOf (s .dd) → w ≡ widthOf (s .ld)
     → CharactersDrawn ram font address pen x w out n out′
     → StripDrawn ram font s (Characters address height zoom enabled line) f out n out′
-unfolding paint shownRow rowOf
+unfolding paint shownBy rowBy
 strip-characters ram font s address height zoom enabled line f out n out′ pen x w o en p q r d =
     let d′ : CharactersDrawn ram font address (record { slice = interpolated line height zoom; plain = plainOf (s .fbk); hidden = hiddenIn (s .fl) f })
     (firstPixelOf (s .dd)) (widthOf (s .ld)) out n out′ = rw (p, q, r) at d
@@ -152,20 +153,22 @@ slice-most r j ch zoom e h = subst InCharacter (sym e) (slice-range j ch zoom h 
 -- ---- the frame's next line
 
 pub walked-line : (ram : List ℕ) (ch : ℕ) (w : Walk) → OnLine (value ram (nextLine ch w) .strip)
-walked-line ram ch w = gives-value (λ (v : Walk). OnLine (v .strip)) ram (nextLine ch w) (nextLine-on ch w)
+walked-line ram ch w =
+    let any : Role → ℕ → Type 0 = λ q c. Unit {0} in
+    only-value any (λ (v : Walk). OnLine (v .strip)) ram (nextLine ch w) (nextLine-only any (λ c l. tt) ch w)
 
 -- what a line finds: where the walk goes, and its row
 pub scan-value : (ram : List ℕ) (s : Settings) (w : Walk)
     → value ram (scan s w)
     ≡ record { walk = value ram (nextLine (s .ch) w); row = value ram (shownRow s (value ram (nextLine (s .ch) w) .strip)) }
-unfolding scan
+unfolding scanBy
 scan-value ram s w =
     value-bind ram (nextLine (s .ch) w) _ ∙ value-fmap ram _ (shownRow s (value ram (nextLine (s .ch) w) .strip))
 
 -- what it reads: its descriptor, and its row
 pub scan-cells : (ram : List ℕ) (s : Settings) (w : Walk)
     → cells ram (scan s w) ≡ cells ram (nextLine (s .ch) w) ++ cells ram (shownRow s (value ram (nextLine (s .ch) w) .strip))
-unfolding scan
+unfolding scanBy
 scan-cells ram s w =
     cells-bind ram (nextLine (s .ch) w) _
     ∙ ap (λ (l : List ℕ). cells ram (nextLine (s .ch) w) ++ l) (cells-fmap ram _ (shownRow s (value ram (nextLine (s .ch) w) .strip)))
@@ -184,8 +187,8 @@ module _ (ram font : List ℕ) (r : Registers) (w : Walk) (f : ℕ) (out : List 
       record {
         pixels =
             d .pixels
-            ∙ ap (λ (x : Scanned). paint (settingsOf r) font f (x .row) ++ drop (widthOf (settingsOf r .ld)) out) (sym (scan-value ram (settingsOf r) w));
-        walk = ap (λ (x : Scanned). x .walk) (sym (scan-value ram (settingsOf r) w));
+            ∙ ap (λ (x : Scanned Glyph). paint (settingsOf r) font f (x .row) ++ drop (widthOf (settingsOf r .ld)) out) (sym (scan-value ram (settingsOf r) w));
+        walk = ap (λ (x : Scanned Glyph). x .walk) (sym (scan-value ram (settingsOf r) w));
         reads = ap (λ (k : ℕ). length (cells ram (nextLine (settingsOf r .ch) w)) + k) (d .reads) ∙ sym (scan-length ram (settingsOf r) w);
       }
 

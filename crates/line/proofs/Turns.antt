@@ -28,7 +28,7 @@ use Rattle.line.proofs.Laws.{character-length, painted-length}
 use Rattle.line.proofs.Counts.{glyph-most, codes-most}
 use Rattle.line.specs.declared.Coded.{Coded}
 use Rattle.line.specs.Contracts.{placeAt, CodeShown, RowDrawn, rowIn, roomOf}
-use Rattle.line.specs.Line.{character, codes, painted}
+use Rattle.line.specs.Line.{character, codesBy, codes, painted}
 
 -- ---- filling
 
@@ -88,7 +88,7 @@ module _ (ram font : List ℕ) (at : ℕ) (pen : Pen) (w : Word) (h : w ≡ word
 
 -- a row from an address is the row from the even address of its two bytes
 codes-even : (n : ℕ) (s : Slice) (a : ℕ) → codes n s (even a) ≡ codes n s a
-unfolding codes
+unfolding codesBy
 codes-even zero s a = refl
 codes-even (suc n) s a =
     let e : even (even a) ≡ even a = omega arith in
@@ -99,7 +99,7 @@ codes-even (suc n) s a =
 module _ (ram : List ℕ) (n : ℕ) (s : Slice) (a : ℕ) (p : even a ≡ a) where
   -- the code ends the line
   ended-here : endsLine (getD ram (a + 1) 0) ≡ true → (value ram (codes (suc n) s a) ≡ []) × (length (cells ram (codes (suc n) s a)) ≡ 2)
-  unfolding codes value cells
+  unfolding codesBy value cells
   ended-here e = (rw (value, p, e), rw (p, e))
 
   -- it has a character
@@ -108,7 +108,7 @@ module _ (ram : List ℕ) (n : ℕ) (s : Slice) (a : ℕ) (p : even a ≡ a) whe
       ≡ (record { low = getD ram a 0; glyph = value ram (glyphOf (getD ram (a + 1) 0) s) }) ∷ value ram (codes n s (next a)))
       × (length (cells ram (codes (suc n) s a))
       ≡ 2 + length (cells ram (glyphOf (getD ram (a + 1) 0) s)) + length (cells ram (codes n s (next a))))
-  unfolding codes value cells
+  unfolding codesBy value cells
   on-here e = (
     rw (value, p, e, value-bind, value-fmap),
     rw (p, e, cells-bind, cells-fmap, length-append (cells ram (glyphOf (getD ram (a + 1) 0) s)) _) (omega arith),
@@ -123,11 +123,11 @@ painted-none font plain hidden room = refl
 
 -- where there is no room, nothing is drawn and nothing read
 pub no-room : (ram font : List ℕ) (pen : Pen) (room a : ℕ) → room ≡ 0 → roomOf ram font pen room a ≡ []
-unfolding codes value painted
+unfolding codesBy value painted
 no-room ram font pen room a e = rw e
 
 pub no-reads : (ram : List ℕ) (pen : Pen) (room a : ℕ) → room ≡ 0 → length (cells ram (rowIn pen room a)) ≡ 0
-unfolding codes cells
+unfolding codesBy cells
 no-reads ram pen room a e = rw e
 
 -- the room that begins with an end of line, and with a character

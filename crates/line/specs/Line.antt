@@ -19,52 +19,67 @@ use Rattle.paint.specs.Pixels.{plainOf, twelveColumns}
 
 -- ---- scan
 
--- a character's place on the line: the code's low byte, and its glyph
-pub record Place : Type 0 where
-  pub low : ℕ
-  pub glyph : Glyph
+-- a lookup says what a code's high byte shows in a slice. A line's program is the same over any lookup
+abbrev pub Lookup : Type 0 → Type 0
+Lookup G = ℕ → Slice → Reading G
 
--- the codes from an address on, n at the most, up to the end of line (whose two bytes are read). A code is two bytes at an
--- even address, address plus 2 for the next, wrapping at 1,024
-unfoldable pub codes : ℕ → Slice → ℕ → Reading (List Place)
-codes zero s a = done []
-codes (suc n) s a =
+-- a character's place on the line: the code's low byte, and its glyph, or what else a lookup gives
+pub record Place (G : Type 0) : Type 0 where
+  pub low : ℕ
+  pub glyph : G
+
+-- the codes from an address on, n at the most, up to the end of line (whose two bytes are read), looked up in a slice. A code is two
+-- bytes at an even address, address plus 2 for the next, wrapping at 1,024
+unfoldable pub codesBy : {G : Type 0} → Lookup G → ℕ → Slice → ℕ → Reading (List (Place G))
+codesBy look zero s a = done []
+codesBy look (suc n) s a =
     read code (even a) λ low.
     read code (even a + 1) λ high.
     cond (endsLine high)
     (done [])
-    (bind (glyphOf high s) λ g. fmap (λ places. (record { low = low; glyph = g }) ∷ places) (codes n s (next a)))
+    (bind (look high s) λ g. fmap (λ places. (record { low = low; glyph = g }) ∷ places) (codesBy look n s (next a)))
 
 -- what stands on a line of the strip. In spacing strips and strips with DE 0 no code is read
-unfoldable pub rowOf : ℕ → Strip → Reading (List Place)
-rowOf n (Spacing left) = done []
-rowOf n (Characters address height zoom enabled line) = cond enabled (codes n (interpolated line height zoom) address) (done [])
+unfoldable pub rowBy : {G : Type 0} → Lookup G → ℕ → Strip → Reading (List (Place G))
+rowBy look n (Spacing left) = done []
+rowBy look n (Characters address height zoom enabled line) =
+    cond enabled (codesBy look n (interpolated line height zoom) address) (done [])
 
 -- OSD 0: codes and slices are not read. Codes are read while the next character's first pixel is below W
-unfoldable pub shownRow : Settings → Strip → Reading (List Place)
-shownRow s strip = cond (s .osd) (rowOf (charactersOf (s .ld) (s .dd)) strip) (done [])
+unfoldable pub shownBy : {G : Type 0} → Lookup G → Settings → Strip → Reading (List (Place G))
+shownBy look s strip = cond (s .osd) (rowBy look (charactersOf (s .ld) (s .dd)) strip) (done [])
 
-pub record Scanned : Type 0 where
+pub record Scanned (G : Type 0) : Type 0 where
   pub walk : Walk
-  pub row : List Place
+  pub row : List (Place G)
 
 -- a line reads its descriptor, with OSD 0 too, and then its row
-unfoldable pub scan : Settings → Walk → Reading Scanned
-scan s w = bind (nextLine (s .ch) w) λ v. fmap (λ row. record { walk = v; row = row }) (shownRow s (v .strip))
+unfoldable pub scanBy : {G : Type 0} → Lookup G → Settings → Walk → Reading (Scanned G)
+scanBy look s w = bind (nextLine (s .ch) w) λ v. fmap (λ row. record { walk = v; row = row }) (shownBy look s (v .strip))
+
+-- a line looks its codes up as glyphs
+abbrev pub codes : ℕ → Slice → ℕ → Reading (List (Place Glyph))
+codes = codesBy glyphOf
+
+abbrev pub shownRow : Settings → Strip → Reading (List (Place Glyph))
+shownRow = shownBy glyphOf
+
+abbrev pub scan : Settings → Walk → Reading (Scanned Glyph)
+scan = scanBy glyphOf
 
 -- ---- paint
 
 -- a character's twelve pixels
-unfoldable pub character : List ℕ → ℕ → Bool → Place → List ℕ
+unfoldable pub character : List ℕ → ℕ → Bool → Place Glyph → List ℕ
 character font plain hidden p = twelveColumns plain hidden (p .low) (bitsOf font (p .glyph))
 
 -- the room that is left on a line, from a character's first pixel on: the characters, the last cut, then plain
-unfoldable pub painted : List ℕ → ℕ → Bool → ℕ → List Place → List ℕ
+unfoldable pub painted : List ℕ → ℕ → Bool → ℕ → List (Place Glyph) → List ℕ
 painted font plain hidden room [] = replicate room plain
 painted font plain hidden room (p ∷ ps) = take room (character font plain hidden p) ++ painted font plain hidden (room - 12) ps
 
 -- a line of W pixels. OSD 0: every pixel 0. Else plain before the first character
-unfoldable pub paint : Settings → List ℕ → ℕ → List Place → List ℕ
+unfoldable pub paint : Settings → List ℕ → ℕ → List (Place Glyph) → List ℕ
 paint s font f row =
     cond (s .osd)
     (replicate (min (firstPixelOf (s .dd)) (widthOf (s .ld))) (plainOf (s .fbk))

@@ -9,8 +9,8 @@ use mathlib.Core.List.{List}
 use lib.Dec.{eqb}
 use lib.ListN.{getD}
 use Rattle.facts.proofs.Choice.{either}
-use Rattle.cells.specs.Reading.{descriptor, done, read, fmap, value, cells}
-use Rattle.cells.proofs.Bounds.{Gives, Within, gives-fmap, within-fmap}
+use Rattle.cells.specs.Reading.{Role, descriptor, done, read, fmap, value, cells}
+use Rattle.cells.proofs.Bounds.{Only, only-fmap}
 use Rattle.raster.specs.declared.ScanLine.{ScanLine}
 use Rattle.raster.specs.Raster.{beforeFirst}
 use Rattle.raster.proofs.Laws.{some-after, one-less, last-none, following-in}
@@ -24,16 +24,6 @@ use Rattle.walk.specs.Walk.{even, next, atLeastOne, isSpacing, enabledBy
 -- both bytes at an even address lie below 1,024
 pub even-bound : (a : ℕ) → even a + 1 < 1024
 even-bound a = omega arith
-
--- ---- the descriptor of a line
-
-begun-within : (ch : ℕ) (w : Walk) → Within 1024 (begun ch w)
-unfolding begun Within
-begun-within ch w = either (Within 1024) (over (w .strip)) _ _ (omega arith, λ low. (even-bound (w .descriptor), λ high. tt)) tt
-
-pub nextLine-within : (ch : ℕ) (w : Walk) → Within 1024 (nextLine ch w)
-unfolding nextLine
-nextLine-within ch w = within-fmap 1024 _ (begun ch w) (begun-within ch w)
 
 -- ---- the lines that a strip has left
 
@@ -98,23 +88,28 @@ unfolding linesLeft advanced OnLine
 left-on (Spacing left) h = tt
 left-on (Characters address height zoom enabled line) h = following-in line height zoom h
 
--- a walk whose strip is at a line once it is advanced
-begun-on : (ch : ℕ) (w : Walk) (t : Bool) → over (w .strip) ≡ t
-    → Gives (λ (v : Walk). OnLine (advanced (v .strip)))
-    (cond t
-    (read descriptor (even (w .descriptor)) λ low.
-    read descriptor (even (w .descriptor) + 1) λ high.
-    done (record { descriptor = next (even (w .descriptor)); strip = stripOf ch low high }))
-    (done w))
-unfolding Gives
-begun-on ch w true e = λ low high. left-on (stripOf ch low high) (stripOf-some ch low high)
-begun-on ch w false e = left-on (w .strip) (over-left (w .strip) e)
+-- a line reads two cells at an even address as its descriptor, and brings the strip to one of its lines
+module _ (P : Role → ℕ → Type 0) (descriptors : (c : ℕ) → c < 1024 → P descriptor c) (ch : ℕ) (w : Walk) where
+  -- its strip is at a line once it is advanced
+  begun-only : (t : Bool) → over (w .strip) ≡ t
+      → Only P (λ (v : Walk). OnLine (advanced (v .strip)))
+      (cond t
+      (read descriptor (even (w .descriptor)) λ low.
+      read descriptor (even (w .descriptor) + 1) λ high.
+      done (record { descriptor = next (even (w .descriptor)); strip = stripOf ch low high }))
+      (done w))
+  unfolding Only
+  begun-only true e = (
+    descriptors _ (omega arith),
+    λ low. (descriptors _ (even-bound (w .descriptor)), λ high. left-on (stripOf ch low high) (stripOf-some ch low high)),
+  )
+  begun-only false e = left-on (w .strip) (over-left (w .strip) e)
 
-pub nextLine-on : (ch : ℕ) (w : Walk) → Gives (λ (v : Walk). OnLine (v .strip)) (nextLine ch w)
-unfolding nextLine begun
-nextLine-on ch w =
-    gives-fmap (λ (v : Walk). OnLine (advanced (v .strip))) (λ (v : Walk). OnLine (v .strip)) _ (begun ch w)
-    (begun-on ch w (over (w .strip)) refl) (λ v h. h)
+  pub nextLine-only : Only P (λ (v : Walk). OnLine (v .strip)) (nextLine ch w)
+  unfolding nextLine begun
+  nextLine-only =
+      only-fmap P (λ (v : Walk). OnLine (advanced (v .strip))) (λ (v : Walk). OnLine (v .strip)) _ (begun ch w)
+      (begun-only (over (w .strip)) refl) (λ v h. h)
 
 -- ---- what the code's steps need
 
