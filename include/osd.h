@@ -182,7 +182,8 @@ typedef uint64_t osd_len;
  * 0 (the upper four do not count). PX11 is leftmost.
  *
  *     user character k, 0 to 25   38 bytes at cell 38 * k, so cells 0 to 987; slice s, 1 to 18, at cell 38 * k + 2 * s; the first two
- *                                 bytes are not shown
+ *                                 bytes are never read as a slice: osd_cell says no for them, unless lines of the frame that are
+ *                                 still to come read them as descriptors or codes
  *     font character k, 0 to 127  36 bytes at byte 36 * k; slice s, 1 to 18, at byte 36 * k + 2 * (s - 1)
  *
  * Pixels. One byte, 8 * FBLK + 4 * R + 2 * G + B.

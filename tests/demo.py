@@ -100,7 +100,7 @@ def send_stop_page():
     write(0x3FF0, WIDTH // 12 - 1, 4, 18)          # LD; DD: characters start at pixel 36; CH
     left, right = zip(*((row[:12], row[12:]) for row in DOOR.split()))
     for number, half in enumerate((left, right)):
-        write(38 * number, 0, 0, *packed(rows_of(half)))     # slice 0, which no line shows, then 1 to 18
+        write(38 * number, 0, 0, *packed(rows_of(half)))     # two cells of no slice, then slices 1 to 18
     page = Page(p=2, codes=256)
     page.spacing(10)
     page.row(text(' NEXT STOP          ', YELLOW, BLUE), text('14:32 ', CYAN, BLUE))

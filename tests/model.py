@@ -125,7 +125,7 @@ class Device:
         if self.kind == 'spacing' or not self.shown:
             return line
         n = -(-self.line_of_strip // 2) if self.zoom else self.line_of_strip
-        s = max(1, math.floor(Fraction(18 * n, self.height) + Fraction(1, 2)))      # request K2: 0 is taken as 1
+        s = max(1, math.floor(Fraction(18 * n, self.height) + Fraction(1, 2)))      # 1 to 18: request K2 takes 0 as 1
         mode = control >> 4 & 3
         x, a = 3 * (max(self.registers[1], 4) + 8), self.codes
         while x < width:
@@ -138,7 +138,7 @@ class Device:
             if high & 0x80 and number <= 25:
                 c = 38 * number + 2 * s
                 first, second = read(c), read(c + 1)
-            elif not high & 0x80 and s > 0:
+            elif not high & 0x80:
                 at = 36 * number + 2 * (s - 1)
                 first, second = font[at], font[at + 1]
             row = [second >> i & 1 for i in (3, 2, 1, 0)] + [first >> i & 1 for i in range(7, -1, -1)]

@@ -459,6 +459,62 @@ def tall_letters_over_descriptors_and_codes():
                 top_of_strip(cells, zy)
 
 
+def ask_between(counts, cells, n):
+    """Draws a frame up to each of these counts of its lines, and there asks about n cells from each of these cells on."""
+    drawn = 0
+    for count in sorted(set(counts)):
+        draw(count - drawn, SUM)
+        drawn = count
+        for a in cells:
+            ask(a, n)
+
+
+@case
+def first_cells_of_user_characters():
+    # cells 38 n and 38 n + 1 are never read as a slice; the next two are slice 1, which is shown at the top, but not with CH 1
+    noise(ram, 26)
+    codes(1000, *[(0x71, 0x80 + n) for n in (0, 12, 25)])
+    for zy in range(2):
+        strip(64, 1000, zy=zy)
+        for ch in (1, 18, 37, 63):
+            settings(ld=5, ch=ch, p=1)
+            lines = ch << zy
+            start(lines)
+            ask_between((0, 1, lines - 1, lines), (38 * 0, 38 * 12, 38 * 25), 4)
+    # each of the 26, in a frame of the six lines that show slice 1 and one that shows slice 2
+    strip(64, 1000, zy=1)
+    settings(ch=37, p=1)
+    for n in range(26):
+        codes(1000, (0x71, 0x80 + n))
+        start(7)
+        ask_between((0, 6), (38 * n,), 4)
+    show_sum()
+
+
+@case
+def first_cells_as_descriptors_and_codes():
+    # cells 38 n and 38 n + 1 as a strip's descriptor, read until its first line, and as its code, until its last; the strip shows
+    # user character n or a font character, and a line of spacing follows it
+    for n, p, before in ((0, 0, 0), (12, 7, 4), (25, 7, 251)):
+        first = 38 * n
+        fill(ram, 1)        # spacing strips of one line, of which a page has some before the descriptor
+        for high in (0x80 + n, 0x41):
+            for zy in range(2):
+                for ch in (1, 18, 37, 63):
+                    lines = ch << zy
+                    codes(1000, (0x71, high))
+                    spacing(strip(first, 1000, zy=zy), 1)
+                    settings(ch=ch, p=p)
+                    start(before + lines + 1)
+                    ask_between((0, before, before + 1), (first,), 2)
+                    codes(first, (0x71, high))
+                    strip(64, first, zy=zy)
+                    settings(ch=ch, p=1)
+                    start(lines + 1)
+                    ask_between((0, lines - 1, lines), (first,), 2)
+    show_sum()
+
+
 @case
 def every_height():
     for s in range(19):
@@ -536,7 +592,7 @@ def most_reads():
 
 @case
 def user_character_25():
-    # slice 18 lies at cells 986 and 987; slice 1 at 952 and 953, read with CH 37 and 63 in line 1; slice 0 before it, never read
+    # slice 18 lies at cells 986 and 987; slice 1 at 952 and 953, read with CH 37 and 63 in line 1; the two cells before it are never read
     noise(ram, 14)
     cell(950, 0x55, 0x0A)
     cell(952, 0xCC, 0xF3)

@@ -229,7 +229,7 @@ frame(60, 4)
 both('quiet', shuffled(writes(38 * 5 + 2, 0x55, 0xAA) + writes(38 * 20 + 12, 1, 2)))    # slices 1 and 6, which CH 10 never shows
 page(1, ch=63)
 frame(60, 3)
-both('quiet', shuffled(writes(38 * 5, 0x55, 0xAA), 6))    # slice 0, which no line shows, before the top line of a tall strip
+both('quiet', shuffled(writes(38 * 5, 0x55, 0xAA), 6))    # the first two cells, of no slice, before the top line of a tall strip
 frame(4, 3)
 both('control', writes(38 * 5 + 3, host.ram[193] ^ 15) + draws(1))    # slice 1, which that line shows
 page(1, control=0x20)

@@ -93,14 +93,16 @@ impl ShownRows {
 struct UserSlice {
     /// High byte of the character's code.
     code: u8,
-    /// None: the cell lies behind all user characters.
+    /// 1 to 18. None: the cell is one of a character's first two, which are
+    /// never read as a slice, or lies behind all user characters.
     slice: Option<u16>,
 }
 
 impl UserSlice {
     fn at(cell: u16) -> UserSlice {
-        if cell < ALL_USER_CELLS {
-            UserSlice { code: FIRST_USER + (cell / USER_CELLS) as u8, slice: Some(cell % USER_CELLS / 2) }
+        let (character, place) = (cell / USER_CELLS, cell % USER_CELLS);
+        if cell < ALL_USER_CELLS && place >= 2 {
+            UserSlice { code: FIRST_USER + character as u8, slice: Some(place / 2) }
         } else {
             UserSlice { code: END_OF_LINE, slice: None }
         }

@@ -15,7 +15,9 @@ const BLANKING: u8 = 8;
 
 const FONT_SLICES: usize = 18;
 const FONT_WORDS: usize = FONT_LEN / 2;
-const USER_SLICES: usize = LAST_SLICE as usize + 1;
+/// RAM words of a user character: the first is never read as a slice, and
+/// slices 1 to 18 follow.
+const USER_WORDS: usize = 1 + LAST_SLICE as usize;
 const USER_CHARACTERS: u8 = 26;
 
 /// High byte of the code that ends a line.
@@ -23,7 +25,7 @@ pub(crate) const END_OF_LINE: u8 = 0xFF;
 /// High byte of user character 0; SET in bit 7.
 pub(crate) const FIRST_USER: u8 = 0x80;
 /// RAM cells of a user character.
-pub(crate) const USER_CELLS: u16 = 2 * USER_SLICES as u16;
+pub(crate) const USER_CELLS: u16 = 2 * USER_WORDS as u16;
 /// RAM cells that user characters may take.
 pub(crate) const ALL_USER_CELLS: u16 = USER_CELLS * USER_CHARACTERS as u16;
 
@@ -36,7 +38,7 @@ type FontWords = [[u8; 2]; FONT_WORDS];
 /// that 18 × number stays inside for every number.
 type FontSlice = [[u8; 2]; FONT_SLICES * 127 + 1];
 /// RAM likewise, from user character 0 to 25.
-type UserSlice = [[u8; 2]; USER_SLICES * 25 + 1];
+type UserSlice = [[u8; 2]; USER_WORDS * 25 + 1];
 
 /// Font of the one accepted length, as slices.
 #[inline]
@@ -77,8 +79,6 @@ struct Row<'a> {
     codes: &'a RamWords,
     user: &'a UserSlice,
     font: &'a FontSlice,
-    /// Keeps font bits, or blanks them at slice 0.
-    font_mask: u16,
     /// RAM word of the next code.
     next: usize,
     /// Words of RAM read.
@@ -87,19 +87,14 @@ struct Row<'a> {
 }
 
 impl<'a> Row<'a> {
+    /// `slice` is one that lines show, 1 to 18; slice 1 is the font's first.
     #[inline]
     fn new(ram: &'a RamWords, font: &'a FontWords, row: u16, slice: usize, inks: Inks) -> Row<'a> {
         let slice = slice.min(LAST_SLICE as usize);
-        // Slice 0 is not in the font; any of its rows does under a zero mask.
-        let (font_slice, font_mask) = match slice.checked_sub(1) {
-            Some(font_slice) => (font_slice, 0xFFF),
-            None => (0, 0),
-        };
         Row {
             codes: ram,
             user: ram[slice..].first_chunk().expect("18 + 19 × 25 < 512"),
-            font: font[font_slice..].first_chunk().expect("17 + 18 × 127 < 2304"),
-            font_mask,
+            font: font[slice - 1..].first_chunk().expect("17 + 18 × 127 < 2304"),
             next: usize::from(row),
             reads: 0,
             inks,
@@ -138,10 +133,10 @@ impl<'a> Row<'a> {
         self.next += 1;
         self.reads += 1;
         let bits = match number {
-            0..FIRST_USER => bits_of(self.font[FONT_SLICES * usize::from(number)]) & self.font_mask,
+            0..FIRST_USER => bits_of(self.font[FONT_SLICES * usize::from(number)]),
             FIRST_USER..=LAST_USER => {
                 self.reads += 1;
-                bits_of(self.user[USER_SLICES * usize::from(number - FIRST_USER)]) & 0xFFF
+                bits_of(self.user[USER_WORDS * usize::from(number - FIRST_USER)])
             }
             END_OF_LINE => return None,
             _ => 0,
@@ -175,7 +170,7 @@ impl Inks {
         Inks { plain, background, hiding: if hidden { 0x80 } else { 0 } }
     }
 
-    /// Twelve pixels; `bits` has 1 for foreground.
+    /// Twelve pixels; `bits` has 1 for foreground, and bits above PX11 do nothing.
     #[inline(always)]
     fn character(&self, attributes: u8, bits: u16) -> [u8; COLUMNS] {
         let bits = if attributes & self.hiding == 0 { bits } else { 0 };
@@ -183,9 +178,10 @@ impl Inks {
         let background = self.background[usize::from(attributes & 15)];
         let mut pixels = Pixels { left: background, right: background as u32 };
         pixels.flip(bits, foreground ^ background);
-        // BK3 and BK1: what stands to the right of foreground is shadow.
+        // BK3 and BK1: what stands to the right of foreground is shadow. PX11
+        // has nothing to its left.
         if attributes & 0b1010 == 0b1010 {
-            pixels.flip(bits >> 1 & !bits, eight(BLANKING) ^ background);
+            pixels.flip(bits >> 1 & 0x7FF & !bits, eight(BLANKING) ^ background);
         }
         pixels.bytes()
     }
@@ -198,7 +194,7 @@ struct Pixels {
 }
 
 impl Pixels {
-    /// Changes by exclusive or the pixels whose bit is set.
+    /// Changes by exclusive or the pixels whose bit is set, of the twelve low bits.
     #[inline(always)]
     fn flip(&mut self, bits: u16, change: u64) {
         self.left ^= EIGHT_MASKS[usize::from(bits >> 4 & 0xFF)] & change;

@@ -2,8 +2,7 @@
 
 use crate::{RamWords, RAM_WORDS};
 
-/// Lines show slices 1 to this. A user character has room for a slice 0 too,
-/// which no line shows.
+/// Lines show slices 1 to this.
 pub(crate) const LAST_SLICE: u16 = 18;
 
 /// The two bytes that define a strip.
@@ -180,17 +179,13 @@ pub(crate) struct Steps {
 impl Steps {
     pub(crate) const NONE: Steps = Steps { first: 1, last: 0 };
 
-    /// [`slice_of_step`] turned round: slice 1 has the steps that round to 0
-    /// too, and slice 0 has none.
+    /// [`slice_of_step`] turned round, for slices from 1 on: slice 1 has the
+    /// steps that round to 0 too.
     #[inline]
     pub(crate) fn of_slice(slice: u16, height: u8) -> Steps {
         let height = u16::from(height);
-        let last = ((2 * slice + 1) * height - 1) / 36;
-        match slice {
-            0 => Steps::NONE,
-            1 => Steps { first: 1, last },
-            _ => Steps { first: ((2 * slice - 1) * height).div_ceil(36), last },
-        }
+        let first = if slice == 1 { 1 } else { ((2 * slice - 1) * height).div_ceil(36) };
+        Steps { first, last: ((2 * slice + 1) * height - 1) / 36 }
     }
 
     /// Is one of them in `from..=to`?

@@ -7,7 +7,7 @@ use std::vec;
 use std::vec::Vec;
 
 use crate::bus::Event::{self, Byte, Fetch, Start, Stop};
-use crate::frame::{slice_of_step, Steps};
+use crate::frame::{slice_of_step, Characters, Steps};
 use crate::registers::Registers;
 use crate::{bus_bytes, feed_bytes, Device, Feed, Refusal, DEVICE_LEN, FEED_LEN, FONT_LEN, RAM_LEN};
 
@@ -88,11 +88,21 @@ fn slices() {
         assert_eq!(slice_of_step(step, height), slice);
     }
     for height in 1..64 {
-        for slice in 0..19 {
+        for slice in 1..19 {
             for step in 1..=u16::from(height) {
                 let shown = Steps::of_slice(slice, height).meet(step, step);
                 assert_eq!(shown, slice_of_step(step, height) == slice);
             }
+        }
+    }
+}
+
+#[test]
+fn every_line_shows_a_slice_from_1_to_18() {
+    for (height, zoom) in (1..64).flat_map(|height| [(height, false), (height, true)]) {
+        for drawn in 0..height << u8::from(zoom) {
+            let strip = Characters { row: 0, height, zoom, enabled: true, drawn };
+            assert!((1..=18).contains(&slice_of_step(strip.step(1), height)));
         }
     }
 }
@@ -102,7 +112,7 @@ const TALL: [(u8, u8, u32); 6] = [(36, 0, 2), (37, 0, 3), (63, 0, 5), (36, 0x20,
 
 /// The example's page with CH, ZY and a character of choice: slice 1 of font
 /// character 65 and of user character 1 is 80F, slice 2 is 001; the user
-/// character's slice 0 is FFF.
+/// character's first two cells hold FFF.
 fn tall(height: u8, zoom: u8, code: u8) -> (Device, Vec<u8>, Vec<u8>, Vec<u8>) {
     let (mut device, mut ram, mut font, line) = example();
     poke(&mut device, &mut ram, 0x3FF2, &[height]);
@@ -161,17 +171,112 @@ fn first_cells_as_descriptors_and_codes() {
         }
         cells_left(&device, ram, cells)
     };
-    // Character 0: slice 0 is the strip's descriptor, slice 1 that of line 75.
+    // Character 0: its first cells are the strip's descriptor, slice 1 is that
+    // of line 75.
     assert_eq!(left(&ram, 2, 0, 0..4), [0, 1, 2, 3]);
     assert_eq!(left(&ram, 2, 1, 0..4), [2, 3]);
     assert!(left(&ram, 74, 6, 0..4).is_empty());
     assert_eq!(left(&ram, 75, 6, 0..4), [2, 3]);
-    // Character 1: slice 0 is the code that ends its row.
+    // Character 1: its first cells are the code that ends its row.
     ram[0] = 36;
     ram[36..40].copy_from_slice(&[0x71, 0x81, 0x00, 0xFF]);
     assert_eq!(left(&ram, 2, 0, 38..42), [38, 39, 40, 41]);
     assert_eq!(left(&ram, 2, 1, 38..42), [38, 39, 40, 41]);
     assert_eq!(left(&ram, 7, 6, 38..42), [38, 39]);
+}
+
+/// Request K4. CH, ZY's bit, the strip's lines, and how many of them from the
+/// first on show slice 1.
+const STRIPS: [(u8, u8, u32, u32); 8] = [
+    (1, 0, 1, 0),
+    (18, 0, 18, 1),
+    (37, 0, 37, 3),
+    (63, 0, 63, 5),
+    (1, 0x20, 2, 0),
+    (18, 0x20, 36, 2),
+    (37, 0x20, 74, 6),
+    (63, 0x20, 126, 10),
+];
+
+/// A page P of spacings of one line, and codes from cell 1000 on, behind all
+/// user characters: this one, then the end of the line.
+fn spacings(page: u8, height: u8, code: u8) -> (Device, Vec<u8>, Vec<u8>, Vec<u8>) {
+    let (mut device, _, font, line) = blank();
+    let mut ram = vec![1; RAM_LEN];
+    poke(&mut device, &mut ram, 0x3FF0, &[4, 4, height, 0x80 | page]);
+    ram[1000..1004].copy_from_slice(&[0x71, code, 0x00, 0xFF]);
+    (device, ram, font, line)
+}
+
+/// First cell and code of every user character.
+fn user_characters() -> impl Iterator<Item = (u16, u8)> {
+    (0..26).map(|number| (38 * number, 0x80 + number as u8))
+}
+
+#[test]
+fn first_cells_of_every_user_character() {
+    for (first, code) in user_characters() {
+        let cells = u32::from(first)..u32::from(first) + 4;
+        for (height, zoom, lines, top) in STRIPS {
+            // Page 1 is cells 64 and 65: character 1, but not its first cells.
+            let (mut device, mut ram, font, mut line) = spacings(1, height, code);
+            ram[64..66].copy_from_slice(&[0xE8, 0xC3 | zoom]);
+            device.frame_start(lines).unwrap();
+            for drawn in 0..lines {
+                let slice_1 = if drawn < top { cells.start + 2..cells.end } else { 0..0 };
+                assert_eq!(cells_left(&device, &ram, cells.clone()), Vec::from_iter(slice_1));
+                let descriptor = if drawn == 0 { 2 } else { 0 };
+                assert_eq!(device.draw(&ram, &font, &mut line), Ok(descriptor + 6));
+            }
+            assert!(cells_left(&device, &ram, cells.clone()).is_empty());
+        }
+    }
+}
+
+#[test]
+fn first_cells_of_every_user_character_as_a_descriptor() {
+    for (first, code) in user_characters() {
+        let cells = u32::from(first)..u32::from(first) + 2;
+        let page = (first / 64).min(7);
+        let before = u32::from(first - 64 * page) / 2;
+        for (height, zoom, lines, _) in STRIPS {
+            // The character itself is on screen, or another one.
+            for code in [code, 0x41] {
+                let (mut device, mut ram, font, mut line) = spacings(page as u8, height, code);
+                ram[usize::from(first)..][..2].copy_from_slice(&[0xE8, 0xC3 | zoom]);
+                device.frame_start(before + lines + 1).unwrap();
+                for drawn in 0..before + lines + 1 {
+                    let read = if drawn <= before { cells.clone() } else { 0..0 };
+                    assert_eq!(cells_left(&device, &ram, cells.clone()), Vec::from_iter(read));
+                    device.draw(&ram, &font, &mut line).unwrap();
+                }
+                assert!(cells_left(&device, &ram, cells.clone()).is_empty());
+            }
+        }
+    }
+}
+
+#[test]
+fn first_cells_of_every_user_character_as_a_code() {
+    for (first, code) in user_characters() {
+        let cells = u32::from(first)..u32::from(first) + 2;
+        let [high, low] = first.to_be_bytes();
+        for (height, zoom, lines, _) in STRIPS {
+            for code in [code, 0x41] {
+                let (mut device, mut ram, font, mut line) = spacings(1, height, code);
+                ram[64..66].copy_from_slice(&[low, 0xC0 | zoom | high]);
+                ram.copy_within(1000..1004, usize::from(first));
+                // Behind the strip comes a line of spacing.
+                device.frame_start(lines + 1).unwrap();
+                for drawn in 0..lines + 1 {
+                    let read = if drawn < lines { cells.clone() } else { 0..0 };
+                    assert_eq!(cells_left(&device, &ram, cells.clone()), Vec::from_iter(read));
+                    device.draw(&ram, &font, &mut line).unwrap();
+                }
+                assert!(cells_left(&device, &ram, cells.clone()).is_empty());
+            }
+        }
+    }
 }
 
 #[test]
@@ -476,7 +581,6 @@ impl Slow {
             let (attributes, code) = (ram[address], usize::from(ram[address + 1]));
             address = (address + 2) % 1024;
             let bytes = match code {
-                0..128 if slice == 0 => [0, 0],
                 0..128 => {
                     let at = 36 * code + 2 * (slice - 1);
                     [font[at], font[at + 1]]

@@ -1,4 +1,5 @@
 pub mod Lines
 pub mod Looks
 pub mod Marks
+pub mod Remaining
 pub mod Rows

@@ -27,7 +27,6 @@ use Rattle.walk.specs.Walk.{even, next, stripOf, over, linesLeft, begun, advanc
 use Rattle.walk.proofs.Laws.{left-over, none-over, left-advanced, stripOf-begun}
 use Rattle.glyph.specs.Cells.{ofUser, userSlice}
 use Rattle.glyph.proofs.Cells.{ofSlice}
-use Rattle.glyph.specs.Glyph.{Glyph}
 use Rattle.line.specs.Line.{Place, Scanned, codes, rowBy, shownBy, shownRow, scanBy, scan}
 use Rattle.line.proofs.Strips.{scan-value, scan-cells}
 use Rattle.ahead.specs.Ahead.{remaining}
@@ -56,7 +55,7 @@ unfolding rowCells cells
 rows-none ram s zero t e = refl
 rows-none ram s (suc k) t e =
     let f = still-none t ∙ e in
-    ap₂ (λ (p : Reading (List (Place Glyph))) (l : List ℕ). cells ram p ++ l) (row-none s (advanced t) f) (rows-none ram s k (advanced t) f)
+    ap₂ (λ (p : Reading (List Place)) (l : List ℕ). cells ram p ++ l) (row-none s (advanced t) f) (rows-none ram s k (advanced t) f)
 
 -- the row of one line of characters
 line-reads : (ram : List ℕ) (s : Settings) (address height : ℕ) (zoom : Bool) (line : ScanLine) (c : ℕ) → Bytes ram
@@ -73,7 +72,7 @@ line-reads ram s address height zoom line c b h = by (s .osd)
     slice = interpolated (following line) height zoom
 
     by : (o : Bool) → among c (cells ram (cond o (codes n slice address) (done []))) ≡ rowReads ram c (ofSlice c slice) (cond o n 0) address
-    by true = row-reads ram c n slice address b (slice-range (following line) height zoom (following-in line height zoom h) .to)
+    by true = row-reads ram c n slice address b (slice-range (following line) height zoom (following-in line height zoom h))
     by false = refl
 
 -- the rows of k lines
@@ -159,7 +158,7 @@ line-first ram s n w e =
     cells-bind ram (scan s w) _
     ∙ ap₂ (λ (l : List ℕ) (v : Walk). l ++ cells ram (remaining s n v))
     (scan-cells ram s w ∙ ap (λ (p : Reading Walk). cells ram p ++ cells ram (shownRow s (value ram p .strip))) e)
-    (ap (λ (x : Scanned Glyph). x .walk) (scan-value ram s w) ∙ ap (value ram) e)
+    (ap (λ (x : Scanned). x .walk) (scan-value ram s w) ∙ ap (value ram) e)
 
 -- a strip that has one left
 line-on : (ram : List ℕ) (s : Settings) (n a : ℕ) (t : Strip) → over t ≡ false
@@ -204,7 +203,7 @@ over-same : (ram : List ℕ) (s : Settings) (n a b : ℕ) (t : Strip) → (1 ≤
     → cells ram (remaining s n (at a t)) ≡ cells ram (remaining s n (at b (Spacing 0)))
 unfolding remaining cells
 over-same ram s zero a b t e f = refl
-over-same ram s (suc n) a b t e f = ap (λ (p : Reading (Scanned Glyph)). cells ram (bind p λ x. remaining s n (x .walk))) (same-scan s a b t (e (omega arith)) f)
+over-same ram s (suc n) a b t e f = ap (λ (p : Reading Scanned). cells ram (bind p λ x. remaining s n (x .walk))) (same-scan s a b t (e (omega arith)) f)
 
 -- ---- strip by strip
 

@@ -15,9 +15,9 @@ use Rattle.facts.proofs.Pairs.{pair-is}
 use Rattle.cells.specs.Reading.{Reading, done, bind, fmap, cells, among}
 use Rattle.cells.proofs.Laws.{cells-bind, cells-fmap, among-append}
 use Rattle.raster.specs.declared.Slice.{Slice}
-use Rattle.raster.specs.Raster.{InCharacter}
+use Rattle.raster.specs.Raster.{OnScreen}
 use Rattle.walk.specs.Walk.{even, next}
-use Rattle.glyph.specs.Glyph.{Glyph, endsLine, glyphOf}
+use Rattle.glyph.specs.Glyph.{endsLine, glyphOf}
 use Rattle.glyph.specs.Cells.{userHigh}
 use Rattle.glyph.proofs.Cells.{ofSlice, glyph-reads}
 use Rattle.line.specs.Line.{Place, codesBy, codes}
@@ -35,7 +35,7 @@ first-two false true z = refl
 first-two false false z = refl
 
 -- what a row reads, as the search looks at it
-pub row-reads : (ram : List ℕ) (c n : ℕ) (s : Slice) (a : ℕ) → Bytes ram → InCharacter s
+pub row-reads : (ram : List ℕ) (c n : ℕ) (s : Slice) (a : ℕ) → Bytes ram → OnScreen s
     → among c (cells ram (codes n s a)) ≡ rowReads ram c (ofSlice c s) n a
 unfolding codesBy rowReads cells among
 row-reads ram c zero s a b h = refl
@@ -47,7 +47,7 @@ row-reads ram c (suc n) s a b h =
     high : ℕ
     high = getD ram (even a + 1) 0
 
-    after : Reading (List (Place Glyph))
+    after : Reading (List Place)
     after = bind (glyphOf high s) λ g. fmap (λ places. (record { low = getD ram (even a) 0; glyph = g }) ∷ places) (codes n s (next a))
 
     rest : (t : Bool) → among c (cells ram (codes n s (next a))) ≡ rowReads ram c (ofSlice c s) n (next a)

@@ -1,1 +1,3 @@
+pub mod Claims
+pub mod FirstCells
 pub mod Laws

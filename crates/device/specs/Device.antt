@@ -17,7 +17,6 @@ use Rattle.bus.specs.declared.Event.{Event}
 use Rattle.bus.specs.Bus.{freshBus, BusOutcome, busEvent, busReply}
 use Rattle.walk.specs.declared.Walk.{Walk}
 use Rattle.walk.specs.Walk.{walkFrom}
-use Rattle.glyph.specs.Glyph.{Glyph}
 use Rattle.line.specs.Line.{Scanned, scan, paint}
 use Rattle.ahead.specs.Ahead.{remaining}
 use Rattle.device.specs.declared.Device.{Device}
@@ -117,7 +116,7 @@ pub record DrawOutcome : Type 0 where
   pub reply : Reply
 
 -- the program that the frame's next line is
-abbrev pub nextScan : Device → Reading (Scanned Glyph)
+abbrev pub nextScan : Device → Reading Scanned
 nextScan d = scan (settingsOf (d .registers)) (d .frame .walk)
 
 -- the line's pixels

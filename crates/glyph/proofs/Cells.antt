@@ -1,5 +1,4 @@
--- What a code's glyph reads: two cells of a user character's slice. Which codes read a cell: those of the user character that it belongs
--- to, in its own slice.
+-- Which codes read a cell: those of the user character that it belongs to, in its own slice. What a code can read: cells of slices on screen.
 -- Assumes nothing.
 use Prim.Native.Nat.{ℕ, _+_, _-_, _*_, _/_, _%_, _<_}
 use mathlib.Core.Path.{_≡_, refl, ap, _∙_}
@@ -18,7 +17,7 @@ use Rattle.cells.proofs.Bounds.{Only}
 use Rattle.raster.specs.declared.Slice.{Slice}
 use Rattle.raster.specs.Raster.{InCharacter, OnScreen}
 use Rattle.raster.specs.Search.{sameSlice}
-use Rattle.glyph.specs.Glyph.{Glyph, user, blank, userCell, inRam, glyphOf}
+use Rattle.glyph.specs.Glyph.{Glyph, font, user, blank, userCell, inRam, glyphOf}
 use Rattle.glyph.specs.Cells.{ofUser, userHigh, userSlice}
 
 -- the cell is of a user character's slice s
@@ -35,13 +34,13 @@ module _ (c : ℕ) (s : Slice) where
       (d, omega arith)
 
   -- what a user character's slice reads
-  user-reads : (number : ℕ) → number < 26 → InCharacter s → eqb (c / 2 * 2) (userCell number (s .0)) ≡ ofSlice c s && eqb (128 + number) (userHigh c)
+  user-reads : (number : ℕ) → number < 26 → OnScreen s → eqb (c / 2 * 2) (userCell number (s .0)) ≡ ofSlice c s && eqb (128 + number) (userHigh c)
   unfolding userSlice
   user-reads number h k =
       iff (eqb (c / 2 * 2) (userCell number (s .0))) (ofSlice c s && eqb (128 + number) (userHigh c))
       (λ t.
       let e : c / 2 * 2 ≡ userCell number (s .0) = eqb-yes t in
-      let (d, m) = belongs number k e in
+      let (d, m) = belongs number (k .to) e in
       yes-and (ofSlice c s) (eqb (128 + number) (userHigh c))
       (yes-and (sameSlice s (userSlice c)) (ofUser c) (yes-eqb {a = s .0} {b = c % 38 / 2} (omega arith)) (lt→ltb c 988 (omega arith)))
       (yes-eqb {a = 128 + number} {b = userHigh c} (omega arith)))
@@ -59,7 +58,7 @@ module _ (c : ℕ) (s : Slice) where
       let o = and-yes (ofSlice c s) (eqb high (userHigh c)) t in
       absurd (h (eqb-yes (o .1)) (ltb-yes (and-yes (sameSlice s (userSlice c)) (ofUser c) (o .0) .1))))
 
-  pub glyph-reads : (ram : List ℕ) (high : ℕ) → high < 256 → InCharacter s
+  pub glyph-reads : (ram : List ℕ) (high : ℕ) → high < 256 → OnScreen s
       → among c (cells ram (glyphOf high s)) ≡ ofSlice c s && eqb high (userHigh c)
   unfolding glyphOf inRam cells among
   glyph-reads ram high h k = by (ℕ-discrete (high / 128 % 2) 0) (decLt (high % 128) 26)
@@ -75,20 +74,22 @@ module _ (c : ℕ) (s : Slice) where
           ∙ user-reads (high % 128) l k
           ∙ ap (λ (m : ℕ). ofSlice c s && eqb m (userHigh c)) n)
 
--- ---- what a glyph reads, as slices
+-- ---- what a glyph reads, and what it is
 
-module _ (P : Role → ℕ → Type 0) (s : Slice) (on : OnScreen s) (slices : (c : ℕ) → c < 1024 → OnScreen (userSlice c) → P slice c) where
+module _ (P : Role → ℕ → Type 0) (Q : Glyph → Type 0) (s : Slice) (on : OnScreen s)
+    (slices : (c : ℕ) → c < 1024 → OnScreen (userSlice c) → P slice c)
+    (fonts : (number : ℕ) → Q (font number (s .0))) (users : (first second : ℕ) → Q (user first second)) (none : Q blank) where
   of-slice : (number c : ℕ) → c / 2 * 2 ≡ userCell number (s .0) → OnScreen (userSlice c)
   of-slice number c e =
       let m = belongs c s number (on .to) e .1 in
       record { from = omega (arith, m, on .from); to = omega (arith, m, on .to) }
 
-  pub glyphOf-only : (high : ℕ) → Only P (λ (g : Glyph). Unit {0}) (glyphOf high s)
+  pub glyphOf-only : (high : ℕ) → Only P Q (glyphOf high s)
   unfolding glyphOf inRam Only
-  glyphOf-only high = either (Only P (λ (g : Glyph). Unit {0})) (eqb (high / 128 % 2) 0) _ _ tt (by (ltb (high % 128) 26) refl)
+  glyphOf-only high = either (Only P Q) (eqb (high / 128 % 2) 0) _ _ (fonts (high % 128)) (by (ltb (high % 128) 26) refl)
     where
       by : (t : Bool) → ltb (high % 128) 26 ≡ t
-          → Only P (λ (g : Glyph). Unit {0})
+          → Only P Q
           (cond t
           (read slice (userCell (high % 128) (s .0)) λ first. read slice (userCell (high % 128) (s .0) + 1) λ second. done (user first second))
           (done blank))
@@ -96,6 +97,6 @@ module _ (P : Role → ℕ → Type 0) (s : Slice) (on : OnScreen s) (slices : (
           let a : ℕ = userCell (high % 128) (s .0) in
           let l = ltb-true (high % 128) 26 e in (
             slices a (omega (arith, l, on .to)) (of-slice (high % 128) a (omega arith)),
-            λ first. (slices (a + 1) (omega (arith, l, on .to)) (of-slice (high % 128) (a + 1) (omega arith)), λ second. tt),
+            λ first. (slices (a + 1) (omega (arith, l, on .to)) (of-slice (high % 128) (a + 1) (omega arith)), λ second. users first second),
           )
-      by false e = tt
+      by false e = none

@@ -1,6 +1,7 @@
--- Document 01, "Codes and glyphs": what a code shows in a slice, and which cells that reads.
+-- Document 01, "Codes and glyphs": what a code shows in a slice, and which cells that reads. A slice is 1 to 18; no line asks for another
+-- (`SlicesAsked` of `line`), so what these definitions give for another number is never shown.
 -- Assumes nothing.
-use Prim.Native.Nat.{ℕ, _+_, _-_, _*_, _/_, _%_, _≤_, _<_}
+use Prim.Native.Nat.{ℕ, _+_, _-_, _*_, _/_, _%_, _<_}
 use mathlib.Core.Path.{_≡_}
 use mathlib.Core.Bool.{Bool, cond}
 use mathlib.Core.List.{List}
@@ -23,7 +24,7 @@ pub data Glyph : Type 0 where
 abbrev pub endsLine : ℕ → Bool
 endsLine high = eqb high 255
 
--- a user character's slice s lies at cell 38 × number + 2s (001 prints + s)
+-- a user character's slice s lies at cell 38 × number + 2s (001 prints + s). Its first two cells are of no slice (K4)
 abbrev pub userCell : ℕ → ℕ → ℕ
 userCell number s = 38 * number + 2 * s
 
@@ -46,9 +47,9 @@ fontByte number s = 36 * number + 2 * (s - 1)
 abbrev pub twelve : ℕ → ℕ → ℕ
 twelve first second = second % 16 * 256 + first
 
--- the pixels PX11 to PX0 of a glyph as a number, a bit each. Slice 0 of a font character is blank (H)
+-- the pixels PX11 to PX0 of a glyph as a number, a bit each
 unfoldable pub bitsOf : List ℕ → Glyph → ℕ
-bitsOf f (font number s) = cond (eqb s 0) 0 (twelve (getD f (fontByte number s) 0) (getD f (fontByte number s + 1) 0))
+bitsOf f (font number s) = twelve (getD f (fontByte number s) 0) (getD f (fontByte number s + 1) 0)
 bitsOf f (user first second) = twelve first second
 bitsOf f blank = 0
 
@@ -62,8 +63,6 @@ pub record Lent (ram f : List ℕ) : Type 0 where
   pub ram-length : length ram ≡ ramLength
   pub font-length : length f ≡ fontLength
 
--- a slice that has two bytes: of a font character from 1, of a user character from 0
-pub record Sliced (high s : ℕ) : Type 0 where
-  pub most : s ≤ 18
-  pub of-font : high / 128 % 2 ≡ 0 → 1 ≤ s
-  pub of-user : high / 128 % 2 ≡ 1 → high % 128 < 26
+-- a character with slices: of the font, or a user character 0 to 25
+abbrev pub HasSlices : ℕ → Type 0
+HasSlices high = high / 128 % 2 ≡ 1 → high % 128 < 26

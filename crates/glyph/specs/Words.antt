@@ -1,9 +1,7 @@
 -- What a row's codes show, as the words of their slices.
 -- Assumes nothing.
 use Prim.Native.Nat.{ℕ, _+_, _*_}
-use mathlib.Core.Bool.{cond}
 use mathlib.Core.List.{List}
-use lib.Dec.{eqb}
 use lib.ListN.{length, getD}
 use Rattle.cells.specs.Reading.{value, cells}
 use Rattle.raster.specs.declared.Slice.{Slice}
@@ -17,7 +15,7 @@ inOrder first second = second * 256 + first
 -- those of a glyph, with all their bits, since the code that looks a glyph up leaves the cut to twelve (`bitsOf`) to who paints; 0 where
 -- it has none
 unfoldable pub wordOf : List ℕ → Glyph → ℕ
-wordOf f (font number s) = cond (eqb s 0) 0 (inOrder (getD f (fontByte number s) 0) (getD f (fontByte number s + 1) 0))
+wordOf f (font number s) = inOrder (getD f (fontByte number s) 0) (getD f (fontByte number s + 1) 0)
 wordOf f (user first second) = inOrder first second
 wordOf f blank = 0
 

@@ -3,8 +3,8 @@ ghost use mathlib.Core.Path.{_≡_};
 ghost use Prim.Native.Nat.{_<_};
 ghost use lib.ListN.{length};
 ghost use Rattle.limits.specs.Limits.{ramLength};
-ghost use Rattle.glyph.specs.Glyph.{slicePart, Lent, Sliced};
-ghost use Rattle.raster.specs.Raster.{InCharacter};
+ghost use Rattle.glyph.specs.Glyph.{slicePart, Lent, HasSlices};
+ghost use Rattle.raster.specs.Raster.{InCharacter, OnScreen};
 ghost use Rattle.glyph.specs.Words.{inOrder, wordIn};
 ghost use Rattle.glyph.specs.Cells.{ofUser, userHigh, userSlice};
 use raster::Slice;
@@ -12,7 +12,8 @@ use raster::Slice;
 // The two bytes of a slice: a part of the lent RAM or of the lent font, chosen by SET.
 pub fn slice_bytes<'a>(ram: &'a [u8], font: &'a [u8], high: u8, slice: Slice) -> &'a [u8]
     requires { ⌜ Lent (now ram) (now font) ⌝ }
-    requires { ⌜ Sliced high (slice .0) ⌝ }
+    requires { ⌜ HasSlices high ⌝ }
+    requires { ⌜ OnScreen slice ⌝ }
     ensures part { λ r. ⌜ now r ≡ slicePart (now (ram .entry)) (now (font .entry)) high (slice .0) ⌝ }
     ensures two { λ r. ⌜ length (now r) ≡ 2 ⌝ }
 {
@@ -30,32 +31,24 @@ pub fn slice_bytes<'a>(ram: &'a [u8], font: &'a [u8], high: u8, slice: Slice) ->
 
 // A code's slice as it lies there, two bytes with PX11 to PX0 in the low bits; how many cells that read; is it the end of line?
 pub struct Word {
-    pub bits: u32,
+    pub bits: u16,
     pub cells: u32,
     pub ends: bool,
 }
 
-fn two_bytes(first: u8, second: u8) -> u32
+fn two_bytes(first: u8, second: u8) -> u16
     ensures { λ r. ⌜ r ≡ inOrder first second ⌝ }
 {
-    second as u32 * 256 + first as u32
+    second as u16 * 256 + first as u16
 }
 
-// What a code's high byte shows in a slice. Slice 0 of a font character and characters 26 to 126 are blank. Font codes come most often
-// and are tested first.
+// What a code's high byte shows in a slice. With SET, numbers 26 to 126 are blank. Font codes come most often and are tested first.
 pub fn lookup<'a>(ram: &'a [u8], font: &'a [u8], high: u8, slice: Slice) -> Word
     requires { ⌜ Lent (now ram) (now font) ⌝ }
-    requires { ⌜ InCharacter slice ⌝ }
+    requires { ⌜ OnScreen slice ⌝ }
     ensures { λ r. ⌜ r ≡ wordIn (now (ram .entry)) (now (font .entry)) high slice ⌝ }
 {
     if high < 128 {
-        if slice.0 == 0 {
-            return Word {
-                bits: 0,
-                cells: 0,
-                ends: false,
-            };
-        }
         let part = slice_bytes(ram, font, high, slice);
         return Word {
             bits: two_bytes(part[0], part[1]),
@@ -93,7 +86,7 @@ pub fn user_high(cell: u16) -> u8
     (128 + cell / 38) as u8
 }
 
-// The slice of that character that it belongs to.
+// The number of its slice; 0 in the first two cells of a character, which are of none.
 pub fn user_slice(cell: u16) -> Slice
     ensures slice { λ r. ⌜ r ≡ userSlice cell ⌝ }
     ensures inside { λ r. ⌜ InCharacter r ⌝ }

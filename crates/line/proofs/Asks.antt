@@ -1,12 +1,17 @@
--- What a line can do over any lookup: the cells that it can read, and what it can ask the lookup.
+-- What a line can read and find over any lookup, and which slices it asks for.
 -- Assumes nothing.
 use Prim.Native.Nat.{ℕ, zero, suc, _+_, _<_}
-use mathlib.Core.List.{[]}
+use mathlib.Core.Path.{_≡_, refl, sym, ap, _∙_}
+use mathlib.Core.Bool.{Bool, true, false, cond}
+use mathlib.Core.List.{List, [], _∷_, _++_}
 use native.Mathlib.Omega.{arith}
-use Rattle.facts.proofs.Choice.{either}
 use lib.Dec.{T}
-use Rattle.cells.specs.Reading.{Role, descriptor, code, slice, sameRole, done}
-use Rattle.cells.proofs.Bounds.{Only, only-bind, only-fmap}
+use lib.ListN.{length, getD}
+use Rattle.facts.proofs.Choice.{either}
+use Rattle.cells.specs.Reading.{Role, descriptor, code, slice, sameRole, Reading, done, bind, fmap, value, cellsAs}
+use Rattle.cells.proofs.Laws.{value-bind, value-fmap}
+use Rattle.cells.proofs.Roles.{cellsAs-bind, cellsAs-fmap}
+use Rattle.cells.proofs.Bounds.{Only, only-value, only-as, only-bind, only-fmap}
 use Rattle.registers.specs.declared.Settings.{Settings}
 use Rattle.raster.specs.declared.Slice.{Slice}
 use Rattle.raster.specs.Raster.{OnScreen, charactersOf, interpolated}
@@ -14,66 +19,150 @@ use Rattle.raster.proofs.Rules.{slice-range}
 use Rattle.walk.specs.declared.Strip.{Strip}
 use Rattle.walk.specs.declared.Strip.the-variants.{Spacing, Characters}
 use Rattle.walk.specs.declared.Walk.{Walk}
-use Rattle.walk.specs.Walk.{even, next, nextLine, OnLine}
+use Rattle.walk.specs.Walk.{even, next, over, begun, nextLine, OnLine}
 use Rattle.walk.proofs.Laws.{even-bound, nextLine-only}
 use Rattle.glyph.specs.Glyph.{Glyph, endsLine, glyphOf}
 use Rattle.glyph.specs.Cells.{userSlice}
 use Rattle.glyph.proofs.Cells.{glyphOf-only}
-use Rattle.line.specs.Line.{Lookup, codesBy, rowBy, shownBy, Scanned, scanBy, scan}
-use Rattle.line.specs.Rules.{asked, EachGives}
+use Rattle.line.specs.Line.{Place, codesBy, codes, rowBy, shownBy, shownRow, Scanned, scanBy, scan}
+use Rattle.line.specs.Asked.{noting, slicesAsked, FontOnScreen, EachGlyph, SlicesAsked}
 
--- if what a lookup reads and gives for a slice on screen has P and Q, then so has what a line reads and what its codes give
-module _ {G : Type 0} (look : Lookup G) (P : Role → ℕ → Type 0) (Q : G → Type 0)
-    (descriptors : (c : ℕ) → c < 1024 → P descriptor c) (codes : (c : ℕ) → c < 1024 → P code c)
+-- ---- over any lookup
+
+-- if what a lookup reads and gives for slices on screen has P and Q, then so has what a line reads, and each glyph of its row
+module _ (look : ℕ → Slice → Reading Glyph) (P : Role → ℕ → Type 0) (Q : Glyph → Type 0)
+    (descriptors : (c : ℕ) → c < 1024 → P descriptor c) (code-cells : (c : ℕ) → c < 1024 → P code c)
     (looks : (high : ℕ) (s : Slice) → OnScreen s → Only P Q (look high s)) where
-  codes-only : (n : ℕ) (s : Slice) (a : ℕ) → OnScreen s → Only P (EachGives Q) (codesBy look n s a)
-  unfolding codesBy Only EachGives
+  codes-only : (n : ℕ) (s : Slice) (a : ℕ) → OnScreen s → Only P (EachGlyph Q) (codesBy look n s a)
+  unfolding codesBy Only EachGlyph
   codes-only zero s a h = tt
   codes-only (suc n) s a h = (
-    codes _ (omega (arith, even-bound a)),
+    code-cells _ (omega (arith, even-bound a)),
     λ low. (
-      codes _ (even-bound a),
+      code-cells _ (even-bound a),
       λ high.
-          either (Only P (EachGives Q)) (endsLine high) (done []) _ tt
-          (only-bind P Q (EachGives Q) (look high s) _ (looks high s h)
-          (λ g q. only-fmap P (EachGives Q) (EachGives Q) _ (codesBy look n s (next a)) (codes-only n s (next a) h) (λ places qs. (q, qs)))),
+          either (Only P (EachGlyph Q)) (endsLine high) (done []) _ tt
+          (only-bind P Q (EachGlyph Q) (look high s) _ (looks high s h)
+          (λ g q. only-fmap P (EachGlyph Q) (EachGlyph Q) _ (codesBy look n s (next a)) (codes-only n s (next a) h) (λ places qs. (q, qs)))),
     ),
   )
 
-  none-only : Only P (EachGives Q) (done [])
-  unfolding Only EachGives
+  none-only : Only P (EachGlyph Q) (done [])
+  unfolding Only EachGlyph
   none-only = tt
 
-  row-only : (n : ℕ) (t : Strip) → OnLine t → Only P (EachGives Q) (rowBy look n t)
+  row-only : (n : ℕ) (t : Strip) → OnLine t → Only P (EachGlyph Q) (rowBy look n t)
   unfolding rowBy OnLine
   row-only n (Spacing left) h = none-only
   row-only n (Characters address height zoom enabled line) h =
-      either (Only P (EachGives Q)) enabled _ _ (codes-only n (interpolated line height zoom) address (slice-range line height zoom h)) none-only
+      either (Only P (EachGlyph Q)) enabled _ _ (codes-only n (interpolated line height zoom) address (slice-range line height zoom h)) none-only
 
-  pub scan-only : (s : Settings) (w : Walk) → Only P (λ (x : Scanned G). EachGives Q (x .row)) (scanBy look s w)
+  pub scan-only : (s : Settings) (w : Walk) → Only P (λ (x : Scanned). EachGlyph Q (x .row)) (scanBy look s w)
   unfolding scanBy shownBy
   scan-only s w =
       only-bind P (λ (v : Walk). OnLine (v .strip)) _ (nextLine (s .ch) w) _ (nextLine-only P descriptors (s .ch) w)
       (λ v h.
-      only-fmap P (EachGives Q) _ _ _
-      (either (Only P (EachGives Q)) (s .osd) _ _ (row-only (charactersOf (s .ld) (s .dd)) (v .strip) h) none-only) (λ row q. q))
+      only-fmap P (EachGlyph Q) _ _ _
+      (either (Only P (EachGlyph Q)) (s .osd) _ _ (row-only (charactersOf (s .ld) (s .dd)) (v .strip) h) none-only) (λ row q. q))
 
--- ---- the cells that a line reads
+-- ---- what a line reads, and its glyphs
 
 -- cells of the RAM; as slices, those of slices on screen
 pub record Allowed (q : Role) (c : ℕ) : Type 0 where
   pub below : c < 1024
   pub on-screen : T (sameRole slice q) → OnScreen (userSlice c)
 
-pub scan-allowed : (s : Settings) (w : Walk) → Only Allowed (λ (x : Scanned Glyph). EachGives (λ (g : Glyph). Unit {0}) (x .row)) (scan s w)
-unfolding sameRole
+pub scan-allowed : (s : Settings) (w : Walk) → Only Allowed (λ (x : Scanned). EachGlyph FontOnScreen (x .row)) (scan s w)
+unfolding sameRole FontOnScreen
 scan-allowed =
-    scan-only glyphOf Allowed (λ (g : Glyph). Unit {0}) (λ c l. record { below = l; on-screen = λ t. absurd t })
+    scan-only glyphOf Allowed FontOnScreen (λ c l. record { below = l; on-screen = λ t. absurd t })
     (λ c l. record { below = l; on-screen = λ t. absurd t })
-    (λ high s h. glyphOf-only Allowed s h (λ c l o. record { below = l; on-screen = λ t. o }) high)
+    (λ high s h. glyphOf-only Allowed FontOnScreen s h (λ c l o. record { below = l; on-screen = λ t. o }) (λ number. h) (λ first second. tt) tt high)
 
--- ---- the slices that it asks for
+-- ---- what a line notes of the slices that it asks for
 
-pub asks-only : (s : Settings) (w : Walk) → Only (λ (q : Role) (c : ℕ). Unit {0}) (λ (x : Scanned Slice). EachGives OnScreen (x .row)) (scanBy asked s w)
-unfolding Only asked
-asks-only = scan-only asked (λ (q : Role) (c : ℕ). Unit {0}) OnScreen (λ c l. tt) (λ c l. tt) (λ high s h. h)
+-- what is read as a slice is the number of one on screen
+abbrev Noted : Role → ℕ → Type 0
+Noted q c = T (sameRole slice q) → OnScreen (record { 0 = c })
+
+noted : (s : Settings) (w : Walk) → Only Noted (λ (x : Scanned). EachGlyph (λ (g : Glyph). Unit {0}) (x .row)) (scanBy noting s w)
+unfolding sameRole noting Only
+noted = scan-only noting Noted (λ (g : Glyph). Unit {0}) (λ c l t. absurd t) (λ c l t. absurd t) (λ high s h. (λ t. h, λ x. tt))
+
+module _ (ram : List ℕ) where
+  -- as many as there are characters
+  abbrev AsMany : Reading (List Place) → Reading (List Place) → Type 0
+  AsMany p q = length (cellsAs slice ram p) ≡ length (value ram q)
+
+  none-each : AsMany (done []) (done [])
+  unfolding cellsAs value
+  none-each = refl
+
+  codes-each : (n : ℕ) (s : Slice) (a : ℕ) → AsMany (codesBy noting n s a) (codes n s a)
+  unfolding codesBy noting bind cellsAs sameRole value
+  codes-each zero s a = refl
+  codes-each (suc n) s a = by (endsLine (getD ram (even a + 1) 0)) (codes-each n s (next a))
+    where
+      low : ℕ
+      low = getD ram (even a) 0
+
+      high : ℕ
+      high = getD ram (even a + 1) 0
+
+      at : Glyph → List Place → List Place
+      at g places = (record { low = low; glyph = g }) ∷ places
+
+      by : (t : Bool) → AsMany (codesBy noting n s (next a)) (codes n s (next a))
+          → AsMany (cond t (done []) (bind (noting high s) λ g. fmap (at g) (codesBy noting n s (next a))))
+          (cond t (done []) (bind (glyphOf high s) λ g. fmap (at g) (codes n s (next a))))
+      by true e = refl
+      by false e =
+          ap (λ (l : List ℕ). suc (length l)) (cellsAs-fmap slice ram _ (codesBy noting n s (next a)))
+          ∙ ap suc e
+          ∙ sym (ap length (value-bind ram (glyphOf high s) _ ∙ value-fmap ram _ (codes n s (next a))))
+
+  row-each : (n : ℕ) (t : Strip) → AsMany (rowBy noting n t) (rowBy glyphOf n t)
+  unfolding rowBy
+  row-each n (Spacing left) = none-each
+  row-each n (Characters address height zoom enabled line) = by enabled
+    where
+      by : (t : Bool)
+          → AsMany (cond t (codesBy noting n (interpolated line height zoom) address) (done []))
+          (cond t (codes n (interpolated line height zoom) address) (done []))
+      by true = codes-each n (interpolated line height zoom) address
+      by false = none-each
+
+  shown-each : (s : Settings) (t : Strip) → AsMany (shownBy noting s t) (shownRow s t)
+  unfolding shownBy
+  shown-each s t = by (s .osd)
+    where
+      by : (b : Bool)
+          → AsMany (cond b (rowBy noting (charactersOf (s .ld) (s .dd)) t) (done [])) (cond b (rowBy glyphOf (charactersOf (s .ld) (s .dd)) t) (done []))
+      by true = row-each (charactersOf (s .ld) (s .dd)) t
+      by false = none-each
+
+  -- a walk's next line reads no slice
+  walk-none : (ch : ℕ) (w : Walk) → cellsAs slice ram (nextLine ch w) ≡ []
+  unfolding nextLine begun cellsAs sameRole
+  walk-none ch w =
+      cellsAs-fmap slice ram _ (begun ch w) ∙ either (λ (p : Reading Walk). cellsAs slice ram p ≡ []) (over (w .strip)) _ _ refl refl
+
+  each-asked : (s : Settings) (w : Walk) → length (slicesAsked ram s w) ≡ length (value ram (scan s w) .row)
+  unfolding slicesAsked scanBy
+  each-asked s w =
+      let v : Walk = value ram (nextLine (s .ch) w) in
+      let row : Reading Scanned = fmap (λ (places : List Place). record { walk = v; row = places }) (shownBy noting s (v .strip)) in
+      ap length (cellsAs-bind slice ram (nextLine (s .ch) w) _
+      ∙ ap (λ (l : List ℕ). l ++ cellsAs slice ram row) (walk-none (s .ch) w)
+      ∙ cellsAs-fmap slice ram _ (shownBy noting s (v .strip)))
+      ∙ shown-each s (v .strip)
+      ∙ sym (ap (λ (x : Scanned). length (x .row)) (value-bind ram (nextLine (s .ch) w) _ ∙ value-fmap ram _ (shownRow s (v .strip))))
+
+pub slices-asked : SlicesAsked
+unfolding slicesAsked sameRole
+slices-asked ram s w =
+    record {
+      each = each-asked ram s w;
+      on-screen = λ t m. only-as Noted _ ram slice (scanBy noting s w) (noted s w) t m tt;
+      in-font = only-value Allowed (λ (x : Scanned). EachGlyph FontOnScreen (x .row)) ram (scan s w) (scan-allowed s w);
+    }

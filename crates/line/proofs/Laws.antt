@@ -12,25 +12,25 @@ use Rattle.registers.specs.declared.Registers.{Registers}
 use Rattle.registers.specs.Registers.{settingsOf}
 use Rattle.registers.proofs.Laws.{fbk-bound}
 use Rattle.raster.specs.Raster.{widthOf, firstPixelOf, hiddenIn}
-use Rattle.glyph.specs.Glyph.{Glyph, bitsOf}
+use Rattle.glyph.specs.Glyph.{bitsOf}
 use Rattle.paint.specs.Pixels.{plainOf}
 use Rattle.paint.proofs.Laws.{Pixels, pixels-at, pixels-append, pixels-take, pixels-replicate, twelve-length, twelve-pixels}
 use Rattle.line.specs.Line.{Place, character, painted, paint}
 
 -- ---- the width
 
-pub character-length : (font : List ℕ) (plain : ℕ) (hidden : Bool) (p : Place Glyph) → length (character font plain hidden p) ≡ 12
+pub character-length : (font : List ℕ) (plain : ℕ) (hidden : Bool) (p : Place) → length (character font plain hidden p) ≡ 12
 unfolding character
 character-length font plain hidden p = twelve-length plain hidden (p .low) (bitsOf font (p .glyph))
 
-pub painted-length : (font : List ℕ) (plain : ℕ) (hidden : Bool) (room : ℕ) (ps : List (Place Glyph)) → length (painted font plain hidden room ps) ≡ room
+pub painted-length : (font : List ℕ) (plain : ℕ) (hidden : Bool) (room : ℕ) (ps : List Place) → length (painted font plain hidden room ps) ≡ room
 unfolding painted
 painted-length font plain hidden room [] = length-replicate room plain
 painted-length font plain hidden room (p ∷ ps) =
     simp (length-append, length-take, character-length, painted-length font plain hidden (room - 12) ps) (omega arith)
 
 -- a drawn line has exactly W pixels
-pub paint-length : (s : Settings) (font : List ℕ) (f : ℕ) (row : List (Place Glyph)) → length (paint s font f row) ≡ widthOf (s .ld)
+pub paint-length : (s : Settings) (font : List ℕ) (f : ℕ) (row : List Place) → length (paint s font f row) ≡ widthOf (s .ld)
 unfolding paint
 paint-length s font f row =
     either (λ (l : List ℕ). length l ≡ widthOf (s .ld)) (s .osd) _ _ (simp (length-append, length-replicate, painted-length) (omega arith))
@@ -38,14 +38,14 @@ paint-length s font f row =
 
 -- ---- the pixels
 
-painted-pixels : (font : List ℕ) (plain : ℕ) (hidden : Bool) (room : ℕ) (ps : List (Place Glyph)) → plain < 16 → Pixels (painted font plain hidden room ps)
+painted-pixels : (font : List ℕ) (plain : ℕ) (hidden : Bool) (room : ℕ) (ps : List Place) → plain < 16 → Pixels (painted font plain hidden room ps)
 unfolding painted character
 painted-pixels font plain hidden room [] h = pixels-replicate room plain h
 painted-pixels font plain hidden room (p ∷ ps) h =
     pixels-append (pixels-take room (twelve-pixels plain hidden (p .low) (bitsOf font (p .glyph)) h))
     (painted-pixels font plain hidden (room - 12) ps h)
 
-paint-pixels : (s : Settings) (font : List ℕ) (f : ℕ) (row : List (Place Glyph)) → s .fbk < 2 → Pixels (paint s font f row)
+paint-pixels : (s : Settings) (font : List ℕ) (f : ℕ) (row : List Place) → s .fbk < 2 → Pixels (paint s font f row)
 unfolding paint
 paint-pixels s font f row h =
     either Pixels (s .osd) _ _
@@ -54,5 +54,5 @@ paint-pixels s font f row h =
     (pixels-replicate (widthOf (s .ld)) 0 (omega arith))
 
 -- each pixel of a line is below 16
-pub paint-below : (r : Registers) (font : List ℕ) (f : ℕ) (row : List (Place Glyph)) (i : ℕ) → getD (paint (settingsOf r) font f row) i 0 < 16
+pub paint-below : (r : Registers) (font : List ℕ) (f : ℕ) (row : List Place) (i : ℕ) → getD (paint (settingsOf r) font f row) i 0 < 16
 paint-below r font f row = pixels-at (paint-pixels (settingsOf r) font f row (fbk-bound r))

@@ -2,16 +2,16 @@
 -- Assumes nothing.
 use Prim.Native.Nat.{ℕ, _≤_, _<_}
 use native.Mathlib.Omega.{arith}
-use Rattle.cells.specs.Reading.{Role, slice, sameRole}
-use Rattle.cells.proofs.Bounds.{only-value, only-cells, only-as}
+use Rattle.cells.specs.Reading.{slice, sameRole}
+use Rattle.cells.proofs.Bounds.{only-cells, only-as}
 use Rattle.registers.specs.declared.Settings.{Settings}
 use Rattle.registers.specs.Registers.{settingsOf}
 use Rattle.registers.proofs.Laws.{ld-bound}
 use Rattle.raster.specs.Raster.{charactersOf}
-use Rattle.line.specs.Line.{scanBy, scan}
-use Rattle.line.specs.Rules.{asked, slicesAsked, MostCells, SlicesAsked, LinePixels}
+use Rattle.line.specs.Line.{scan}
+use Rattle.line.specs.Rules.{MostCells, LinePixels}
 use Rattle.line.proofs.Laws.{paint-length, paint-below}
-use Rattle.line.proofs.Asks.{Allowed, scan-allowed, asks-only}
+use Rattle.line.proofs.Asks.{Allowed, scan-allowed}
 use Rattle.line.proofs.Counts.{scan-descriptors, scan-codes, scan-slices, characters-bound, line-most}
 
 pub most-cells : MostCells
@@ -27,10 +27,6 @@ most-cells r w ram =
       below = only-cells Allowed _ ram (λ (c : ℕ). c < 1024) (λ q c a. a .below) (scan s w) (scan-allowed s w);
       on-screen = λ c t. only-as Allowed _ ram slice (scan s w) (scan-allowed s w) c t .on-screen tt;
     }
-
-pub slices-asked : SlicesAsked
-unfolding slicesAsked
-slices-asked s w ram = only-value (λ (q : Role) (c : ℕ). Unit {0}) _ ram (scanBy asked s w) (asks-only s w)
 
 pub line-pixels : LinePixels
 line-pixels r font f row = record { wide = paint-length (settingsOf r) font f row; below = paint-below r font f row }

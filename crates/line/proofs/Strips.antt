@@ -16,7 +16,7 @@ use Rattle.registers.specs.declared.Settings.{Settings}
 use Rattle.registers.specs.Registers.{settingsOf}
 use Rattle.raster.specs.declared.ScanLine.{ScanLine}
 use Rattle.raster.specs.declared.Slice.{Slice}
-use Rattle.raster.specs.Raster.{InStrip, InCharacter, interpolated, widthOf, firstPixelOf, hiddenIn}
+use Rattle.raster.specs.Raster.{InStrip, OnScreen, interpolated, widthOf, firstPixelOf, hiddenIn}
 use Rattle.raster.proofs.Rules.{slice-range}
 use Rattle.walk.specs.declared.Strip.{Strip}
 use Rattle.walk.specs.declared.Strip.the-variants.{Spacing, Characters}
@@ -24,7 +24,7 @@ use Rattle.walk.specs.declared.Walk.{Walk}
 use Rattle.walk.specs.Walk.{nextLine, OnLine, walked}
 use Rattle.walk.specs.declared.Walked.{Walked}
 use Rattle.walk.proofs.Laws.{nextLine-only}
-use Rattle.glyph.specs.Glyph.{Glyph, glyphOf}
+use Rattle.glyph.specs.Glyph.{glyphOf}
 use Rattle.line.specs.declared.Pen.{Pen}
 use Rattle.paint.specs.Pixels.{plainOf}
 use Rattle.line.specs.Line.{Place, rowBy, shownBy, shownRow, Scanned, scanBy, scan, paint}
@@ -102,8 +102,8 @@ strip-plain ram font s strip f out out′ w q o none e =
           e
           ∙ ap (λ (k : ℕ). replicate k (plainOf (s .fbk)) ++ drop k out) q
           ∙ ap (λ (l : List ℕ). l ++ drop (widthOf (s .ld)) out) (sym plain)
-          ∙ ap (λ (p : Reading (List (Place Glyph))). paint s font f (value ram p) ++ drop (widthOf (s .ld)) out) (sym row);
-      reads = ap (λ (p : Reading (List (Place Glyph))). length (cells ram p)) (sym row);
+          ∙ ap (λ (p : Reading (List Place)). paint s font f (value ram p) ++ drop (widthOf (s .ld)) out) (sym row);
+      reads = ap (λ (p : Reading (List Place)). length (cells ram p)) (sym row);
     }
 
 -- spacing, and characters with DE 0, have no row
@@ -147,8 +147,8 @@ pub on-line : (strip : Strip) {address height : ℕ} {zoom enabled : Bool} {line
 unfolding OnLine
 on-line strip e h = subst OnLine e h
 
-pub slice-most : (r : Slice) (j : ScanLine) (ch : ℕ) (zoom : Bool) → r ≡ interpolated j ch zoom → InStrip j ch zoom → InCharacter r
-slice-most r j ch zoom e h = subst InCharacter (sym e) (slice-range j ch zoom h .to)
+pub slice-on : (r : Slice) (j : ScanLine) (ch : ℕ) (zoom : Bool) → r ≡ interpolated j ch zoom → InStrip j ch zoom → OnScreen r
+slice-on r j ch zoom e h = subst OnScreen (sym e) (slice-range j ch zoom h)
 
 -- ---- the frame's next line
 
@@ -187,8 +187,8 @@ module _ (ram font : List ℕ) (r : Registers) (w : Walk) (f : ℕ) (out : List 
       record {
         pixels =
             d .pixels
-            ∙ ap (λ (x : Scanned Glyph). paint (settingsOf r) font f (x .row) ++ drop (widthOf (settingsOf r .ld)) out) (sym (scan-value ram (settingsOf r) w));
-        walk = ap (λ (x : Scanned Glyph). x .walk) (sym (scan-value ram (settingsOf r) w));
+            ∙ ap (λ (x : Scanned). paint (settingsOf r) font f (x .row) ++ drop (widthOf (settingsOf r .ld)) out) (sym (scan-value ram (settingsOf r) w));
+        walk = ap (λ (x : Scanned). x .walk) (sym (scan-value ram (settingsOf r) w));
         reads = ap (λ (k : ℕ). length (cells ram (nextLine (settingsOf r .ch) w)) + k) (d .reads) ∙ sym (scan-length ram (settingsOf r) w);
       }
 

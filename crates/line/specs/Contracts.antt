@@ -12,7 +12,7 @@ use Rattle.registers.specs.Registers.{settingsOf}
 use Rattle.raster.specs.Raster.{widthOf, charactersIn}
 use Rattle.walk.specs.declared.Strip.{Strip}
 use Rattle.walk.specs.declared.Walk.{Walk}
-use Rattle.glyph.specs.Glyph.{Glyph, endsLine, glyphOf}
+use Rattle.glyph.specs.Glyph.{endsLine, glyphOf}
 use Rattle.paint.specs.Tables.{columnPixels}
 use Rattle.line.specs.declared.Pen.{Pen}
 use Rattle.line.specs.declared.Coded.{Coded}
@@ -20,7 +20,7 @@ use Rattle.line.specs.declared.Line.{Line}
 use Rattle.line.specs.Line.{Place, codes, shownRow, scan, character, painted, paint}
 
 -- what stands at the code of an even address
-abbrev pub placeAt : List ℕ → Pen → ℕ → Place Glyph
+abbrev pub placeAt : List ℕ → Pen → ℕ → Place
 placeAt ram pen a = record { low = getD ram a 0; glyph = value ram (glyphOf (getD ram (a + 1) 0) (pen .slice)) }
 
 -- the code at an even address: does it end the line, how many cells did it read, and which columns does its character have?
@@ -30,7 +30,7 @@ pub record CodeShown (ram font : List ℕ) (at : ℕ) (pen : Pen) (c : Coded) : 
   pub pixels : c .ended ≡ false → columnPixels (c .columns) ≡ character font (pen .plain) (pen .hidden) (placeAt ram pen at)
 
 -- the codes that there is room for, and the pixels of that room
-abbrev pub rowIn : Pen → ℕ → ℕ → Reading (List (Place Glyph))
+abbrev pub rowIn : Pen → ℕ → ℕ → Reading (List Place)
 rowIn pen room a = codes (charactersIn room) (pen .slice) a
 
 abbrev pub roomOf : List ℕ → List ℕ → Pen → ℕ → ℕ → List ℕ

@@ -9,7 +9,7 @@ use Rattle.cells.specs.Reading.{code, cells, cellsAs}
 use Rattle.registers.specs.declared.Settings.{Settings}
 use Rattle.raster.specs.Raster.{sliceNumber, firstPixelOf, hiddenIn}
 use Rattle.walk.specs.declared.Walk.{Walk}
-use Rattle.glyph.specs.Glyph.{Glyph, glyphOf}
+use Rattle.glyph.specs.Glyph.{glyphOf}
 use Rattle.paint.specs.Pixels.{plainOf}
 use Rattle.line.specs.Line.{Place, scan, character, paint}
 
@@ -32,7 +32,7 @@ Holds (start dd x) = firstPixelOf dd ≡ x
 -- a code is two cells
 Holds (mostCodes ld dd n) = (s : Settings) (w : Walk) (ram : List ℕ) → s .ld ≡ ld → s .dd ≡ dd → length (cellsAs code ram (scan s w)) ≤ 2 * n
 Holds (secondCut ld dd n) =
-    (s : Settings) (fnt : List ℕ) (f : ℕ) (p q : Place Glyph) → s .ld ≡ ld → s .dd ≡ dd → s .osd ≡ true
+    (s : Settings) (fnt : List ℕ) (f : ℕ) (p q : Place) → s .ld ≡ ld → s .dd ≡ dd → s .osd ≡ true
     → paint s fnt f (p ∷ q ∷ [])
     ≡ replicate (firstPixelOf dd) (plainOf (s .fbk))
     ++ (character fnt (plainOf (s .fbk)) (hiddenIn (s .fl) f) p ++ take n (character fnt (plainOf (s .fbk)) (hiddenIn (s .fl) f) q))

@@ -1,3 +1,4 @@
+pub mod Asked
 pub mod Contracts
 pub mod Edges
 pub mod Line

@@ -18,19 +18,17 @@ use Rattle.glyph.specs.Glyph.{Glyph, endsLine, glyphOf, bitsOf}
 use Rattle.paint.specs.Pixels.{plainOf, twelveColumns}
 
 -- ---- scan
+-- What a code shows is asked of a lookup, by its high byte and the slice. The program of a line is written over any lookup, so that what it
+-- asks can be told apart from what it is given.
 
--- a lookup says what a code's high byte shows in a slice. A line's program is the same over any lookup
-abbrev pub Lookup : Type 0 → Type 0
-Lookup G = ℕ → Slice → Reading G
-
--- a character's place on the line: the code's low byte, and its glyph, or what else a lookup gives
-pub record Place (G : Type 0) : Type 0 where
+-- a character's place on the line: the code's low byte, and its glyph
+pub record Place : Type 0 where
   pub low : ℕ
-  pub glyph : G
+  pub glyph : Glyph
 
--- the codes from an address on, n at the most, up to the end of line (whose two bytes are read), looked up in a slice. A code is two
--- bytes at an even address, address plus 2 for the next, wrapping at 1,024
-unfoldable pub codesBy : {G : Type 0} → Lookup G → ℕ → Slice → ℕ → Reading (List (Place G))
+-- the codes from an address on, n at the most, up to the end of line (whose two bytes are read), each looked up in the slice. A code is
+-- two bytes at an even address, address plus 2 for the next, wrapping at 1,024
+unfoldable pub codesBy : (ℕ → Slice → Reading Glyph) → ℕ → Slice → ℕ → Reading (List Place)
 codesBy look zero s a = done []
 codesBy look (suc n) s a =
     read code (even a) λ low.
@@ -40,46 +38,46 @@ codesBy look (suc n) s a =
     (bind (look high s) λ g. fmap (λ places. (record { low = low; glyph = g }) ∷ places) (codesBy look n s (next a)))
 
 -- what stands on a line of the strip. In spacing strips and strips with DE 0 no code is read
-unfoldable pub rowBy : {G : Type 0} → Lookup G → ℕ → Strip → Reading (List (Place G))
+unfoldable pub rowBy : (ℕ → Slice → Reading Glyph) → ℕ → Strip → Reading (List Place)
 rowBy look n (Spacing left) = done []
 rowBy look n (Characters address height zoom enabled line) =
     cond enabled (codesBy look n (interpolated line height zoom) address) (done [])
 
 -- OSD 0: codes and slices are not read. Codes are read while the next character's first pixel is below W
-unfoldable pub shownBy : {G : Type 0} → Lookup G → Settings → Strip → Reading (List (Place G))
+unfoldable pub shownBy : (ℕ → Slice → Reading Glyph) → Settings → Strip → Reading (List Place)
 shownBy look s strip = cond (s .osd) (rowBy look (charactersOf (s .ld) (s .dd)) strip) (done [])
 
-pub record Scanned (G : Type 0) : Type 0 where
+pub record Scanned : Type 0 where
   pub walk : Walk
-  pub row : List (Place G)
+  pub row : List Place
 
 -- a line reads its descriptor, with OSD 0 too, and then its row
-unfoldable pub scanBy : {G : Type 0} → Lookup G → Settings → Walk → Reading (Scanned G)
+unfoldable pub scanBy : (ℕ → Slice → Reading Glyph) → Settings → Walk → Reading Scanned
 scanBy look s w = bind (nextLine (s .ch) w) λ v. fmap (λ row. record { walk = v; row = row }) (shownBy look s (v .strip))
 
--- a line looks its codes up as glyphs
-abbrev pub codes : ℕ → Slice → ℕ → Reading (List (Place Glyph))
+-- the lookup is `glyphOf`
+abbrev pub codes : ℕ → Slice → ℕ → Reading (List Place)
 codes = codesBy glyphOf
 
-abbrev pub shownRow : Settings → Strip → Reading (List (Place Glyph))
+abbrev pub shownRow : Settings → Strip → Reading (List Place)
 shownRow = shownBy glyphOf
 
-abbrev pub scan : Settings → Walk → Reading (Scanned Glyph)
+abbrev pub scan : Settings → Walk → Reading Scanned
 scan = scanBy glyphOf
 
 -- ---- paint
 
 -- a character's twelve pixels
-unfoldable pub character : List ℕ → ℕ → Bool → Place Glyph → List ℕ
+unfoldable pub character : List ℕ → ℕ → Bool → Place → List ℕ
 character font plain hidden p = twelveColumns plain hidden (p .low) (bitsOf font (p .glyph))
 
 -- the room that is left on a line, from a character's first pixel on: the characters, the last cut, then plain
-unfoldable pub painted : List ℕ → ℕ → Bool → ℕ → List (Place Glyph) → List ℕ
+unfoldable pub painted : List ℕ → ℕ → Bool → ℕ → List Place → List ℕ
 painted font plain hidden room [] = replicate room plain
 painted font plain hidden room (p ∷ ps) = take room (character font plain hidden p) ++ painted font plain hidden (room - 12) ps
 
 -- a line of W pixels. OSD 0: every pixel 0. Else plain before the first character
-unfoldable pub paint : Settings → List ℕ → ℕ → List (Place Glyph) → List ℕ
+unfoldable pub paint : Settings → List ℕ → ℕ → List Place → List ℕ
 paint s font f row =
     cond (s .osd)
     (replicate (min (firstPixelOf (s .dd)) (widthOf (s .ld))) (plainOf (s .fbk))

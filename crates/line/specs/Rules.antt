@@ -1,25 +1,22 @@
--- Document 01, "Pixels": how many cells a line reads and which, and how many pixels it has and which. Request K4: the slices that it asks for.
+-- Document 01, "Pixels": how many cells a line reads and which, and how many pixels it has and which.
 -- For every record of registers and every walk, made-up ones too: the walk's next line brings any strip to one of its lines.
 -- Assumes nothing.
 use Prim.Native.Nat.{ℕ, _*_, _≤_, _<_}
 use mathlib.Core.Path.{_≡_}
-use mathlib.Core.List.{List, [], _∷_}
+use mathlib.Core.List.{List}
 use lib.Dec.{T}
 use lib.ListN.{length, getD}
 use Rattle.limits.specs.Limits.{ramLength, lineCells}
-use Rattle.cells.specs.Reading.{Reading, done, value, descriptor, code, slice, cells, cellsAs, among}
+use Rattle.cells.specs.Reading.{Reading, descriptor, code, slice, cells, cellsAs, among}
 use Rattle.registers.specs.declared.Registers.{Registers}
-use Rattle.registers.specs.declared.Settings.{Settings}
 use Rattle.registers.specs.Registers.{settingsOf}
-use Rattle.raster.specs.declared.Slice.{Slice}
 use Rattle.raster.specs.Raster.{OnScreen, widthOf}
 use Rattle.walk.specs.declared.Walk.{Walk}
 use Rattle.glyph.specs.Cells.{userSlice}
-use Rattle.glyph.specs.Glyph.{Glyph}
-use Rattle.line.specs.Line.{Lookup, Place, scanBy, Scanned, scan, paint}
+use Rattle.line.specs.Line.{Place, Scanned, scan, paint}
 
 -- what a line reads over a RAM of any length
-pub record FewCells (line : Reading (Scanned Glyph)) (ram : List ℕ) : Type 0 where
+pub record FewCells (line : Reading Scanned) (ram : List ℕ) : Type 0 where
   -- one descriptor, of two cells
   pub descriptors : length (cellsAs descriptor ram line) ≤ 2
   -- 61 codes, of two cells each
@@ -37,23 +34,6 @@ pub record FewCells (line : Reading (Scanned Glyph)) (ram : List ℕ) : Type 0 w
 abbrev pub MostCells : Type 0
 MostCells = (r : Registers) (w : Walk) (ram : List ℕ) → FewCells (scan (settingsOf r) w) ram
 
--- what a line asks the lookup: its own program, over a lookup that gives back the slice that it was asked for
-unfoldable pub asked : Lookup Slice
-asked high s = done s
-
--- the slices with which a line's codes are looked up, from left to right
-unfoldable pub slicesAsked : List ℕ → Settings → Walk → List (Place Slice)
-slicesAsked ram s w = value ram (scanBy asked s w) .row
-
--- for each code of a row the lookup gave something that has P
-unfoldable pub EachGives : {G : Type 0} → (G → Type 0) → List (Place G) → Type 0
-EachGives P [] = Unit
-EachGives P (p ∷ ps) = P (p .glyph) × EachGives P ps
-
--- the claim: no line asks for slice 0, nor for one past 18 (K4)
-abbrev pub SlicesAsked : Type 0
-SlicesAsked = (s : Settings) (w : Walk) (ram : List ℕ) → EachGives OnScreen (slicesAsked ram s w)
-
 -- W pixels, each a number below 16 (past the end getD gives 0)
 pub record WholeLine (w : ℕ) (pixels : List ℕ) : Type 0 where
   pub wide : length pixels ≡ w
@@ -62,4 +42,4 @@ pub record WholeLine (w : ℕ) (pixels : List ℕ) : Type 0 where
 -- the claim: every line is W pixels, whatever the font, the frame number and what stands in the row
 abbrev pub LinePixels : Type 0
 LinePixels =
-    (r : Registers) (font : List ℕ) (f : ℕ) (row : List (Place Glyph)) → WholeLine (widthOf (settingsOf r .ld)) (paint (settingsOf r) font f row)
+    (r : Registers) (font : List ℕ) (f : ℕ) (row : List Place) → WholeLine (widthOf (settingsOf r .ld)) (paint (settingsOf r) font f row)

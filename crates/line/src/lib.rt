@@ -5,7 +5,7 @@ ghost use mathlib.Core.List.{_++_};
 ghost use lib.ListN.{length, drop, replicate};
 ghost use Rattle.limits.specs.Limits.{ramLength};
 ghost use Rattle.registers.specs.Registers.{settingsOf};
-ghost use Rattle.raster.specs.Raster.{InCharacter, widthOf};
+ghost use Rattle.raster.specs.Raster.{OnScreen, widthOf};
 ghost use Rattle.walk.specs.Walk.{OnLine};
 ghost use Rattle.glyph.specs.Glyph.{Lent};
 ghost use Rattle.paint.specs.Tables.{rowTable};
@@ -53,7 +53,7 @@ fn fill(out: &mut [u8], pixel: u8)
 fn code_at<'a>(ram: &'a [u8], font: &'a [u8], table: &[u32], at: usize, pen: Pen) -> Coded
     requires { ⌜ now table ≡ rowTable (pen .plain) (pen .hidden) ⌝ }
     requires { ⌜ Lent (now ram) (now font) ⌝ }
-    requires { ⌜ InCharacter (pen .slice) ⌝ }
+    requires { ⌜ OnScreen (pen .slice) ⌝ }
     requires { ⌜ at + 1 < ramLength ⌝ }
     ensures { λ r. ⌜ CodeShown (now (ram .entry)) (now (font .entry)) at pen r ⌝ }
 {
@@ -70,7 +70,7 @@ fn code_at<'a>(ram: &'a [u8], font: &'a [u8], table: &[u32], at: usize, pen: Pen
     Coded {
         ended: false,
         cells: 2 + word.cells,
-        columns: paint::character(table, pen.plain, pen.hidden, low, word.bits),
+        columns: paint::character(table, pen.plain, pen.hidden, low, word.bits as u32),
     }
 }
 
@@ -86,7 +86,7 @@ fn draw_row<'a>(
 ) -> u32
     requires { ⌜ (first ≤ w) × (w ≤ length (now out)) × (w ≤ 768) ⌝ }
     requires { ⌜ Lent (now ram) (now font) ⌝ }
-    requires { ⌜ InCharacter (pen .slice) ⌝ }
+    requires { ⌜ OnScreen (pen .slice) ⌝ }
     ensures { λ r. ⌜ RowDrawn (now (ram .entry)) (now (font .entry)) address pen first w (now (out .entry)) r (now (out .exit)) ⌝ }
 {
     let table = paint::row_table(pen.plain, pen.hidden);
@@ -134,7 +134,7 @@ fn draw_characters<'a>(
 ) -> u32
     requires { ⌜ (w ≤ length (now out)) × (w ≤ 768) ⌝ }
     requires { ⌜ Lent (now ram) (now font) ⌝ }
-    requires { ⌜ InCharacter (pen .slice) ⌝ }
+    requires { ⌜ OnScreen (pen .slice) ⌝ }
     ensures { λ r. ⌜ CharactersDrawn (now (ram .entry)) (now (font .entry)) address pen first w (now (out .entry)) r (now (out .exit)) ⌝ }
 {
     if first < w {

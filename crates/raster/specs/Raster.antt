@@ -40,11 +40,11 @@ HasNext j = j .0 < 65535
 
 -- ---- the slices of a character
 
--- a slice of a character: 0 to 18 (0 is in a user character's first two cells, and no line shows it)
+-- the number of a slice, 1 to 18, or 0: a user character's first two cells have it in the search for a cell, and no line shows it
 abbrev pub InCharacter : Slice → Type 0
 InCharacter s = s .0 ≤ 18
 
--- a slice on screen: 1 to 18
+-- a slice of a character, as lines show it and as the lookup is asked for it: 1 to 18
 pub record OnScreen (s : Slice) : Type 0 where
   pub from : 1 ≤ s .0
   pub to : InCharacter s

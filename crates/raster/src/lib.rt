@@ -7,7 +7,7 @@ ghost use Rattle.raster.specs.Search.{sliceShown, startsAt};
 // A scan line of a strip, counted from 1; 0 before the first.
 pub struct ScanLine(pub u16);
 
-// A slice of a character, 0 to 18.
+// A slice of a character, 1 to 18. The search for a cell also asks about number 0, which no line shows.
 pub struct Slice(pub u8);
 
 // What is left of a number after some, or 0.

@@ -1,44 +1,39 @@
 -- `lookup`: the tests on the high byte pick the case of what a code shows.
 -- Assumes nothing.
 use native.Mathlib.Omega.{arith}
-use Rattle.glyph.proofs.Laws.{wordAt, word-none, word-font, word-user, word-blank}
+use Rattle.glyph.proofs.Laws.{wordAt, word-font, word-user, word-blank}
 use borrow.Author.Needs.{needs}
 use Rattle.glyph.proofs.lookup.Statement.{statement}
 use Rattle.glyph.proofs.lookup.Tie as tie
 
 returns : tie.Need-returns
-returns c = word-none _ _ _ _ (c .before .before .if1 .taken) (c .if2 .taken)
+unfolding wordAt
+returns c =
+    let p = c .before .before .before in
+    rw (c .two-bytes .ensures, p .slice-bytes .ensures .0) (word-font _ _ _ _ (p .before .if1 .taken))
 
 returns-2 : tie.Need-returns-2
 unfolding wordAt
 returns-2 c =
     let p = c .before .before .before in
-    rw (c .two-bytes .ensures, p .slice-bytes .ensures .0)
-    (word-font _ _ _ _ (p .before .before .before .if1 .taken) (p .before .if2 .left))
+    rw (c .two-bytes2 .ensures, p .slice-bytes2 .ensures .0)
+    (word-user _ _ _ _ (p .before .before .if1 .left) (p .before .if2 .taken))
 
 returns-3 : tie.Need-returns-3
-unfolding wordAt
-returns-3 c =
-    let p = c .before .before .before in
-    rw (c .two-bytes2 .ensures, p .slice-bytes2 .ensures .0)
-    (word-user _ _ _ _ (p .before .before .if1 .left) (p .before .if3 .taken))
-
-returns-4 : tie.Need-returns-4
-returns-4 c = word-blank _ _ _ _ (c .if3 .left) (omega (arith, c .before .before .before .before .fits .high))
+returns-3 c = word-blank _ _ _ _ (c .if2 .left) (omega (arith, c .before .before .before .before .fits .high))
 
 pub lookup-spec : {M : Type 1} → statement M
 lookup-spec =
     tie.close
     (tie.spec
+    (λ c κs. search needs)
+    (λ c. search needs)
+    (λ c. search needs)
+    (λ c κs. search needs)
     returns
     (λ c κs. search needs)
     (λ c. search needs)
     (λ c. search needs)
     (λ c κs. search needs)
     returns-2
-    (λ c κs. search needs)
-    (λ c. search needs)
-    (λ c. search needs)
-    (λ c κs. search needs)
-    returns-3
-    returns-4)
+    returns-3)

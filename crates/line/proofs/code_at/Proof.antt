@@ -20,10 +20,11 @@ add-t15 c =
 
 returns-2 : tie.Need-returns-2
 returns-2 c =
-    let w = c .before .before .before .lookup in
-    let a = c .before .before .before .before .before .before .before .before .before .before .args in
-    code-shown (now (a .ram)) (now (a .font)) (a .at) (a .pen) (w .result) (w .ensures) (λ i. c .before .before .before .before .shared-slice-known5 .given i .fits)
-    (λ i. c .before .before .before .before .before .before .before .before .shared-slice-known2 .given i .fits) (c .before .before .if1 .left) _ (c .character .ensures)
+    let p = c .before .before .before in
+    let w = p .before .lookup in
+    let a = p .before .before .before .before .before .before .before .before .args in
+    code-shown (now (a .ram)) (now (a .font)) (a .at) (a .pen) (w .result) (w .ensures) (λ i. p .before .before .shared-slice-known5 .given i .fits)
+    (λ i. p .before .before .before .before .before .before .shared-slice-known2 .given i .fits) (p .if1 .left) _ (c .character .ensures)
 
 pub code-at-spec : {M : Type 1} → statement M
 code-at-spec =
@@ -35,5 +36,6 @@ code-at-spec =
     (λ c κs. search needs)
     returns
     add-t15
+    (λ c. search needs)
     (λ c κs. search needs)
     returns-2)

@@ -3,7 +3,7 @@
 use Rattle.paint.specs.Pixels.{plainOf}
 use native.Mathlib.Omega.{arith}
 use borrow.Author.Tests.{not-true, not-false}
-use Rattle.line.proofs.Strips.{on-strip, on-line, slice-most, strip-off, strip-plain, strip-characters, spacing-none, disabled-none}
+use Rattle.line.proofs.Strips.{on-strip, on-line, slice-on, strip-off, strip-plain, strip-characters, spacing-none, disabled-none}
 use borrow.Author.Needs.{needs}
 use Rattle.line.proofs.draw_strip.Statement.{statement}
 use Rattle.line.proofs.draw_strip.Tie as tie
@@ -25,7 +25,7 @@ draw-characters-requires : tie.Need-draw-characters-requires
 draw-characters-requires c κs =
     let p = c .before .before .before .before .before .before .before .before .before .before .before .before .before .before .before .pre in (
       (omega (arith, c .before .before .before .before .before .before .before .before .before .before .before .width .ensures, p .1 .1 .2), omega (arith, c .before .before .before .before .before .before .before .before .before .before .before .width .ensures, p .1 .1 .0)),
-      (p .0, slice-most _ _ _ _ (c .before .before .before .slice .ensures) (on-line _ (c .before .before .before .before .before .before .strip .given .1) (p .1 .0))),
+      (p .0, slice-on _ _ _ _ (c .before .before .before .slice .ensures) (on-line _ (c .before .before .before .before .before .before .strip .given .1) (p .1 .0))),
     )
 
 returns-3 : tie.Need-returns-3
