@@ -172,6 +172,7 @@ def glyph(number, *rows):
 
 
 def user(number, s, row):
+    """Slice s of a user character, 1 to 18; with s 0 its first two cells, which are of no slice."""
     cell(38 * number + 2 * s, row & 255, row >> 8)
 
 
@@ -448,7 +449,8 @@ def tall_letters():
 
 @case
 def tall_letters_over_descriptors_and_codes():
-    # cells 0 to 3 are two descriptors and slices 0 and 1 of user character 0; cells 38 to 41 two codes and those of character 1
+    # cells 0 to 3 are two descriptors, and user character 0's first two cells and slice 1; cells 38 to 41 two codes, and the same of
+    # character 1
     fill(ram, 0x5A)
     for zy in range(2):
         strip(strip(0, 38, zy=zy), 40, zy=zy)
@@ -494,10 +496,11 @@ def first_cells_of_user_characters():
 @case
 def first_cells_as_descriptors_and_codes():
     # cells 38 n and 38 n + 1 as a strip's descriptor, read until its first line, and as its code, until its last; the strip shows
-    # user character n or a font character, and a line of spacing follows it
+    # user character n or a font character, and a line of spacing follows it. Not read in a frame that ends before the descriptor, nor
+    # as codes with DE 0
     for n, p, before in ((0, 0, 0), (12, 7, 4), (25, 7, 251)):
         first = 38 * n
-        fill(ram, 1)        # spacing strips of one line, of which a page has some before the descriptor
+        fill(ram, 1)        # spacing strips of one line, so many before the descriptor
         for high in (0x80 + n, 0x41):
             for zy in range(2):
                 for ch in (1, 18, 37, 63):
@@ -505,13 +508,19 @@ def first_cells_as_descriptors_and_codes():
                     codes(1000, (0x71, high))
                     spacing(strip(first, 1000, zy=zy), 1)
                     settings(ch=ch, p=p)
+                    if before:
+                        start(before)
+                        ask(first, 2)
                     start(before + lines + 1)
-                    ask_between((0, before, before + 1), (first,), 2)
+                    ask_between((0, before, before + 1, before + lines), (first,), 2)
                     codes(first, (0x71, high))
                     strip(64, first, zy=zy)
                     settings(ch=ch, p=1)
                     start(lines + 1)
                     ask_between((0, lines - 1, lines), (first,), 2)
+                    strip(64, first, de=0, zy=zy)
+                    start(lines)
+                    ask(first, 2)
     show_sum()
 
 
@@ -592,7 +601,7 @@ def most_reads():
 
 @case
 def user_character_25():
-    # slice 18 lies at cells 986 and 987; slice 1 at 952 and 953, read with CH 37 and 63 in line 1; the two cells before it are never read
+    # slice 18 lies at cells 986 and 987; slice 1 at 952 and 953, read with CH 37 and 63 in line 1; the two cells before slice 1 are never read as a slice
     noise(ram, 14)
     cell(950, 0x55, 0x0A)
     cell(952, 0xCC, 0xF3)

@@ -1,4 +1,4 @@
--- What a reading program can do over any RAM: the cells that it can read, and what as, and the answers that it can give.
+-- What a reading program can do over any RAM: the cells that it can read and in which role, and the answers that it can give.
 -- Assumes nothing.
 use Prim.Native.Nat.{ℕ}
 use mathlib.Core.Path.{_≡_, refl, sym, subst, subst₂}
@@ -14,8 +14,6 @@ unfoldable pub Only : {A : Type 0} → (Role → ℕ → Type 0) → (A → Type
 Only P Q (done a) = Q a
 Only P Q (read r c k) = P r c × ((x : ℕ) → Only P Q (k x))
 
--- ---- over one RAM
-
 same-role : (q r : Role) → sameRole q r ≡ true → q ≡ r
 unfolding sameRole
 same-role descriptor descriptor e = refl
@@ -27,6 +25,8 @@ same-role code slice e = absurd (false≢true e)
 same-role slice descriptor e = absurd (false≢true e)
 same-role slice code e = absurd (false≢true e)
 same-role slice slice e = refl
+
+-- ---- over one RAM
 
 module _ {A : Type 0} (P : Role → ℕ → Type 0) (Q : A → Type 0) (ram : List ℕ) where
   -- the answer

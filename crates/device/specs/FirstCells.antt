@@ -1,4 +1,5 @@
--- Request K4: the first two cells of a user character are never read as a slice.
+-- Request K4: the first two cells of a user character are never read as a slice, so the cell question says no for them unless the remaining
+-- lines read them as descriptors or codes.
 -- For every device record, made-up ones too, and every RAM of 1,024 cells.
 -- Assumes nothing.
 use Prim.Native.Nat.{ℕ, _+_, _*_, _<_}
@@ -12,16 +13,16 @@ use Rattle.refusals.specs.Refusals.{accepted}
 use Rattle.device.specs.declared.Device.{Device}
 use Rattle.device.specs.Device.{remainingOf, askCell}
 
--- do the frame's remaining lines read the cell as one of these?
+-- do the frame's remaining lines read the cell in this role?
 abbrev pub readAs : Role → Device → List ℕ → ℕ → Bool
 readAs r d ram c = among c (cellsAs r ram (remainingOf d))
 
 pub record NoSlice (d : Device) (ram : List ℕ) (c : ℕ) : Type 0 where
-  -- the cell is not read as a slice
+  -- no remaining line reads the cell as a slice
   pub never : readAs slice d ram c ≡ false
-  -- the cell question says no (0) exactly if it is read neither as descriptor nor as code
+  -- the cell question says no (0) exactly if they read it neither as descriptor nor as code
   pub answer : askCell d ram c ≡ accepted (cond (readAs descriptor d ram c || readAs code d ram c) 1 0)
 
--- the claim: so it is with the cells 38 n and 38 n + 1 of user characters 0 to 25
+-- the claim: this holds of the cells 38 n and 38 n + 1 of each user character n, 0 to 25
 abbrev pub FirstCells : Type 0
 FirstCells = (d : Device) (ram : List ℕ) (n i : ℕ) → length ram ≡ ramLength → n < 26 → i < 2 → NoSlice d ram (38 * n + i)

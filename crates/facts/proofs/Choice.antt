@@ -8,6 +8,11 @@ pub either : {A : Type 0} (P : A → Type 0) (t : Bool) (x y : A) → P x → P 
 either P true x y h k = h
 either P false x y h k = k
 
+-- and of two choices by one test
+pub both : {A B : Type 0} (P : A → B → Type 0) (t : Bool) (x y : A) (u v : B) → P x u → P y v → P (cond t x y) (cond t u v)
+both P true x y u v h k = h
+both P false x y u v h k = k
+
 -- a test that picks one of two that are the same picks that
 pub cond-same : {A : Type 0} (t : Bool) (x : A) → cond t x x ≡ x
 cond-same true x = refl

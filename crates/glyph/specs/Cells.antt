@@ -14,6 +14,6 @@ ofUser c = ltb c userCells
 abbrev pub userHigh : ℕ → ℕ
 userHigh c = 128 + c / 38
 
--- the number of its slice; 0 in the first two cells of a character, which are of none
+-- the number of its slice; 0 for the first two cells of a character, which are of none
 unfoldable pub userSlice : ℕ → Slice
 userSlice c = record { 0 = c % 38 / 2 }

@@ -86,7 +86,7 @@ pub fn user_high(cell: u16) -> u8
     (128 + cell / 38) as u8
 }
 
-// The number of its slice; 0 in the first two cells of a character, which are of none.
+// The number of a cell's slice; 0 for the first two cells of a character, which are of none.
 pub fn user_slice(cell: u16) -> Slice
     ensures slice { λ r. ⌜ r ≡ userSlice cell ⌝ }
     ensures inside { λ r. ⌜ InCharacter r ⌝ }

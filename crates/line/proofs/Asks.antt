@@ -7,7 +7,7 @@ use mathlib.Core.List.{List, [], _∷_, _++_}
 use native.Mathlib.Omega.{arith}
 use lib.Dec.{T}
 use lib.ListN.{length, getD}
-use Rattle.facts.proofs.Choice.{either}
+use Rattle.facts.proofs.Choice.{either, both}
 use Rattle.cells.specs.Reading.{Role, descriptor, code, slice, sameRole, Reading, done, bind, fmap, value, cellsAs}
 use Rattle.cells.proofs.Laws.{value-bind, value-fmap}
 use Rattle.cells.proofs.Roles.{cellsAs-bind, cellsAs-fmap}
@@ -25,7 +25,8 @@ use Rattle.glyph.specs.Glyph.{Glyph, endsLine, glyphOf}
 use Rattle.glyph.specs.Cells.{userSlice}
 use Rattle.glyph.proofs.Cells.{glyphOf-only}
 use Rattle.line.specs.Line.{Place, codesBy, codes, rowBy, shownBy, shownRow, Scanned, scanBy, scan}
-use Rattle.line.specs.Asked.{noting, slicesAsked, FontOnScreen, EachGlyph, SlicesAsked}
+use Rattle.line.specs.Asked.{noting, asked, FontOnScreen, EachGlyph, SlicesAsked}
+use Rattle.line.proofs.Strips.{scan-value}
 
 -- ---- over any lookup
 
@@ -85,23 +86,25 @@ scan-allowed =
 abbrev Noted : Role → ℕ → Type 0
 Noted q c = T (sameRole slice q) → OnScreen (record { 0 = c })
 
-noted : (s : Settings) (w : Walk) → Only Noted (λ (x : Scanned). EachGlyph (λ (g : Glyph). Unit {0}) (x .row)) (scanBy noting s w)
+noted : (ram : List ℕ) (s : Settings) (w : Walk)
+    → Only Noted (λ (x : Scanned). EachGlyph (λ (g : Glyph). Unit {0}) (x .row)) (scanBy (noting ram) s w)
 unfolding sameRole noting Only
-noted = scan-only noting Noted (λ (g : Glyph). Unit {0}) (λ c l t. absurd t) (λ c l t. absurd t) (λ high s h. (λ t. h, λ x. tt))
+noted ram =
+    scan-only (noting ram) Noted (λ (g : Glyph). Unit {0}) (λ c l t. absurd t) (λ c l t. absurd t) (λ high s h. (λ t. h, λ x. tt))
 
 module _ (ram : List ℕ) where
-  -- as many as there are characters
-  abbrev AsMany : Reading (List Place) → Reading (List Place) → Type 0
-  AsMany p q = length (cellsAs slice ram p) ≡ length (value ram q)
+  -- p notes as many slices as q finds characters, and finds the same
+  abbrev Notes : Reading (List Place) → Reading (List Place) → Type 0
+  Notes p q = (length (cellsAs slice ram p) ≡ length (value ram q)) × (value ram p ≡ value ram q)
 
-  none-each : AsMany (done []) (done [])
+  none-notes : Notes (done []) (done [])
   unfolding cellsAs value
-  none-each = refl
+  none-notes = (refl, refl)
 
-  codes-each : (n : ℕ) (s : Slice) (a : ℕ) → AsMany (codesBy noting n s a) (codes n s a)
+  codes-note : (n : ℕ) (s : Slice) (a : ℕ) → Notes (codesBy (noting ram) n s a) (codes n s a)
   unfolding codesBy noting bind cellsAs sameRole value
-  codes-each zero s a = refl
-  codes-each (suc n) s a = by (endsLine (getD ram (even a + 1) 0)) (codes-each n s (next a))
+  codes-note zero s a = (refl, refl)
+  codes-note (suc n) s a = by (endsLine (getD ram (even a + 1) 0)) (codes-note n s (next a))
     where
       low : ℕ
       low = getD ram (even a) 0
@@ -112,34 +115,27 @@ module _ (ram : List ℕ) where
       at : Glyph → List Place → List Place
       at g places = (record { low = low; glyph = g }) ∷ places
 
-      by : (t : Bool) → AsMany (codesBy noting n s (next a)) (codes n s (next a))
-          → AsMany (cond t (done []) (bind (noting high s) λ g. fmap (at g) (codesBy noting n s (next a))))
+      found : value ram (bind (glyphOf high s) λ g. fmap (at g) (codes n s (next a))) ≡ at (value ram (glyphOf high s)) (value ram (codes n s (next a)))
+      found = value-bind ram (glyphOf high s) _ ∙ value-fmap ram _ (codes n s (next a))
+
+      by : (t : Bool) → Notes (codesBy (noting ram) n s (next a)) (codes n s (next a))
+          → Notes (cond t (done []) (bind (noting ram high s) λ g. fmap (at g) (codesBy (noting ram) n s (next a))))
           (cond t (done []) (bind (glyphOf high s) λ g. fmap (at g) (codes n s (next a))))
-      by true e = refl
-      by false e =
-          ap (λ (l : List ℕ). suc (length l)) (cellsAs-fmap slice ram _ (codesBy noting n s (next a)))
-          ∙ ap suc e
-          ∙ sym (ap length (value-bind ram (glyphOf high s) _ ∙ value-fmap ram _ (codes n s (next a))))
+      by true e = (refl, refl)
+      by false e = (
+        ap (λ (l : List ℕ). suc (length l)) (cellsAs-fmap slice ram _ (codesBy (noting ram) n s (next a))) ∙ ap suc (e .0) ∙ sym (ap length found),
+        value-fmap ram _ (codesBy (noting ram) n s (next a)) ∙ ap (at (value ram (glyphOf high s))) (e .1) ∙ sym found,
+      )
 
-  row-each : (n : ℕ) (t : Strip) → AsMany (rowBy noting n t) (rowBy glyphOf n t)
+  row-notes : (n : ℕ) (t : Strip) → Notes (rowBy (noting ram) n t) (rowBy glyphOf n t)
   unfolding rowBy
-  row-each n (Spacing left) = none-each
-  row-each n (Characters address height zoom enabled line) = by enabled
-    where
-      by : (t : Bool)
-          → AsMany (cond t (codesBy noting n (interpolated line height zoom) address) (done []))
-          (cond t (codes n (interpolated line height zoom) address) (done []))
-      by true = codes-each n (interpolated line height zoom) address
-      by false = none-each
+  row-notes n (Spacing left) = none-notes
+  row-notes n (Characters address height zoom enabled line) =
+      both Notes enabled _ _ _ _ (codes-note n (interpolated line height zoom) address) none-notes
 
-  shown-each : (s : Settings) (t : Strip) → AsMany (shownBy noting s t) (shownRow s t)
+  shown-notes : (s : Settings) (t : Strip) → Notes (shownBy (noting ram) s t) (shownRow s t)
   unfolding shownBy
-  shown-each s t = by (s .osd)
-    where
-      by : (b : Bool)
-          → AsMany (cond b (rowBy noting (charactersOf (s .ld) (s .dd)) t) (done [])) (cond b (rowBy glyphOf (charactersOf (s .ld) (s .dd)) t) (done []))
-      by true = row-each (charactersOf (s .ld) (s .dd)) t
-      by false = none-each
+  shown-notes s t = both Notes (s .osd) _ _ _ _ (row-notes (charactersOf (s .ld) (s .dd)) t) none-notes
 
   -- a walk's next line reads no slice
   walk-none : (ch : ℕ) (w : Walk) → cellsAs slice ram (nextLine ch w) ≡ []
@@ -147,22 +143,35 @@ module _ (ram : List ℕ) where
   walk-none ch w =
       cellsAs-fmap slice ram _ (begun ch w) ∙ either (λ (p : Reading Walk). cellsAs slice ram p ≡ []) (over (w .strip)) _ _ refl refl
 
-  each-asked : (s : Settings) (w : Walk) → length (slicesAsked ram s w) ≡ length (value ram (scan s w) .row)
-  unfolding slicesAsked scanBy
-  each-asked s w =
-      let v : Walk = value ram (nextLine (s .ch) w) in
-      let row : Reading Scanned = fmap (λ (places : List Place). record { walk = v; row = places }) (shownBy noting s (v .strip)) in
-      ap length (cellsAs-bind slice ram (nextLine (s .ch) w) _
-      ∙ ap (λ (l : List ℕ). l ++ cellsAs slice ram row) (walk-none (s .ch) w)
-      ∙ cellsAs-fmap slice ram _ (shownBy noting s (v .strip)))
-      ∙ shown-each s (v .strip)
-      ∙ sym (ap (λ (x : Scanned). length (x .row)) (value-bind ram (nextLine (s .ch) w) _ ∙ value-fmap ram _ (shownRow s (v .strip))))
+  module _ (s : Settings) (w : Walk) where
+    abbrev at : Walk → List Place → Scanned
+    at v row = record { walk = v; row = row }
+
+    each-asked : length (asked ram s w) ≡ length (value ram (scan s w) .row)
+    unfolding asked scanBy
+    each-asked =
+        let v : Walk = value ram (nextLine (s .ch) w) in
+        ap length (cellsAs-bind slice ram (nextLine (s .ch) w) _
+        ∙ ap (λ (l : List ℕ). l ++ cellsAs slice ram (fmap (at v) (shownBy (noting ram) s (v .strip)))) (walk-none (s .ch) w)
+        ∙ cellsAs-fmap slice ram _ (shownBy (noting ram) s (v .strip)))
+        ∙ shown-notes s (v .strip) .0
+        ∙ sym (ap (λ (x : Scanned). length (x .row)) (scan-value ram s w))
+
+    same-found : value ram (scanBy (noting ram) s w) ≡ value ram (scan s w)
+    unfolding scanBy
+    same-found =
+        let v : Walk = value ram (nextLine (s .ch) w) in
+        value-bind ram (nextLine (s .ch) w) _
+        ∙ value-fmap ram _ (shownBy (noting ram) s (v .strip))
+        ∙ ap (at v) (shown-notes s (v .strip) .1)
+        ∙ sym (scan-value ram s w)
 
 pub slices-asked : SlicesAsked
-unfolding slicesAsked sameRole
+unfolding asked sameRole
 slices-asked ram s w =
     record {
+      same = same-found ram s w;
       each = each-asked ram s w;
-      on-screen = λ t m. only-as Noted _ ram slice (scanBy noting s w) (noted s w) t m tt;
+      on-screen = λ t m. only-as Noted _ ram slice (scanBy (noting ram) s w) (noted ram s w) t m tt;
       in-font = only-value Allowed (λ (x : Scanned). EachGlyph FontOnScreen (x .row)) ram (scan s w) (scan-allowed s w);
     }

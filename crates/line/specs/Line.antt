@@ -18,42 +18,42 @@ use Rattle.glyph.specs.Glyph.{Glyph, endsLine, glyphOf, bitsOf}
 use Rattle.paint.specs.Pixels.{plainOf, twelveColumns}
 
 -- ---- scan
--- What a code shows is asked of a lookup, by its high byte and the slice. The program of a line is written over any lookup, so that what it
--- asks can be told apart from what it is given.
 
 -- a character's place on the line: the code's low byte, and its glyph
 pub record Place : Type 0 where
   pub low : ℕ
   pub glyph : Glyph
 
--- the codes from an address on, n at the most, up to the end of line (whose two bytes are read), each looked up in the slice. A code is
--- two bytes at an even address, address plus 2 for the next, wrapping at 1,024
-unfoldable pub codesBy : (ℕ → Slice → Reading Glyph) → ℕ → Slice → ℕ → Reading (List Place)
-codesBy look zero s a = done []
-codesBy look (suc n) s a =
-    read code (even a) λ low.
-    read code (even a + 1) λ high.
-    cond (endsLine high)
-    (done [])
-    (bind (look high s) λ g. fmap (λ places. (record { low = low; glyph = g }) ∷ places) (codesBy look n s (next a)))
-
--- what stands on a line of the strip. In spacing strips and strips with DE 0 no code is read
-unfoldable pub rowBy : (ℕ → Slice → Reading Glyph) → ℕ → Strip → Reading (List Place)
-rowBy look n (Spacing left) = done []
-rowBy look n (Characters address height zoom enabled line) =
-    cond enabled (codesBy look n (interpolated line height zoom) address) (done [])
-
--- OSD 0: codes and slices are not read. Codes are read while the next character's first pixel is below W
-unfoldable pub shownBy : (ℕ → Slice → Reading Glyph) → Settings → Strip → Reading (List Place)
-shownBy look s strip = cond (s .osd) (rowBy look (charactersOf (s .ld) (s .dd)) strip) (done [])
-
 pub record Scanned : Type 0 where
   pub walk : Walk
   pub row : List Place
 
--- a line reads its descriptor, with OSD 0 too, and then its row
-unfoldable pub scanBy : (ℕ → Slice → Reading Glyph) → Settings → Walk → Reading Scanned
-scanBy look s w = bind (nextLine (s .ch) w) λ v. fmap (λ row. record { walk = v; row = row }) (shownBy look s (v .strip))
+-- what a code's high byte shows in a slice is asked of a lookup. The program of a line is written over any, so that what it asks for can be
+-- told apart from what it is given
+module _ (look : ℕ → Slice → Reading Glyph) where
+  -- the codes from an address on, n at the most, up to the end of line (whose two bytes are read), each looked up in the slice. A code
+  -- is two bytes at an even address, address plus 2 for the next, wrapping at 1,024
+  unfoldable pub codesBy : ℕ → Slice → ℕ → Reading (List Place)
+  codesBy zero s a = done []
+  codesBy (suc n) s a =
+      read code (even a) λ low.
+      read code (even a + 1) λ high.
+      cond (endsLine high)
+      (done [])
+      (bind (look high s) λ g. fmap (λ places. (record { low = low; glyph = g }) ∷ places) (codesBy n s (next a)))
+
+  -- what stands on a line of the strip. In spacing strips and strips with DE 0 no code is read
+  unfoldable pub rowBy : ℕ → Strip → Reading (List Place)
+  rowBy n (Spacing left) = done []
+  rowBy n (Characters address height zoom enabled line) = cond enabled (codesBy n (interpolated line height zoom) address) (done [])
+
+  -- OSD 0: codes and slices are not read. Codes are read while the next character's first pixel is below W
+  unfoldable pub shownBy : Settings → Strip → Reading (List Place)
+  shownBy s strip = cond (s .osd) (rowBy (charactersOf (s .ld) (s .dd)) strip) (done [])
+
+  -- a line reads its descriptor, with OSD 0 too, and then its row
+  unfoldable pub scanBy : Settings → Walk → Reading Scanned
+  scanBy s w = bind (nextLine (s .ch) w) λ v. fmap (λ row. record { walk = v; row = row }) (shownBy s (v .strip))
 
 -- the lookup is `glyphOf`
 abbrev pub codes : ℕ → Slice → ℕ → Reading (List Place)

@@ -40,7 +40,7 @@ HasNext j = j .0 < 65535
 
 -- ---- the slices of a character
 
--- the number of a slice, 1 to 18, or 0: a user character's first two cells have it in the search for a cell, and no line shows it
+-- a number that the search for a cell asks about: a slice's, 1 to 18, or 0, which a user character's first two cells have and no line shows
 abbrev pub InCharacter : Slice → Type 0
 InCharacter s = s .0 ≤ 18
 

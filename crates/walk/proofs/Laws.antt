@@ -88,7 +88,7 @@ unfolding linesLeft advanced OnLine
 left-on (Spacing left) h = tt
 left-on (Characters address height zoom enabled line) h = following-in line height zoom h
 
--- a line reads two cells at an even address as its descriptor, and brings the strip to one of its lines
+-- a line reads at most a descriptor, two cells at an even address, and brings the strip to one of its lines
 module _ (P : Role → ℕ → Type 0) (descriptors : (c : ℕ) → c < 1024 → P descriptor c) (ch : ℕ) (w : Walk) where
   -- its strip is at a line once it is advanced
   begun-only : (t : Bool) → over (w .strip) ≡ t
