@@ -25,6 +25,7 @@ use Rattle.walk.specs.declared.Strip.the-variants.{Spacing, Characters}
 use Rattle.walk.specs.declared.Walk.{Walk}
 use Rattle.walk.specs.Walk.{even, next, stripOf, over, linesLeft, begun, advanced, nextLine}
 use Rattle.walk.proofs.Laws.{left-over, none-over, left-advanced, stripOf-begun}
+use Rattle.glyph.specs.Glyph.{glyphOf}
 use Rattle.glyph.specs.Cells.{ofUser, userSlice}
 use Rattle.glyph.proofs.Cells.{ofSlice}
 use Rattle.line.specs.Line.{Place, Scanned, codes, rowBy, shownBy, shownRow, scanBy, scan}
@@ -158,7 +159,7 @@ line-first ram s n w e =
     cells-bind ram (scan s w) _
     ∙ ap₂ (λ (l : List ℕ) (v : Walk). l ++ cells ram (remaining s n v))
     (scan-cells ram s w ∙ ap (λ (p : Reading Walk). cells ram p ++ cells ram (shownRow s (value ram p .strip))) e)
-    (ap (λ (x : Scanned). x .walk) (scan-value ram s w) ∙ ap (value ram) e)
+    (ap (λ (x : Scanned). x .walk) (scan-value glyphOf ram s w) ∙ ap (value ram) e)
 
 -- a strip that has one left
 line-on : (ram : List ℕ) (s : Settings) (n a : ℕ) (t : Strip) → over t ≡ false

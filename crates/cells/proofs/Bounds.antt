@@ -2,12 +2,13 @@
 -- Assumes nothing.
 use Prim.Native.Nat.{ℕ}
 use mathlib.Core.Path.{_≡_, refl, sym, subst, subst₂}
-use mathlib.Core.Bool.{Bool, true, false, cond, false≢true}
+use mathlib.Core.Bool.{Bool, true, false, cond, _||_, false≢true}
 use mathlib.Core.List.{List, _∷_}
 use lib.Dec.{T, eqb, eqb→eq}
 use lib.ListN.{getD}
 use Rattle.facts.proofs.Tests.{or-cases}
 use Rattle.cells.specs.Reading.{Role, descriptor, code, slice, sameRole, Reading, done, read, bind, fmap, value, cells, cellsAs, among}
+use Rattle.cells.proofs.Roles.{by-role}
 
 -- every read has P, of its role and its cell, and every answer has Q
 unfoldable pub Only : {A : Type 0} → (Role → ℕ → Type 0) → (A → Type 0) → Reading A → Type 0
@@ -35,14 +36,6 @@ module _ {A : Type 0} (P : Role → ℕ → Type 0) (Q : A → Type 0) (ram : Li
   only-value (done a) h = h
   only-value (read r c k) h = only-value (k (getD ram c 0)) (h .1 (getD ram c 0))
 
-  -- a cell that is read, whatever as
-  pub only-cells : (R : ℕ → Type 0) → ((q : Role) (c : ℕ) → P q c → R c) → (p : Reading A) → Only P Q p
-      → (c : ℕ) → T (among c (cells ram p)) → R c
-  unfolding Only cells among
-  only-cells R f (done a) h c t = absurd t
-  only-cells R f (read r x k) h c t =
-      or-cases (eqb c x) _ t (λ e. subst R (sym (eqb→eq c x e)) (f r x (h .0))) (only-cells R f (k (getD ram x 0)) (h .1 (getD ram x 0)) c)
-
   -- a cell that is read in a role
   pub only-as : (q : Role) (p : Reading A) → Only P Q p → (c : ℕ) → T (among c (cellsAs q ram p)) → P q c
   unfolding Only cellsAs among
@@ -55,6 +48,15 @@ module _ {A : Type 0} (P : Role → ℕ → Type 0) (Q : A → Type 0) (ram : Li
       by : (b : Bool) → sameRole q r ≡ b → T (among c (cond b (x ∷ rest) rest)) → (T (among c rest) → P q c) → P q c
       by true e m later = or-cases (eqb c x) _ m (λ i. subst₂ P (sym (same-role q r e)) (sym (eqb→eq c x i)) (h .0)) later
       by false e m later = later m
+
+  -- a cell that is read, in any role
+  pub only-cells : (R : ℕ → Type 0) → ((q : Role) (c : ℕ) → P q c → R c) → (p : Reading A) → Only P Q p
+      → (c : ℕ) → T (among c (cells ram p)) → R c
+  only-cells R f p h c t =
+      let is-read : Role → Bool = λ q. among c (cellsAs q ram p) in
+      let in-role : (q : Role) → T (is-read q) → R c = λ q m. f q c (only-as q p h c m) in
+      or-cases (is-read descriptor || is-read code) (is-read slice) (subst T (by-role .member ram p c) t)
+      (λ m. or-cases (is-read descriptor) (is-read code) m (in-role descriptor) (in-role code)) (in-role slice)
 
 -- ---- one program after another
 

@@ -1,7 +1,7 @@
 -- Which codes read a cell: those of the user character that it belongs to, in its own slice. What a code can read: cells of slices on screen.
 -- Assumes nothing.
 use Prim.Native.Nat.{ℕ, _+_, _-_, _*_, _/_, _%_, _<_}
-use mathlib.Core.Path.{_≡_, refl, ap, _∙_}
+use mathlib.Core.Path.{_≡_, refl, sym, ap, _∙_, subst}
 use mathlib.Core.Bool.{Bool, true, false, cond, _&&_}
 use mathlib.Core.List.{List}
 use native.Mathlib.Decide.{ℕ-discrete, decLt}
@@ -80,9 +80,7 @@ module _ (P : Role → ℕ → Type 0) (Q : Glyph → Type 0) (s : Slice) (on : 
     (slices : (c : ℕ) → c < 1024 → OnScreen (userSlice c) → P slice c)
     (fonts : (number : ℕ) → Q (font number (s .0))) (users : (first second : ℕ) → Q (user first second)) (none : Q blank) where
   of-slice : (number c : ℕ) → c / 2 * 2 ≡ userCell number (s .0) → OnScreen (userSlice c)
-  of-slice number c e =
-      let m = belongs c s number (on .to) e .1 in
-      record { from = omega (arith, m, on .from); to = omega (arith, m, on .to) }
+  of-slice number c e = subst (λ (n : ℕ). OnScreen (record { 0 = n })) (sym (belongs c s number (on .to) e .1)) on
 
   pub glyphOf-only : (high : ℕ) → Only P Q (glyphOf high s)
   unfolding glyphOf inRam Only

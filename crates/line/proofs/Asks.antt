@@ -58,7 +58,7 @@ module _ (look : ℕ → Slice → Reading Glyph) (P : Role → ℕ → Type 0) 
   row-only n (Characters address height zoom enabled line) h =
       either (Only P (EachGlyph Q)) enabled _ _ (codes-only n (interpolated line height zoom) address (slice-range line height zoom h)) none-only
 
-  pub scan-only : (s : Settings) (w : Walk) → Only P (λ (x : Scanned). EachGlyph Q (x .row)) (scanBy look s w)
+  scan-only : (s : Settings) (w : Walk) → Only P (λ (x : Scanned). EachGlyph Q (x .row)) (scanBy look s w)
   unfolding scanBy shownBy
   scan-only s w =
       only-bind P (λ (v : Walk). OnLine (v .strip)) _ (nextLine (s .ch) w) _ (nextLine-only P descriptors (s .ch) w)
@@ -155,16 +155,12 @@ module _ (ram : List ℕ) where
         ∙ ap (λ (l : List ℕ). l ++ cellsAs slice ram (fmap (at v) (shownBy (noting ram) s (v .strip)))) (walk-none (s .ch) w)
         ∙ cellsAs-fmap slice ram _ (shownBy (noting ram) s (v .strip)))
         ∙ shown-notes s (v .strip) .0
-        ∙ sym (ap (λ (x : Scanned). length (x .row)) (scan-value ram s w))
+        ∙ sym (ap (λ (x : Scanned). length (x .row)) (scan-value glyphOf ram s w))
 
     same-found : value ram (scanBy (noting ram) s w) ≡ value ram (scan s w)
-    unfolding scanBy
     same-found =
         let v : Walk = value ram (nextLine (s .ch) w) in
-        value-bind ram (nextLine (s .ch) w) _
-        ∙ value-fmap ram _ (shownBy (noting ram) s (v .strip))
-        ∙ ap (at v) (shown-notes s (v .strip) .1)
-        ∙ sym (scan-value ram s w)
+        scan-value (noting ram) ram s w ∙ ap (at v) (shown-notes s (v .strip) .1) ∙ sym (scan-value glyphOf ram s w)
 
 pub slices-asked : SlicesAsked
 unfolding asked sameRole

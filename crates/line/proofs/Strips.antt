@@ -24,7 +24,7 @@ use Rattle.walk.specs.declared.Walk.{Walk}
 use Rattle.walk.specs.Walk.{nextLine, OnLine, walked}
 use Rattle.walk.specs.declared.Walked.{Walked}
 use Rattle.walk.proofs.Laws.{nextLine-only}
-use Rattle.glyph.specs.Glyph.{glyphOf}
+use Rattle.glyph.specs.Glyph.{Glyph, glyphOf}
 use Rattle.line.specs.declared.Pen.{Pen}
 use Rattle.paint.specs.Pixels.{plainOf}
 use Rattle.line.specs.Line.{Place, rowBy, shownBy, shownRow, Scanned, scanBy, scan, paint}
@@ -157,13 +157,13 @@ walked-line ram ch w =
     let any : Role → ℕ → Type 0 = λ q c. Unit {0} in
     only-value any (λ (v : Walk). OnLine (v .strip)) ram (nextLine ch w) (nextLine-only any (λ c l. tt) ch w)
 
--- what a line finds: where the walk goes, and its row
-pub scan-value : (ram : List ℕ) (s : Settings) (w : Walk)
-    → value ram (scan s w)
-    ≡ record { walk = value ram (nextLine (s .ch) w); row = value ram (shownRow s (value ram (nextLine (s .ch) w) .strip)) }
+-- what a line finds, over any lookup: where the walk goes, and its row
+pub scan-value : (look : ℕ → Slice → Reading Glyph) (ram : List ℕ) (s : Settings) (w : Walk)
+    → value ram (scanBy look s w)
+    ≡ record { walk = value ram (nextLine (s .ch) w); row = value ram (shownBy look s (value ram (nextLine (s .ch) w) .strip)) }
 unfolding scanBy
-scan-value ram s w =
-    value-bind ram (nextLine (s .ch) w) _ ∙ value-fmap ram _ (shownRow s (value ram (nextLine (s .ch) w) .strip))
+scan-value look ram s w =
+    value-bind ram (nextLine (s .ch) w) _ ∙ value-fmap ram _ (shownBy look s (value ram (nextLine (s .ch) w) .strip))
 
 -- what it reads: its descriptor, and its row
 pub scan-cells : (ram : List ℕ) (s : Settings) (w : Walk)
@@ -187,8 +187,8 @@ module _ (ram font : List ℕ) (r : Registers) (w : Walk) (f : ℕ) (out : List 
       record {
         pixels =
             d .pixels
-            ∙ ap (λ (x : Scanned). paint (settingsOf r) font f (x .row) ++ drop (widthOf (settingsOf r .ld)) out) (sym (scan-value ram (settingsOf r) w));
-        walk = ap (λ (x : Scanned). x .walk) (sym (scan-value ram (settingsOf r) w));
+            ∙ ap (λ (x : Scanned). paint (settingsOf r) font f (x .row) ++ drop (widthOf (settingsOf r .ld)) out) (sym (scan-value glyphOf ram (settingsOf r) w));
+        walk = ap (λ (x : Scanned). x .walk) (sym (scan-value glyphOf ram (settingsOf r) w));
         reads = ap (λ (k : ℕ). length (cells ram (nextLine (settingsOf r .ch) w)) + k) (d .reads) ∙ sym (scan-length ram (settingsOf r) w);
       }
 
