@@ -24,7 +24,7 @@ use Rattle.walk.specs.declared.Strip.{Strip}
 use Rattle.walk.specs.declared.Strip.the-variants.{Spacing, Characters}
 use Rattle.walk.specs.declared.Walk.{Walk}
 use Rattle.walk.specs.Walk.{even, next, stripOf, over, linesLeft, begun, advanced, nextLine}
-use Rattle.walk.proofs.Laws.{left-over, none-over, left-advanced, stripOf-begun}
+use Rattle.walk.proofs.Laws.{left-over, none-over, left-advanced, advancedBy, left-by, stripOf-begun}
 use Rattle.glyph.specs.Glyph.{glyphOf}
 use Rattle.glyph.specs.Cells.{ofUser, userSlice}
 use Rattle.glyph.proofs.Cells.{ofSlice}
@@ -166,16 +166,6 @@ line-on : (ram : List ℕ) (s : Settings) (n a : ℕ) (t : Strip) → over t ≡
     → cells ram (remaining s (suc n) (at a t)) ≡ cells ram (shownRow s (advanced t)) ++ cells ram (remaining s n (at a (advanced t)))
 unfolding value cells
 line-on ram s n a t e = line-first ram s n (at a t) (step-on (s .ch) (at a t) e)
-
--- k lines on
-advancedBy : ℕ → Strip → Strip
-advancedBy zero t = t
-advancedBy (suc k) t = advancedBy k (advanced t)
-
-left-by : (k : ℕ) (t : Strip) → linesLeft (advancedBy k t) ≡ linesLeft t - k
-unfolding advancedBy
-left-by zero t = omega arith
-left-by (suc k) t = left-by k (advanced t) ∙ omega (arith, left-advanced t)
 
 lines-on : (k : ℕ) (ram : List ℕ) (s : Settings) (n a : ℕ) (t : Strip) → k ≤ n → k ≤ linesLeft t
     → cells ram (remaining s n (at a t)) ≡ rowCells ram s k t ++ cells ram (remaining s (n - k) (at a (advancedBy k t)))

@@ -1,6 +1,6 @@
 -- The laws of the walk: addresses lie below 1,024, and the strip on screen is at one of its lines.
 -- Assumes nothing.
-use Prim.Native.Nat.{ℕ, _+_, _-_, _≤_, _<_}
+use Prim.Native.Nat.{ℕ, zero, suc, _+_, _-_, _≤_, _<_}
 use mathlib.Core.Path.{_≡_, refl, sym, ap, _∙_}
 use mathlib.Core.Bool.{Bool, true, false, cond, false≢true}
 use native.Mathlib.Omega.{arith}
@@ -47,6 +47,16 @@ pub left-advanced : (s : Strip) → linesLeft (advanced s) ≡ linesLeft s - 1
 unfolding linesLeft advanced
 left-advanced (Spacing left) = refl
 left-advanced (Characters address height zoom enabled line) = one-less line height zoom
+
+-- k lines on
+unfoldable pub advancedBy : ℕ → Strip → Strip
+advancedBy zero t = t
+advancedBy (suc k) t = advancedBy k (advanced t)
+
+pub left-by : (k : ℕ) (t : Strip) → linesLeft (advancedBy k t) ≡ linesLeft t - k
+unfolding advancedBy
+left-by zero t = omega arith
+left-by (suc k) t = left-by k (advanced t) ∙ omega (arith, left-advanced t)
 
 -- a strip that has just begun has a line
 pub stripOf-some : (ch low high : ℕ) → 1 ≤ linesLeft (stripOf ch low high)
