@@ -2,12 +2,12 @@
 -- Assumes nothing.
 use Prim.Native.Nat.{ℕ, _≤_}
 use mathlib.Core.Path.{_≡_, refl, sym, subst}
-use mathlib.Core.Bool.{Bool, true, false, not, _||_}
+use mathlib.Core.Bool.{Bool, true, false, not}
 use mathlib.Core.List.{List}
 use borrow.Author.Tests.{ltb-false}
 use lib.Dec.{T, eqb, ltb}
 use lib.ListN.{length}
-use Rattle.limits.specs.Limits.{frameLines}
+use Rattle.limits.specs.Limits.{noFrame}
 use Rattle.facts.proofs.Choice.{either}
 use Rattle.refusals.specs.declared.Refusal.{Refusal}
 use Rattle.refusals.specs.declared.Refusal.the-variants.{RamLength, FontLength, LineLength, NoLine, FrameLines}
@@ -22,7 +22,7 @@ use Rattle.device.specs.Device.{StartOutcome, inFrame, startFrame, DrawO
 pub by-start : (P : StartOutcome → Type 0) (d : Device) (lines : ℕ) → P (record { device = d; reply = refused FrameLines })
     → P (record { device = inFrame d lines; reply = accepted 0 }) → P (startFrame d lines)
 unfolding startFrame
-by-start P d lines h k = either P (eqb lines 0 || ltb frameLines lines) _ _ h k
+by-start P d lines h k = either P (noFrame lines) _ _ h k
 
 -- ---- a draw
 

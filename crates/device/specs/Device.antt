@@ -2,11 +2,11 @@
 -- start of "Walk of a frame", "Refusal numbers" with their order, and the cell question.
 -- Assumes nothing.
 use Prim.Native.Nat.{ℕ, _+_, _-_, _%_}
-use mathlib.Core.Bool.{not, cond, _||_}
+use mathlib.Core.Bool.{not, cond}
 use mathlib.Core.List.{List, _++_}
 use lib.Dec.{eqb, leb, ltb}
 use lib.ListN.{length, drop}
-use Rattle.limits.specs.Limits.{ramLength, fontLength, frameLines}
+use Rattle.limits.specs.Limits.{ramLength, fontLength, noFrame}
 use Rattle.cells.specs.Reading.{Reading, value, cells, among}
 use Rattle.refusals.specs.declared.Refusal.{Refusal}
 use Rattle.refusals.specs.declared.Refusal.the-variants.{RamLength, FontLength, LineLength, NoLine, FrameLines, CellRange}
@@ -101,7 +101,7 @@ inFrame d lines =
 -- a frame start names its lines, 1 to 2,048; else refusal 6
 unfoldable pub startFrame : Device → ℕ → StartOutcome
 startFrame d lines =
-    cond (eqb lines 0 || ltb frameLines lines)
+    cond (noFrame lines)
     (record { device = d; reply = refused FrameLines })
     (record { device = inFrame d lines; reply = accepted 0 })
 

@@ -1,6 +1,8 @@
 -- Lengths and limits of document 01, each named once.
 -- Assumes nothing.
 use Prim.Native.Nat.{ℕ}
+use mathlib.Core.Bool.{Bool, _||_}
+use lib.Dec.{eqb, ltb}
 
 -- the lent RAM has 1,024 bytes, which are cells 0 to 1,023
 abbrev pub ramLength : ℕ
@@ -17,6 +19,10 @@ userCells = 988
 -- a frame has 1 to 2,048 lines
 abbrev pub frameLines : ℕ
 frameLines = 2048
+
+-- a count that no frame has: 0, or above 2,048
+abbrev pub noFrame : ℕ → Bool
+noFrame lines = eqb lines 0 || ltb frameLines lines
 
 -- a line reads at most 246 cells
 abbrev pub lineCells : ℕ
