@@ -4,7 +4,7 @@ use mathlib.Core.Path.{_≡_, refl, subst}
 use mathlib.Core.Bool.{false}
 use lib.Dec.{eqb}
 use Rattle.refusals.specs.declared.Refusal.{Refusal}
-use Rattle.refusals.specs.declared.Refusal.the-variants.{RamLength, FontLength, LineLength, NoLine, NotAcknowledged, FrameLines, BenchLength, CellRange, FeedShut, OutputRoom}
+use Rattle.refusals.specs.declared.Refusal.the-variants.{RamLength, FontLength, LineLength, NoLine, NotAcknowledged, FrameLines, BenchLength, CellRange, FeedShut, OutputRoom, PixelRange}
 use Rattle.refusals.specs.Refusals.{numberOf, Verdict, passed, failed}
 
 IsRefused : Verdict → Type 0
@@ -27,3 +27,4 @@ not-zero BenchLength = refl
 not-zero CellRange = refl
 not-zero FeedShut = refl
 not-zero OutputRoom = refl
+not-zero PixelRange = refl

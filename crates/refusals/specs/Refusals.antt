@@ -4,7 +4,7 @@
 use Prim.Native.Nat.{ℕ}
 use mathlib.Core.Bool.{Bool, cond}
 use Rattle.refusals.specs.declared.Refusal.{Refusal}
-use Rattle.refusals.specs.declared.Refusal.the-variants.{RamLength, FontLength, LineLength, NoLine, NotAcknowledged, FrameLines, BenchLength, CellRange, FeedShut, OutputRoom}
+use Rattle.refusals.specs.declared.Refusal.the-variants.{RamLength, FontLength, LineLength, NoLine, NotAcknowledged, FrameLines, BenchLength, CellRange, FeedShut, OutputRoom, PixelRange}
 
 abbrev pub numberOf : Refusal → ℕ
 numberOf RamLength = 1
@@ -17,6 +17,7 @@ numberOf BenchLength = 7
 numberOf CellRange = 8
 numberOf FeedShut = 9
 numberOf OutputRoom = 10
+numberOf PixelRange = 11
 
 -- an answer as the paper has it: the refusal's number, 0 where the call is accepted, and the answer's own number
 pub record Reply : Type 0 where
@@ -38,6 +39,7 @@ valueIn BenchLength = 0
 valueIn CellRange = 0
 valueIn FeedShut = 0
 valueIn OutputRoom = 0
+valueIn PixelRange = 0
 
 -- a refusal with a number beside it
 abbrev pub refusedWith : Refusal → ℕ → Reply

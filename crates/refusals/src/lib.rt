@@ -23,6 +23,8 @@ pub enum Refusal {
     FeedShut,
     // 10: the output has less than two bytes for each event that the chunk would complete
     OutputRoom,
+    // 11: the pixel asked about lies past the line's last column or the frame's last line
+    PixelRange,
 }
 
 impl Refusal {
@@ -40,6 +42,7 @@ impl Refusal {
             Refusal::CellRange => 8,
             Refusal::FeedShut => 9,
             Refusal::OutputRoom => 10,
+            Refusal::PixelRange => 11,
         }
     }
 
@@ -58,6 +61,7 @@ impl Refusal {
             Refusal::CellRange => 0,
             Refusal::FeedShut => 0,
             Refusal::OutputRoom => 0,
+            Refusal::PixelRange => 0,
         }
     }
 }
