@@ -77,12 +77,12 @@ unfolding paint shownBy
 strip-off ram font s strip f out out′ w q o e =
     record { pixels = rw o (e ∙ ap (λ (k : ℕ). replicate k 0 ++ drop k out) q); reads = rw o (unfold cells in refl) }
 
-row-none : (s : Settings) (strip : Strip) → s .osd ≡ true → ((n : ℕ) → rowBy glyphOf n strip ≡ done []) → shownRow s strip ≡ done []
+pub row-none : (s : Settings) (strip : Strip) → s .osd ≡ true → ((n : ℕ) → rowBy glyphOf n strip ≡ done []) → shownRow s strip ≡ done []
 unfolding shownBy
 row-none s strip o none = rw o (none _)
 
 -- a line with no character is plain
-paint-none : (s : Settings) (font : List ℕ) (f : ℕ) → s .osd ≡ true → paint s font f [] ≡ replicate (widthOf (s .ld)) (plainOf (s .fbk))
+pub paint-none : (s : Settings) (font : List ℕ) (f : ℕ) → s .osd ≡ true → paint s font f [] ≡ replicate (widthOf (s .ld)) (plainOf (s .fbk))
 unfolding paint
 paint-none s font f o =
     let all : min (firstPixelOf (s .dd)) (widthOf (s .ld)) + (widthOf (s .ld) - firstPixelOf (s .dd)) ≡ widthOf (s .ld) = omega arith in

@@ -136,7 +136,7 @@ module _ (ram font : List ℕ) (pen : Pen) (room a : ℕ) (p : even a ≡ a) (so
   one-more : (room + 11) / 12 ≡ suc ((room - 12 + 11) / 12)
   one-more = characters-more room some
 
-  room-ended : endsLine (getD ram (a + 1) 0) ≡ true
+  pub room-ended : endsLine (getD ram (a + 1) 0) ≡ true
       → (roomOf ram font pen room a ≡ replicate room (pen .plain)) × (length (cells ram (rowIn pen room a)) ≡ 2)
   room-ended e =
       let end-here = ended-here ram ((room - 12 + 11) / 12) (pen .slice) a p e in (
@@ -146,7 +146,7 @@ module _ (ram font : List ℕ) (pen : Pen) (room a : ℕ) (p : even a ≡ a) (so
         ap (λ (k : ℕ). length (cells ram (codes k (pen .slice) a))) one-more ∙ end-here .1,
       )
 
-  room-on : endsLine (getD ram (a + 1) 0) ≡ false
+  pub room-on : endsLine (getD ram (a + 1) 0) ≡ false
       → (roomOf ram font pen room a ≡ take room (character font (pen .plain) (pen .hidden) (placeAt ram pen a)) ++ roomOf ram font pen (room - 12) (even (a + 2)))
       × (length (cells ram (rowIn pen room a))
       ≡ 2 + length (cells ram (glyphOf (getD ram (a + 1) 0) (pen .slice))) + length (cells ram (rowIn pen (room - 12) (even (a + 2)))))

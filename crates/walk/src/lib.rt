@@ -69,7 +69,7 @@ fn enabled(high: u8) -> bool
 }
 
 // ZY
-fn zoom(high: u8) -> bool
+pub fn zoom(high: u8) -> bool
     ensures { λ r. ⌜ r ≡ zoomedBy high ⌝ }
 {
     high / 32 % 2 == 1

@@ -1,0 +1,167 @@
+-- The laws of one pixel: strip by strip to the line, code by code to the column.
+-- Assumes nothing.
+use Prim.Native.Nat.{ℕ, zero, suc, _+_, _-_, _*_, _/_, _%_, _≤_, _<_}
+use mathlib.Core.Path.{_≡_, refl, sym, ap, _∙_}
+use mathlib.Core.Bool.{Bool, true, false, cond, false≢true}
+use mathlib.Core.List.{List}
+use native.Mathlib.Omega.{arith}
+use borrow.Author.Tests.{ltb-true, lt-ltb, le-ltb}
+use lib.Dec.{eqb, ltb}
+use lib.ListN.{getD}
+use Rattle.cells.specs.Reading.{slice, done, read, value}
+use Rattle.raster.specs.declared.Slice.{Slice}
+use Rattle.raster.specs.Raster.{InStrip, beforeFirst, linesAfter, stripLines}
+use Rattle.walk.specs.declared.Strip.the-variants.{Spacing, Characters}
+use Rattle.walk.specs.Walk.{even, next, atLeastOne, isSpacing, enabledBy, zoomedBy, codesAt, showsCodes, stripOf, linesLeft}
+use Rattle.walk.proofs.Laws.{stripOf-some}
+use Rattle.glyph.specs.Words.{wordIn}
+use Rattle.glyph.proofs.Laws.{word-low}
+use Rattle.glyph.specs.Glyph.{font, user, blank, endsLine, userCell, fontByte, inRam, glyphOf, bitsOf}
+use Rattle.pixel.specs.declared.Pair.{Pair}
+use Rattle.pixel.specs.declared.StripLine.{StripLine}
+use Rattle.pixel.specs.declared.Row.{Row}
+use Rattle.pixel.specs.Pixel.{pairAt, linesOf, fallsIn, ended, twelveAt, sliceBits, characterPixel, rowPixel}
+
+-- ---- the lines of a strip
+
+-- as the walk counts them
+pub lines-left : (ch : ℕ) (d : Pair) → linesOf ch d ≡ linesLeft (stripOf ch (d .low) (d .high))
+unfolding stripOf linesLeft linesAfter beforeFirst
+lines-left ch d = by (isSpacing (d .high))
+  where
+    by : (t : Bool)
+        → cond t (atLeastOne (d .low)) (stripLines (atLeastOne ch) (zoomedBy (d .high)))
+        ≡ linesLeft
+        (cond t
+        (Spacing (atLeastOne (d .low)))
+        (Characters (codesAt (d .low) (d .high)) (atLeastOne ch) (zoomedBy (d .high)) (enabledBy (d .high)) beforeFirst))
+    by true = refl
+    by false = omega arith
+
+pub lines-some : (ch : ℕ) (d : Pair) → 1 ≤ linesOf ch d
+lines-some ch d = omega (arith, lines-left ch d, stripOf-some ch (d .low) (d .high))
+
+-- ---- strip by strip
+
+module _ (ram : List ℕ) (ch : ℕ) where
+  -- in the strip at the address, however many may be passed
+  pub falls-here : (n a y : ℕ) → y < linesOf ch (pairAt ram a) → fallsIn n ram ch a y ≡ record { descriptor = pairAt ram a; line = record { 0 = y + 1 } }
+  unfolding fallsIn
+  falls-here zero a y h = refl
+  falls-here (suc n) a y h = rw (lt-ltb y (linesOf ch (pairAt ram a)) h)
+
+  -- the bound is enough where it is y or more
+  enough : (n m a y : ℕ) → y ≤ n → y ≤ m → fallsIn n ram ch a y ≡ fallsIn m ram ch a y
+  unfolding fallsIn
+  enough zero m a y h k = sym (falls-here m a y (omega (arith, lines-some ch (pairAt ram a))))
+  enough (suc n) zero a y h k = falls-here (suc n) a y (omega (arith, lines-some ch (pairAt ram a)))
+  enough (suc n) (suc m) a y h k =
+      ap (cond (ltb y (linesOf ch (pairAt ram a))) (record { descriptor = pairAt ram a; line = record { 0 = y + 1 } }))
+      (enough n m (next a) (y - linesOf ch (pairAt ram a)) (omega (arith, lines-some ch (pairAt ram a))) (omega (arith, lines-some ch (pairAt ram a))))
+
+  -- past the strip at the address
+  pub falls-later : (a y : ℕ) → linesOf ch (pairAt ram a) ≤ y
+      → fallsIn y ram ch a y ≡ fallsIn (y - linesOf ch (pairAt ram a)) ram ch (next a) (y - linesOf ch (pairAt ram a))
+  unfolding fallsIn
+  falls-later a zero h = absurd (omega (arith, lines-some ch (pairAt ram a)))
+  falls-later a (suc y) h =
+      rw (le-ltb (suc y) (linesOf ch (pairAt ram a)) h)
+      (enough y (suc y - linesOf ch (pairAt ram a)) (next a) (suc y - linesOf ch (pairAt ram a)) (omega (arith, lines-some ch (pairAt ram a))) (omega arith))
+
+  -- the line of the strip that it falls in: from its first to its last
+  falls-within : (n a y : ℕ) → y ≤ n → (1 ≤ fallsIn n ram ch a y .line .0) × (fallsIn n ram ch a y .line .0 ≤ linesOf ch (fallsIn n ram ch a y .descriptor))
+  unfolding fallsIn
+  falls-within zero a y h = (omega arith, omega (arith, lines-some ch (pairAt ram a)))
+  falls-within (suc n) a y h =
+      by (ltb y (linesOf ch (pairAt ram a))) refl (falls-within n (next a) (y - linesOf ch (pairAt ram a)) (omega (arith, lines-some ch (pairAt ram a))))
+    where
+      here : StripLine
+      here = record { descriptor = pairAt ram a; line = record { 0 = y + 1 } }
+
+      later : StripLine
+      later = fallsIn n ram ch (next a) (y - linesOf ch (pairAt ram a))
+
+      by : (t : Bool) → ltb y (linesOf ch (pairAt ram a)) ≡ t → (1 ≤ later .line .0) × (later .line .0 ≤ linesOf ch (later .descriptor))
+          → (1 ≤ cond t here later .line .0) × (cond t here later .line .0 ≤ linesOf ch (cond t here later .descriptor))
+      by true e k = (omega arith, omega (arith, ltb-true y (linesOf ch (pairAt ram a)) e))
+      by false e k = k
+
+  -- a line of its strip, where that shows codes
+  pub falls-shown : (a y : ℕ) → showsCodes (fallsIn y ram ch a y .descriptor .high) ≡ true
+      → InStrip (fallsIn y ram ch a y .line) (atLeastOne ch) (zoomedBy (fallsIn y ram ch a y .descriptor .high))
+  falls-shown a y e = by (isSpacing (l .descriptor .high)) e (falls-within y a y (omega arith) .1)
+    where
+      l : StripLine
+      l = fallsIn y ram ch a y
+
+      by : (t : Bool) → cond t false (enabledBy (l .descriptor .high)) ≡ true
+          → l .line .0 ≤ cond t (atLeastOne (l .descriptor .low)) (stripLines (atLeastOne ch) (zoomedBy (l .descriptor .high)))
+          → InStrip (l .line) (atLeastOne ch) (zoomedBy (l .descriptor .high))
+      by true q h = absurd (false≢true q)
+      by false q h = record { from = falls-within y a y (omega arith) .0; to = h }
+
+-- ---- code by code
+
+-- what the glyph lookup gives of a code
+pub bits-glyph : (ram f : List ℕ) (high : ℕ) (s : Slice) → sliceBits ram f high (s .0) ≡ bitsOf f (value ram (glyphOf high s))
+unfolding glyphOf inRam value bitsOf
+bits-glyph ram f high s = by (eqb (high / 128 % 2) 0) (ltb (high % 128) 26)
+  where
+    by : (t u : Bool)
+        → cond t (twelveAt f (fontByte (high % 128) (s .0))) (cond u (twelveAt ram (userCell (high % 128) (s .0))) 0)
+        ≡ bitsOf f
+        (value ram
+        (cond t (done (font (high % 128) (s .0)))
+        (cond u
+        (read slice (userCell (high % 128) (s .0)) λ first. read slice (userCell (high % 128) (s .0) + 1) λ second. done (user first second))
+        (done blank))))
+    by true u = refl
+    by false true = refl
+    by false false = refl
+
+-- the row with its codes from an address on
+abbrev pub rowAt : Row → ℕ → Row
+rowAt row a = record { address = a; slice = row .slice; plain = row .plain; hidden = row .hidden }
+
+module _ (ram f : List ℕ) (row : Row) where
+  -- its first code ends the line
+  pub row-ended : (k c : ℕ) → endsLine (pairAt ram (row .address) .high) ≡ true → rowPixel ram f row k c ≡ row .plain
+  unfolding rowPixel ended
+  row-ended zero c e = rw e
+  row-ended (suc k) c e = rw e
+
+  -- its first code is a character
+  pub row-first : (c : ℕ) → endsLine (pairAt ram (row .address) .high) ≡ false
+      → rowPixel ram f row 0 c
+      ≡ characterPixel row (pairAt ram (row .address) .low) (sliceBits ram f (pairAt ram (row .address) .high) (row .slice .0)) c
+  unfolding rowPixel ended
+  row-first c e =
+      let at : row .address + 2 * 0 ≡ row .address = omega arith in
+      rw (e, at)
+
+  -- its later codes
+  pub row-later : (k c : ℕ) → endsLine (pairAt ram (row .address) .high) ≡ false
+      → rowPixel ram f row (suc k) c ≡ rowPixel ram f (rowAt row (next (row .address))) k c
+  unfolding rowPixel ended
+  row-later k c e =
+      let at : even (row .address + 2 * suc k) ≡ even (next (row .address) + 2 * k) = omega arith in
+      rw (e, at)
+
+module _ (ram f : List ℕ) (row : Row) (a left : ℕ) (e : endsLine (pairAt ram a .high) ≡ false) where
+  -- in the code at the address: a column of the word that is looked up there
+  pub row-here : ((i : ℕ) → getD ram i 0 < 256) → ((i : ℕ) → getD f i 0 < 256) → left < 12
+      → rowPixel ram f (rowAt row a) (left / 12) (left % 12)
+      ≡ characterPixel row (pairAt ram a .low) (wordIn ram f (pairAt ram a .high) (row .slice) .bits % 4096) left
+  row-here b d h =
+      let code : left / 12 ≡ 0 = omega arith in
+      let column : left % 12 ≡ left = omega arith in
+      rw (code, column, word-low ram f (pairAt ram a .high) (row .slice) b d, sym (bits-glyph ram f (pairAt ram a .high) (row .slice)))
+      (row-first ram f (rowAt row a) left e)
+
+  -- past the code at the address
+  pub row-on : 12 ≤ left
+      → rowPixel ram f (rowAt row (next a)) ((left - 12) / 12) ((left - 12) % 12) ≡ rowPixel ram f (rowAt row a) (left / 12) (left % 12)
+  row-on h =
+      let code : left / 12 ≡ suc ((left - 12) / 12) = omega arith in
+      let column : left % 12 ≡ (left - 12) % 12 = omega arith in
+      rw (code, column) (sym (row-later ram f (rowAt row a) ((left - 12) / 12) ((left - 12) % 12) e))

@@ -1,0 +1,247 @@
+-- The pixel of a line is the one that the line has there: the walk comes, line by line, to the line that is found strip by strip.
+-- Assumes nothing.
+use Prim.Native.Nat.{ℕ, zero, suc, _+_, _-_, _*_, _/_, _%_, _≤_, _<_, min}
+use mathlib.Core.Path.{_≡_, refl, sym, ap, ap₂, _∙_}
+use mathlib.Core.Bool.{Bool, true, false, not, cond}
+use mathlib.Core.List.{List, [], _++_}
+use native.Mathlib.Nat.{zero-add}
+use native.Mathlib.Decide.{decLt}
+use native.Mathlib.Omega.{arith}
+use borrow.Author.Tests.{lt-ltb, le-ltb}
+use lib.Dec.{ltb}
+use lib.ListN.{length, getD, replicate, length-replicate, getD-replicate, List·getD-append}
+use lib.Seq.{getD-append-add}
+use Rattle.cells.specs.Reading.{Reading, done, value}
+use Rattle.registers.specs.declared.Registers.{Registers}
+use Rattle.registers.specs.declared.Settings.{Settings}
+use Rattle.registers.specs.Registers.{settingsOf, pageOf}
+use Rattle.raster.specs.declared.ScanLine.{ScanLine}
+use Rattle.raster.specs.Raster.{beforeFirst, following, interpolated, widthOf, firstPixelOf, hiddenIn}
+use Rattle.walk.specs.declared.Strip.{Strip}
+use Rattle.walk.specs.declared.Strip.the-variants.{Spacing, Characters}
+use Rattle.walk.specs.declared.Walk.{Walk}
+use Rattle.walk.specs.declared.Walked.{Walked}
+use Rattle.walk.specs.Walk.{even, next, walkFrom, atLeastOne, zoomedBy, codesAt, showsCodes, stripOf, over, linesLeft, advanced, nextLine, walked}
+use Rattle.walk.proofs.Laws.{left-over, none-over, left-advanced, advancedBy, left-by, codes-shown, codes-none, walked-read, walked-on}
+use Rattle.glyph.specs.Glyph.{glyphOf}
+use Rattle.paint.specs.Pixels.{plainOf}
+use Rattle.line.specs.declared.Pen.{Pen}
+use Rattle.line.specs.Line.{Place, Scanned, rowBy, shownBy, shownRow, scan, paint}
+use Rattle.line.specs.Contracts.{roomOf}
+use Rattle.line.proofs.Strips.{row-none, paint-none, spacing-none, disabled-none, scan-value}
+use Rattle.pixel.specs.declared.Pair.{Pair}
+use Rattle.pixel.specs.declared.StripLine.{StripLine}
+use Rattle.pixel.specs.declared.Row.{Row}
+use Rattle.pixel.specs.Pixel.{pairAt, linesOf, fallsIn, sliceOf, rowPixel, charactersPixel, pixelAt}
+use Rattle.pixel.proofs.Laws.{lines-left, lines-some, falls-here, falls-later}
+use Rattle.pixel.proofs.Rows.{room-pixel}
+
+-- ---- the walk, line by line
+
+module _ (ram : List ℕ) (ch : ℕ) where
+  -- after so many lines
+  unfoldable pub walkAfter : ℕ → Walk → Walk
+  walkAfter zero w = w
+  walkAfter (suc n) w = walkAfter n (value ram (nextLine ch w))
+
+  pub one-more : (n : ℕ) (w : Walk) → walkAfter (suc n) w ≡ value ram (nextLine ch (walkAfter n w))
+  unfolding walkAfter
+  one-more zero w = refl
+  one-more (suc n) w = one-more n (value ram (nextLine ch w))
+
+  after-both : (m n : ℕ) (w : Walk) → walkAfter (m + n) w ≡ walkAfter n (walkAfter m w)
+  unfolding walkAfter
+  after-both zero n w = ap (λ (k : ℕ). walkAfter k w) (zero-add n)
+  after-both (suc m) n w =
+      let e : suc m + n ≡ suc (m + n) = omega arith in
+      ap (λ (k : ℕ). walkAfter k w) e ∙ after-both m n (value ram (nextLine ch w))
+
+  -- in a strip that has them left
+  on-strip : (k a : ℕ) (t : Strip) → k ≤ linesLeft t
+      → walkAfter k (record { descriptor = a; strip = t }) ≡ record { descriptor = a; strip = advancedBy k t }
+  unfolding walkAfter advancedBy walked
+  on-strip zero a t h = refl
+  on-strip (suc k) a t h =
+      ap (λ (v : Walked). walkAfter k (v .walk)) (walked-on ram ch (record { descriptor = a; strip = t }) (left-over t (omega arith)))
+      ∙ on-strip k a (advanced t) (omega (arith, left-advanced t))
+
+  -- the strip whose descriptor lies at an address
+  abbrev stripAt : ℕ → Strip
+  stripAt a = stripOf ch (pairAt ram a .low) (pairAt ram a .high)
+
+  -- in the next descriptor's strip
+  next-strip : (k : ℕ) (w : Walk) → over (w .strip) ≡ true → 1 ≤ k → k ≤ linesLeft (stripAt (w .descriptor))
+      → walkAfter k w ≡ record { descriptor = next (even (w .descriptor)); strip = advancedBy k (stripAt (w .descriptor)) }
+  unfolding walkAfter advancedBy walked
+  next-strip zero w o m h = absurd (omega arith)
+  next-strip (suc k) w o m h =
+      ap (λ (v : Walked). walkAfter k (v .walk)) (walked-read ram ch w o)
+      ∙ on-strip k (next (even (w .descriptor))) (advanced (stripAt (w .descriptor))) (omega (arith, left-advanced (stripAt (w .descriptor))))
+
+  -- the strip at its line
+  abbrev pub shownStrip : StripLine → Strip
+  shownStrip l = advancedBy (l .line .0) (stripOf ch (l .descriptor .low) (l .descriptor .high))
+
+  -- the walk is at the line that y falls in
+  abbrev Falls : ℕ → ℕ → Walk → Type 0
+  Falls y a w = over (w .strip) ≡ true → even (w .descriptor) ≡ even a → walkAfter (suc y) w .strip ≡ shownStrip (fallsIn y ram ch a y)
+
+  falls-first : (y a : ℕ) (w : Walk) → y < linesOf ch (pairAt ram a) → Falls y a w
+  falls-first y a w h o e =
+      let long : linesOf ch (pairAt ram (w .descriptor)) ≡ linesOf ch (pairAt ram a) =
+      ap (λ (i : ℕ). linesOf ch (record { low = getD ram i 0; high = getD ram (i + 1) 0 })) e in
+      let from-one : suc y ≡ y + 1 = omega arith in
+      ap (λ (v : Walk). v .strip) (next-strip (suc y) w o (omega arith) (omega (arith, long, lines-left ch (pairAt ram (w .descriptor)))))
+      ∙ ap₂ (λ (k i : ℕ). advancedBy k (stripOf ch (getD ram i 0) (getD ram (i + 1) 0))) from-one e
+      ∙ ap shownStrip (sym (falls-here ram ch y a y h))
+
+  falls-past : (y a : ℕ) (w : Walk) → linesOf ch (pairAt ram a) ≤ y
+      → ((v : Walk) → Falls (y - linesOf ch (pairAt ram a)) (next a) v) → Falls y a w
+  falls-past y a w h ih o e =
+      let lines : ℕ = linesOf ch (pairAt ram a) in
+      let left : linesLeft (stripAt (w .descriptor)) ≡ lines =
+      sym (lines-left ch (pairAt ram (w .descriptor))) ∙ ap (λ (i : ℕ). linesOf ch (record { low = getD ram i 0; high = getD ram (i + 1) 0 })) e in
+      let passed : walkAfter lines w ≡ record { descriptor = next (even (w .descriptor)); strip = advancedBy lines (stripAt (w .descriptor)) } =
+      next-strip lines w o (lines-some ch (pairAt ram a)) (omega (arith, left)) in
+      let then : suc y ≡ lines + suc (y - lines) = omega arith in
+      let from-even : next (even a) ≡ next a = omega arith in
+      ap (λ (k : ℕ). walkAfter k w .strip) then
+      ∙ ap (λ (v : Walk). v .strip) (after-both lines (suc (y - lines)) w)
+      ∙ ih (walkAfter lines w)
+      (ap (λ (v : Walk). over (v .strip)) passed
+      ∙ none-over (advancedBy lines (stripAt (w .descriptor))) (left-by lines (stripAt (w .descriptor)) ∙ omega (arith, left)))
+      (ap (λ (v : Walk). even (v .descriptor)) passed ∙ ap (λ (i : ℕ). even (next i)) e ∙ ap even from-even)
+      ∙ ap shownStrip (sym (falls-later ram ch a y h))
+
+  -- line by line as strip by strip: n bounds the strips
+  falls-strip : (n y a : ℕ) (w : Walk) → y ≤ n → Falls y a w
+  falls-strip zero y a w h = falls-first y a w (omega (arith, lines-some ch (pairAt ram a)))
+  falls-strip (suc n) y a w h = by (decLt y (linesOf ch (pairAt ram a))) (falls-strip n (y - linesOf ch (pairAt ram a)) (next a))
+    where
+      by : Dec (y < linesOf ch (pairAt ram a)) → ((v : Walk) → y - linesOf ch (pairAt ram a) ≤ n → Falls (y - linesOf ch (pairAt ram a)) (next a) v)
+          → Falls y a w
+      by (yes l) ih = falls-first y a w l
+      by (no l) ih = falls-past y a w (omega arith) (λ v. ih v (omega (arith, lines-some ch (pairAt ram a))))
+
+-- ---- the row of a strip's line
+
+-- a strip of characters at its line j
+characters-by : (k address height : ℕ) (zoom enabled : Bool) (line : ScanLine)
+    → advancedBy k (Characters address height zoom enabled line) ≡ Characters address height zoom enabled (record { 0 = line .0 + k })
+unfolding advancedBy advanced following
+characters-by zero address height zoom enabled line = ap (λ (j : ℕ). Characters address height zoom enabled (record { 0 = j })) (omega arith)
+characters-by (suc k) address height zoom enabled line =
+    characters-by k address height zoom enabled (following line)
+    ∙ ap (λ (j : ℕ). Characters address height zoom enabled (record { 0 = j })) (omega arith)
+
+spacing-by : (k left n : ℕ) → rowBy glyphOf n (advancedBy k (Spacing left)) ≡ done []
+unfolding advancedBy advanced
+spacing-by zero left n = spacing-none left n
+spacing-by (suc k) left n = spacing-by k (left - 1) n
+
+-- none where no codes are read
+no-row : (ch low high k n : ℕ) → showsCodes high ≡ false → rowBy glyphOf n (advancedBy k (stripOf ch low high)) ≡ done []
+no-row ch low high k n e =
+    codes-none (λ (t : Strip). rowBy glyphOf n (advancedBy k t) ≡ done []) ch low high e (λ left. spacing-by k left n)
+    (λ address height zoom line.
+    ap (rowBy glyphOf n) (characters-by k address height zoom false line)
+    ∙ disabled-none address height zoom false (record { 0 = line .0 + k }) refl n)
+
+-- ---- the pixel of a painted line
+
+module _ (ram font : List ℕ) (s : Settings) (f x : ℕ) (inside : x < widthOf (s .ld)) where
+  -- a line with no character
+  plain-pixel : (p : Reading (List Place)) → s .osd ≡ true → p ≡ done [] → getD (paint s font f (value ram p)) x 0 ≡ plainOf (s .fbk)
+  unfolding value
+  plain-pixel p o e =
+      ap (λ (q : Reading (List Place)). getD (paint s font f (value ram q)) x 0) e
+      ∙ ap (λ (l : List ℕ). getD l x 0) (paint-none s font f o)
+      ∙ getD-replicate (widthOf (s .ld)) x (plainOf (s .fbk)) 0 inside
+
+  -- a line with OSD 0
+  dark-pixel : (row : List Place) → s .osd ≡ false → getD (paint s font f row) x 0 ≡ 0
+  unfolding paint
+  dark-pixel row o = rw o (getD-replicate (widthOf (s .ld)) x 0 0 inside)
+
+  -- a line of characters: plain up to the first one, then the room of its row
+  module _ (address height : ℕ) (zoom : Bool) (line : ScanLine) (paired : even address ≡ address) (on : s .osd ≡ true) where
+    pen : Pen
+    pen = record { slice = interpolated line height zoom; plain = plainOf (s .fbk); hidden = hiddenIn (s .fl) f }
+
+    first : ℕ
+    first = firstPixelOf (s .dd)
+
+    row-pixel : getD (paint s font f (value ram (shownRow s (Characters address height zoom true line)))) x 0
+        ≡ cond (ltb x (firstPixelOf (s .dd))) (plainOf (s .fbk))
+        (rowPixel ram font
+        (record { address = address; slice = interpolated line height zoom; plain = plainOf (s .fbk); hidden = hiddenIn (s .fl) f })
+        ((x - firstPixelOf (s .dd)) / 12) ((x - firstPixelOf (s .dd)) % 12))
+    unfolding paint shownBy rowBy pen first
+    row-pixel = rw on (by (decLt x first))
+      where
+        margin : List ℕ
+        margin = replicate (min first (widthOf (s .ld))) (plainOf (s .fbk))
+
+        room : List ℕ
+        room = roomOf ram font pen (widthOf (s .ld) - first) address
+
+        by : Dec (x < first)
+            → getD (margin ++ room) x 0
+            ≡ cond (ltb x first) (plainOf (s .fbk))
+            (rowPixel ram font
+            (record { address = address; slice = interpolated line height zoom; plain = plainOf (s .fbk); hidden = hiddenIn (s .fl) f })
+            ((x - first) / 12) ((x - first) % 12))
+        by (yes l) =
+            rw (lt-ltb x first l)
+            (List·getD-append margin room 0 x (omega (arith, length-replicate (min first (widthOf (s .ld))) (plainOf (s .fbk))))
+            ∙ getD-replicate (min first (widthOf (s .ld))) x (plainOf (s .fbk)) 0 (omega arith))
+        by (no l) =
+            let k : ℕ = (x - first) / 12 in
+            let c : ℕ = (x - first) % 12 in
+            let past : x ≡ length margin + (12 * k + c) = omega (arith, length-replicate (min first (widthOf (s .ld))) (plainOf (s .fbk))) in
+            rw (le-ltb x first (omega arith))
+            (ap (λ (i : ℕ). getD (margin ++ room) i 0) past
+            ∙ getD-append-add margin room (12 * k + c) 0
+            ∙ room-pixel ram font pen k c (widthOf (s .ld) - first) address (omega arith) (omega arith) paired)
+
+  characters-pixel : (at : StripLine) → s .osd ≡ true → showsCodes (at .descriptor .high) ≡ true
+      → getD (paint s font f (value ram (shownRow s (shownStrip ram (s .ch) at)))) x 0 ≡ charactersPixel s ram font f at x
+  unfolding beforeFirst
+  characters-pixel at o e =
+      let d : Pair = at .descriptor in
+      let shown : shownStrip ram (s .ch) at ≡ Characters (codesAt (d .low) (d .high)) (atLeastOne (s .ch)) (zoomedBy (d .high)) true (at .line) =
+      ap (advancedBy (at .line .0)) (codes-shown (s .ch) (d .low) (d .high) e)
+      ∙ characters-by (at .line .0) (codesAt (d .low) (d .high)) (atLeastOne (s .ch)) (zoomedBy (d .high)) true beforeFirst
+      ∙ ap (λ (j : ℕ). Characters (codesAt (d .low) (d .high)) (atLeastOne (s .ch)) (zoomedBy (d .high)) true (record { 0 = j })) (zero-add (at .line .0))
+      in
+      ap (λ (t : Strip). getD (paint s font f (value ram (shownRow s t))) x 0) shown
+      ∙ row-pixel (codesAt (d .low) (d .high)) (atLeastOne (s .ch)) (zoomedBy (d .high)) (at .line) (omega arith) o
+
+  line-pixel : (at : StripLine)
+      → getD (paint s font f (value ram (shownRow s (shownStrip ram (s .ch) at)))) x 0
+      ≡ cond (not (s .osd)) 0 (cond (not (showsCodes (at .descriptor .high))) (plainOf (s .fbk)) (charactersPixel s ram font f at x))
+  line-pixel at = by (s .osd) (showsCodes (at .descriptor .high)) refl refl
+    where
+      by : (o t : Bool) → s .osd ≡ o → showsCodes (at .descriptor .high) ≡ t
+          → getD (paint s font f (value ram (shownRow s (shownStrip ram (s .ch) at)))) x 0
+          ≡ cond (not o) 0 (cond (not t) (plainOf (s .fbk)) (charactersPixel s ram font f at x))
+      by false t p q = dark-pixel (value ram (shownRow s (shownStrip ram (s .ch) at))) p
+      by true false p q =
+          plain-pixel (shownRow s (shownStrip ram (s .ch) at)) p
+          (row-none s (shownStrip ram (s .ch) at) p (λ n. no-row (s .ch) (at .descriptor .low) (at .descriptor .high) (at .line .0) n q))
+      by true true p q = characters-pixel at p q
+
+-- ---- line y of a frame
+
+-- the pixel that a frame's line y has at x, where the frame began at the page of its registers
+pub pixel-is : (r : Registers) (ram font : List ℕ) (f x y : ℕ) → x < widthOf (settingsOf r .ld)
+    → getD (paint (settingsOf r) font f (value ram (scan (settingsOf r) (walkAfter ram (settingsOf r .ch) y (walkFrom (pageOf r)))) .row)) x 0
+    ≡ pixelAt r ram font f x y
+unfolding pixelAt walkFrom over
+pixel-is r ram font f x y h =
+    let s : Settings = settingsOf r in
+    let w : Walk = walkFrom (pageOf r) in
+    ap (λ (z : Scanned). getD (paint s font f (z .row)) x 0) (scan-value glyphOf ram s (walkAfter ram (s .ch) y w))
+    ∙ ap (λ (t : Strip). getD (paint s font f (value ram (shownRow s t))) x 0)
+    (ap (λ (v : Walk). v .strip) (sym (one-more ram (s .ch) y w)) ∙ falls-strip ram (s .ch) y y (pageOf r * 64) w (omega arith) refl refl)
+    ∙ line-pixel ram font s f x h (fallsIn y ram (s .ch) (pageOf r * 64) y)

@@ -1,0 +1,108 @@
+-- Request K5: the pixel at column x of line y of a frame, both counted from 0, while RAM, registers and font stay put. Document 01 read once
+-- more, as plainly as it can be and in its order: neither the scan nor the painting of a line (crate line) is used. Shared with them are small
+-- rules alone: settings and P, what the bytes of a descriptor and of a code say, the slice of a line and where its bytes lie, the colours of a
+-- low byte, the first pixel and the hidden time.
+-- Assumes nothing.
+use Prim.Native.Nat.{ℕ, zero, suc, _+_, _-_, _*_, _/_, _%_, _^_}
+use mathlib.Core.Bool.{Bool, not, cond, _&&_, _||_}
+use mathlib.Core.List.{List}
+use lib.Dec.{eqb, ltb}
+use lib.ListN.{getD}
+use Rattle.registers.specs.declared.Registers.{Registers}
+use Rattle.registers.specs.declared.Settings.{Settings}
+use Rattle.registers.specs.Registers.{settingsOf, pageOf}
+use Rattle.raster.specs.declared.Slice.{Slice}
+use Rattle.raster.specs.Raster.{stripLines, interpolated, firstPixelOf, hiddenIn}
+use Rattle.walk.specs.Walk.{even, next, atLeastOne, isSpacing, zoomedBy, codesAt, showsCodes}
+use Rattle.glyph.specs.Glyph.{endsLine, userCell, fontByte, twelve}
+use Rattle.paint.specs.Pixels.{plainOf, flashes, foreground, background}
+use Rattle.pixel.specs.declared.Pair.{Pair}
+use Rattle.pixel.specs.declared.StripLine.{StripLine}
+use Rattle.pixel.specs.declared.Row.{Row}
+
+-- a descriptor, or a code: two bytes at an even address, low byte first; addresses wrap at 1,024 (H)
+abbrev pub pairAt : List ℕ → ℕ → Pair
+pairAt ram a = record { low = getD ram (even a) 0; high = getD ram (even a + 1) 0 }
+
+-- ---- "Walk of a frame": which strip does line y fall in, and which of its lines is it?
+
+-- spacing has SL lines; characters have CH lines, or twice that with ZY. SL or CH of 0 is taken as 1 (H)
+abbrev pub linesOf : ℕ → Pair → ℕ
+linesOf ch d = cond (isSpacing (d .high)) (atLeastOne (d .low)) (stripLines (atLeastOne ch) (zoomedBy (d .high)))
+
+-- line y, counted from the first line of the strip whose descriptor lies at an address, is a line of that strip, where lines count from 1, or it
+-- falls in the strips after it. n is how many strips may still be passed: y is enough, since each has a line at least, and where n is 0 so is y
+unfoldable pub fallsIn : ℕ → List ℕ → ℕ → ℕ → ℕ → StripLine
+fallsIn zero ram ch a y = record { descriptor = pairAt ram a; line = record { 0 = y + 1 } }
+fallsIn (suc n) ram ch a y =
+    cond (ltb y (linesOf ch (pairAt ram a)))
+    (record { descriptor = pairAt ram a; line = record { 0 = y + 1 } })
+    (fallsIn n ram ch (next a) (y - linesOf ch (pairAt ram a)))
+
+-- ---- "From line to slice"
+
+-- the slice that a line of characters shows: n times 18 over CH, rounded, halves up (H), and 1 at the least (K2)
+abbrev pub sliceOf : ℕ → StripLine → Slice
+sliceOf ch at = interpolated (at .line) (atLeastOne ch) (zoomedBy (at .descriptor .high))
+
+-- ---- "Codes and glyphs"
+
+-- one of the codes 0 to k of the row at an address ends the line: SET 1, 127 (H)
+unfoldable pub ended : ℕ → List ℕ → ℕ → Bool
+ended zero ram a = endsLine (pairAt ram a .high)
+ended (suc k) ram a = endsLine (pairAt ram a .high) || ended k ram (next a)
+
+-- the two bytes at a place, as the pixels PX11 to PX0, a bit each
+abbrev pub twelveAt : List ℕ → ℕ → ℕ
+twelveAt bytes i = twelve (getD bytes i 0) (getD bytes (i + 1) 0)
+
+-- what a code's high byte shows in a slice. SET 0: a font character. SET 1, 0 to 25: a user character; 26 to 126: all background (H)
+abbrev pub sliceBits : List ℕ → List ℕ → ℕ → ℕ → ℕ
+sliceBits ram font high slice =
+    let number : ℕ = high % 128 in
+    cond (eqb (high / 128 % 2) 0)
+    (twelveAt font (fontByte number slice))
+    (cond (ltb number 26) (twelveAt ram (userCell number slice)) 0)
+
+-- ---- "Pixels"
+
+-- is column c of a character, 0 to 11, foreground? PX11 is leftmost. A flashing character in its hidden time draws foreground as background
+abbrev pub isForeground : Bool → ℕ → ℕ → ℕ → Bool
+isForeground hidden low bits c = not (hidden && flashes low) && eqb (bits / 2 ^ (11 - c) % 2) 1
+
+-- its pixel. A shadow falls where the pixel to the left in the same character is (drawn as) foreground; to the left of column 0 is none
+abbrev pub characterPixel : Row → ℕ → ℕ → ℕ → ℕ
+characterPixel row low bits c =
+    cond (isForeground (row .hidden) low bits c)
+    (foreground low)
+    (background (row .plain) low (ltb 0 c && isForeground (row .hidden) low bits (c - 1)))
+
+-- column c of code k of a row: plain from the end of line on
+unfoldable pub rowPixel : List ℕ → List ℕ → Row → ℕ → ℕ → ℕ
+rowPixel ram font row k c =
+    let code : Pair = pairAt ram (row .address + 2 * k) in
+    cond (ended k ram (row .address)) (row .plain) (characterPixel row (code .low) (sliceBits ram font (code .high) (row .slice .0)) c)
+
+-- column x of a line of characters: plain before the first character, then twelve columns a code. x is below W, so its code is read; W cuts
+-- the last
+abbrev pub charactersPixel : Settings → List ℕ → List ℕ → ℕ → StripLine → ℕ → ℕ
+charactersPixel s ram font f at x =
+    let first : ℕ = firstPixelOf (s .dd) in
+    let row : Row =
+    record {
+      address = codesAt (at .descriptor .low) (at .descriptor .high);
+      slice = sliceOf (s .ch) at;
+      plain = plainOf (s .fbk);
+      hidden = hiddenIn (s .fl) f;
+    }
+    in
+    cond (ltb x first) (plainOf (s .fbk)) (rowPixel ram font row ((x - first) / 12) ((x - first) % 12))
+
+-- the pixel at column x, below W, of line y, in a frame with number f, 0 to 63. Descriptors from P times 64 on. OSD 0: every pixel 0. Spacing
+-- strips and strips with DE 0 are plain
+unfoldable pub pixelAt : Registers → List ℕ → List ℕ → ℕ → ℕ → ℕ → ℕ
+pixelAt r ram font f x y =
+    let s : Settings = settingsOf r in
+    let at : StripLine = fallsIn y ram (s .ch) (pageOf r * 64) y in
+    cond (not (s .osd)) 0
+    (cond (not (showsCodes (at .descriptor .high))) (plainOf (s .fbk)) (charactersPixel s ram font f at x))

@@ -1,0 +1,260 @@
+// One pixel of a frame, asked for by column and line: document 01 as plainly as it can be read, for the bench. Nothing is kept between
+// calls, so every call walks from the frame's first descriptor. A line is drawn faster by the device's own draw.
+ghost use mathlib.Core.Path.{_≡_};
+ghost use Prim.Native.Nat.{_/_, _%_, _<_, _≤_};
+ghost use lib.ListN.{length};
+ghost use Rattle.limits.specs.Limits.{ramLength, frameLines};
+ghost use Rattle.raster.specs.Raster.{InStrip, OnScreen};
+ghost use Rattle.walk.specs.Walk.{atLeastOne, zoomedBy};
+ghost use Rattle.glyph.specs.Glyph.{Lent};
+ghost use Rattle.paint.specs.Pixels.{foreground, background};
+ghost use Rattle.pixel.specs.Pixel.{pairAt, linesOf, fallsIn, sliceOf, isForeground, characterPixel, rowPixel, pixelAt};
+ghost use Rattle.pixel.specs.Ask.{pixelReply, askPixel};
+use device::Device;
+use raster::ScanLine;
+use raster::Slice;
+use refusals::Refusal;
+use registers::Registers;
+
+// Two bytes of RAM at an even address: a descriptor, or a code.
+pub struct Pair {
+    pub low: u8,
+    pub high: u8,
+}
+
+// A line of a frame: the descriptor of its strip, and which line of the strip it is.
+pub struct StripLine {
+    pub descriptor: Pair,
+    pub line: ScanLine,
+}
+
+// What a line of characters draws with.
+pub struct Row {
+    // where its codes start
+    pub address: u16,
+    pub slice: Slice,
+    // the plain pixel
+    pub plain: u8,
+    // flashing characters are in their hidden time
+    pub hidden: bool,
+}
+
+pub enum PixelAnswer {
+    Shown(u8),
+    Refused(Refusal),
+}
+
+fn pair_at(ram: &[u8], address: u16) -> Pair
+    requires { ⌜ length (now ram) ≡ ramLength ⌝ }
+    ensures { λ r. ⌜ r ≡ pairAt (now (ram .entry)) address ⌝ }
+{
+    let at = walk::even_address(address) as usize;
+    Pair {
+        low: ram[at],
+        high: ram[at + 1],
+    }
+}
+
+// How many lines a descriptor's strip has.
+fn lines_of(ch: u8, descriptor: Pair) -> u16
+    ensures { λ r. ⌜ r ≡ linesOf ch descriptor ⌝ }
+{
+    walk::strip_lines(ch, descriptor.low, descriptor.high)
+}
+
+// Strip by strip: the strip that line y falls in, of those from a descriptor on.
+fn falls_in(ram: &[u8], ch: u8, first: u16, y: u16) -> StripLine
+    requires { ⌜ length (now ram) ≡ ramLength ⌝ }
+    requires { ⌜ (first ≤ 1022) × (y < frameLines) ⌝ }
+    ensures { λ r. ⌜ r ≡ fallsIn y (now (ram .entry)) ch first y ⌝ }
+{
+    let mut at = first;
+    let mut left = y;
+    loop {
+        let descriptor = pair_at(ram, at);
+        let lines = lines_of(ch, descriptor);
+        if left < lines {
+            return StripLine {
+                descriptor: descriptor,
+                line: ScanLine(left + 1),
+            };
+        }
+        left -= lines;
+        at = walk::even_address(at + 2);
+    }
+}
+
+fn foreground_pixel(low: u8) -> u8
+    ensures { λ r. ⌜ r ≡ foreground low ⌝ }
+{
+    8 + low / 16 % 8
+}
+
+fn background_pixel(plain: u8, low: u8, beside: bool) -> u8
+    ensures { λ r. ⌜ r ≡ background plain low beside ⌝ }
+{
+    if low / 8 % 2 == 0 {
+        return 8 + low % 8;
+    }
+    if low / 2 % 2 == 0 {
+        return plain;
+    }
+    if beside { 8 } else { plain }
+}
+
+// Is a column of a character foreground?
+fn is_foreground(hidden: bool, low: u8, bits: u16, column: u16) -> bool
+    requires { ⌜ column < 12 ⌝ }
+    ensures { λ r. ⌜ r ≡ isForeground hidden low bits column ⌝ }
+{
+    if hidden {
+        if low / 128 % 2 == 1 {
+            return false;
+        }
+    }
+    (bits >> (11 - column)) % 2 == 1
+}
+
+fn character_pixel(row: Row, low: u8, bits: u16, column: u16) -> u8
+    requires { ⌜ column < 12 ⌝ }
+    ensures { λ r. ⌜ r ≡ characterPixel row low bits column ⌝ }
+{
+    if is_foreground(row.hidden, low, bits, column) {
+        return foreground_pixel(low);
+    }
+    if column == 0 {
+        return background_pixel(row.plain, low, false);
+    }
+    background_pixel(
+        row.plain,
+        low,
+        is_foreground(row.hidden, low, bits, column - 1),
+    )
+}
+
+// The pixel at a column of a row, counted from its first character's first pixel.
+fn row_pixel<'a>(ram: &'a [u8], font: &'a [u8], row: Row, column: u16) -> u8
+    requires { ⌜ Lent (now ram) (now font) ⌝ }
+    requires { ⌜ OnScreen (row .slice) ⌝ }
+    requires { ⌜ row .address ≤ 1022 ⌝ }
+    ensures { λ r. ⌜ r ≡ rowPixel (now (ram .entry)) (now (font .entry)) row (column / 12) (column % 12) ⌝ }
+{
+    let mut at = row.address;
+    let mut left = column;
+    loop {
+        let code = pair_at(ram, at);
+        let high = code.high;
+        if high == 255 {
+            return row.plain;
+        }
+        if left < 12 {
+            let word = glyph::lookup(ram, font, high, row.slice);
+            return character_pixel(row, code.low, word.bits % 4096, left);
+        }
+        left -= 12;
+        at = walk::even_address(at + 2);
+    }
+}
+
+// The slice that a line of characters shows.
+fn slice_of(ch: u8, at: StripLine) -> Slice
+    requires { ⌜ InStrip (at .line) (atLeastOne ch) (zoomedBy (at .descriptor .high)) ⌝ }
+    ensures { λ r. ⌜ r ≡ sliceOf ch at ⌝ }
+{
+    let descriptor = at.descriptor;
+    let line = at.line;
+    line.slice(walk::at_least_one(ch), walk::zoom(descriptor.high))
+}
+
+fn pixel_at<'a>(
+    registers: Registers,
+    ram: &'a [u8],
+    font: &'a [u8],
+    frame: u8,
+    x: u16,
+    y: u16,
+) -> u8
+    requires { ⌜ Lent (now ram) (now font) ⌝ }
+    requires { ⌜ y < frameLines ⌝ }
+    ensures { λ r. ⌜ r ≡ pixelAt registers (now (ram .entry)) (now (font .entry)) frame x y ⌝ }
+{
+    let settings = registers.settings();
+    if !settings.osd {
+        return 0;
+    }
+    let plain = 8 * settings.fbk;
+    let at = falls_in(ram, settings.ch, registers.page() as u16 * 64, y);
+    let descriptor = at.descriptor;
+    if !walk::shows_codes(descriptor.high) {
+        return plain;
+    }
+    let first = raster::first_pixel(settings.dd);
+    if x < first {
+        return plain;
+    }
+    let row = Row {
+        address: walk::code_address(descriptor.low, descriptor.high),
+        slice: slice_of(settings.ch, at),
+        plain: plain,
+        hidden: raster::hidden(settings.fl, frame),
+    };
+    row_pixel(ram, font, row, x - first)
+}
+
+// The pixel at column x of line y, both counted from 0, of a frame of so many lines with this number, by the device's registers alone.
+// Refusals 1, 2, 6, then 11.
+pub fn ask<'a>(
+    device: Device,
+    ram: &'a [u8],
+    font: &'a [u8],
+    lines: u32,
+    frame: u32,
+    x: u32,
+    y: u32,
+) -> PixelAnswer
+    ensures { λ r. ⌜ pixelReply r ≡ askPixel (device .registers) (now (ram .entry)) (now (font .entry)) lines frame x y ⌝ }
+{
+    if ram.len() != limits::RAM_LENGTH {
+        return PixelAnswer::Refused(Refusal::RamLength);
+    }
+    if font.len() != limits::FONT_LENGTH {
+        return PixelAnswer::Refused(Refusal::FontLength);
+    }
+    if lines == 0 {
+        return PixelAnswer::Refused(Refusal::FrameLines);
+    }
+    if lines > limits::FRAME_LINES {
+        return PixelAnswer::Refused(Refusal::FrameLines);
+    }
+    let registers = device.registers;
+    let settings = registers.settings();
+    if x >= raster::width(settings.ld) as u32 {
+        return PixelAnswer::Refused(Refusal::PixelRange);
+    }
+    if y >= lines {
+        return PixelAnswer::Refused(Refusal::PixelRange);
+    }
+    PixelAnswer::Shown(pixel_at(registers, ram, font, (frame % 64) as u8, x as u16, y as u16))
+}
+
+impl PixelAnswer {
+    // The refusal's number; 0 with a pixel.
+    pub fn refusal(self) -> u8
+        ensures { λ r. ⌜ r ≡ pixelReply self .refusal ⌝ }
+    {
+        match self {
+            PixelAnswer::Shown(_) => 0,
+            PixelAnswer::Refused(r) => r.number(),
+        }
+    }
+
+    // The pixel; 0 with a refusal.
+    pub fn value(self) -> u8
+        ensures { λ r. ⌜ r ≡ pixelReply self .value ⌝ }
+    {
+        match self {
+            PixelAnswer::Shown(pixel) => pixel,
+            PixelAnswer::Refused(r) => r.value(),
+        }
+    }
+}
