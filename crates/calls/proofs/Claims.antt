@@ -2,17 +2,22 @@
 -- Assumes nothing.
 use Rattle.calls.specs.Fed.{FedAreBusEvents}
 use Rattle.calls.specs.OnePage.{OnePage}
+use Rattle.calls.specs.Pixels.{PixelsAgree}
 use Rattle.calls.specs.Reach.{UnusedBits}
 use Rattle.calls.specs.Use.{QuietEvents, WritesAlone, NoStays}
 use Rattle.calls.specs.Witnesses.{Witnesses}
 use Rattle.calls.proofs.Fed as fed
 use Rattle.calls.proofs.OnePage as page
+use Rattle.calls.proofs.Pixels as pixels
 use Rattle.calls.proofs.Quiet as quiet
 use Rattle.calls.proofs.Reach as reach
 use Rattle.calls.proofs.Witnesses as witness
 
 pub one-page : OnePage
 one-page = page.one-page
+
+pub pixels-agree : PixelsAgree
+pixels-agree = pixels.pixels-agree
 
 pub fed-are-bus-events : FedAreBusEvents
 fed-are-bus-events = fed.fed-are-bus-events

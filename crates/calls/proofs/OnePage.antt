@@ -14,6 +14,7 @@ use Rattle.cells.specs.Reading.{bind, value, cells, among, Alike}
 use Rattle.cells.proofs.Laws.{cells-bind, value-alike, cells-alike, alike-left, alike-right, unread-right}
 use Rattle.refusals.specs.declared.Refusal.the-variants.{RamLength, CellRange}
 use Rattle.refusals.specs.Refusals.{accepted, refused, Verdict, passed, failed}
+use Rattle.registers.specs.declared.Registers.{Registers}
 use Rattle.registers.specs.declared.Settings.{Settings}
 use Rattle.registers.specs.Registers.{settingsOf}
 use Rattle.raster.specs.Raster.{widthOf}
@@ -25,9 +26,10 @@ use Rattle.line.specs.Line.{scan, paint}
 use Rattle.ahead.specs.Ahead.{remaining}
 use Rattle.device.specs.declared.Device.{Device}
 use Rattle.device.specs.Device.{hearEvent, DrawOutcome, drawVerdict, drawBy, drawLine, nextScan, pixelsOf, lineOn, lineDrawn, cellsLeft, askCell}
-use Rattle.device.proofs.Laws.{drawable, by-draw}
+use Rattle.device.proofs.Laws.{drawable, by-draw, draw-same}
+use Rattle.pixel.specs.Ask.{askPixel}
 use Rattle.capture.specs.Capture.{fedEvents}
-use Rattle.calls.specs.OnePage.{Call, draw, ask, event, feed, anew, State, drawn, asked, heard, chipOf, answer, after, isEvent, calls, Quiet, QuietWrite, fedCall, fedCalls, QuietCall, OnePage}
+use Rattle.calls.specs.OnePage.{Call, draw, ask, event, feed, anew, pixel, State, drawn, asked, heard, shown, chipOf, answer, after, isEvent, calls, Quiet, QuietWrite, fedCall, fedCalls, QuietCall, OnePage}
 use Rattle.calls.specs.Use.{EventQuiet, AllQuiet, WritesAlone, NoStays}
 use Rattle.calls.proofs.Fed.{ended, told, fed-after, fed-answer}
 use Rattle.calls.proofs.Quiet.{quiet-if-write, says-no}
@@ -144,6 +146,7 @@ looks-if (ask cell) o = asks cell
 looks-if (event e) o = absurd (true≢false o)
 looks-if (feed chunk out) o = absurd (true≢false o)
 looks-if anew o = absurd (true≢false o)
+looks-if (pixel lines frame x y) o = absurd (true≢false o)
 
 -- the event stays quiet
 quiet-on : (font : List ℕ) (s : State) (e : Event) {c : Call} → Looks c → Quiet s e → Quiet (after font s c) e
@@ -243,6 +246,18 @@ unfolding AllQuiet answer after
 anew-apart font s (draws line) = record { other = refl; own = refl; either-way = refl; still = tt }
 anew-apart font s (asks cell) = record { other = refl; own = refl; either-way = refl; still = tt }
 
+-- a draw keeps RAM and registers, which are all that a question about a pixel looks at, and the question keeps everything
+pixel-apart : (font : List ℕ) (s : State) (lines frame x y : ℕ) {c : Call} → Looks c → Apart (AllQuiet font) (calls font) s (pixel lines frame x y) c
+unfolding AllQuiet answer after
+pixel-apart font s lines frame x y (draws line) =
+    record {
+      other = refl;
+      own = ap (λ (r : Registers). shown (askPixel r (s .ram) font lines frame x y)) (draw-same (s .device) (s .ram) font line);
+      either-way = refl;
+      still = tt;
+    }
+pixel-apart font s lines frame x y (asks cell) = record { other = refl; own = refl; either-way = refl; still = tt }
+
 -- ---- condition 3
 
 -- every event is quiet, since every write is
@@ -253,6 +268,7 @@ event-quiet u (ask cell) h = tt
 event-quiet u (event e) h = quiet-if-write u e h
 event-quiet u (feed chunk out) h = tt
 event-quiet u anew h = tt
+event-quiet u (pixel lines frame x y) h = tt
 
 -- those that a feed makes, too
 call-quiet : (font : List ℕ) (u : State) (c : Call) → QuietCall font u c → AllQuiet font u c
@@ -261,6 +277,7 @@ call-quiet font u (draw line) h = tt
 call-quiet font u (ask cell) h = tt
 call-quiet font u (event e) h = event-quiet u (event e) h
 call-quiet font u anew h = tt
+call-quiet font u (pixel lines frame x y) h = tt
 call-quiet font u (feed chunk out) h = as-made-map QuietWrite EventQuiet (calls font) event-quiet u (fedCalls u chunk out) h
 
 pub writes-alone : WritesAlone
@@ -274,6 +291,7 @@ apart font u (ask cell) c p o h = absurd (true≢false (sym p))
 apart font u (event e) c p o h = event-apart (AllQuiet font) (λ v x q. q) font u e (looks-if c o) h
 apart font u (feed chunk out) c p o h = feed-apart font u chunk out (looks-if c o) h
 apart font u anew c p o h = anew-apart font u (looks-if c o)
+apart font u (pixel lines frame x y) c p o h = pixel-apart font u lines frame x y (looks-if c o)
 
 pub one-page : OnePage
 one-page font s cs q = reordered (AllQuiet font) (calls font) (apart font) s cs (writes-alone font s cs q)
@@ -299,6 +317,7 @@ still-unread font cell u (draw line) h n =
 still-unread font cell u (ask other) h n = n
 still-unread font cell u (event e) h n = same-ask (u .device) (u .ram) e (h .settings) (h .cells) cell ∙ n
 still-unread font cell u anew h n = n
+still-unread font cell u (pixel lines frame x y) h n = n
 still-unread font cell u (feed chunk out) h n = let a = feed-apart font u chunk out (asks cell) h .other in cc
 
 pub no-stays : NoStays

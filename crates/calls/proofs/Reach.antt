@@ -20,8 +20,8 @@ use Rattle.bus.specs.declared.Effect.the-variants.{Acknowledge, Ignore, Store, 
 use Rattle.bus.specs.Bus.{eventOf, BusOutcome, step, isRegister, registersWith, taken}
 use Rattle.bus.proofs.Laws.{by-event, busEvent-sixteen}
 use Rattle.device.specs.declared.Device.{Device}
-use Rattle.device.specs.Device.{freshDevice, hearEvent, StartOutcome, inFrame, startFrame, DrawOutcome, lineOn, lineDrawn, drawLine}
-use Rattle.device.proofs.Laws.{by-start, by-draw}
+use Rattle.device.specs.Device.{freshDevice, hearEvent, StartOutcome, inFrame, startFrame}
+use Rattle.device.proofs.Laws.{by-start, draw-same}
 use Rattle.capture.specs.declared.Feed.{Feed}
 use Rattle.capture.specs.Capture.{Logged, finished, Chip, chip, busEvents, feedVerdict, chunkFed, feedBy, feedChunk}
 use Rattle.calls.specs.Reach.{Reachable, fresh, reset, event, start, draw, feed, UnusedBits}
@@ -56,11 +56,6 @@ event-whole d ram e h =
 start-same : (d : Device) (lines : ℕ) → startFrame d lines .device .registers ≡ d .registers
 unfolding inFrame
 start-same d lines = by-start (λ (o : StartOutcome). o .device .registers ≡ d .registers) d lines refl refl
-
-draw-same : (d : Device) (ram font line : List ℕ) → drawLine d ram font line .device .registers ≡ d .registers
-unfolding lineDrawn lineOn
-draw-same d ram font line =
-    by-draw d ram font line (λ (x : DrawOutcome). x .device .registers ≡ d .registers) (λ r. refl) (λ ready. refl)
 
 -- a feed, if its tests pass, is its events, one by one
 events-whole : (c : Chip) (es : List Logged) → Whole (c .device .registers) → Whole (end busEvents c es .device .registers)

@@ -21,8 +21,10 @@ use Rattle.paint.specs.Pixels.{inkOf, columns, twelveColumns}
 use Rattle.line.specs.Line.{codesBy, rowBy, shownBy, scanBy, character, painted, paint}
 use Rattle.ahead.specs.Ahead.{remaining}
 use Rattle.device.specs.Device.{freshDevice, hearEvent, startFrame, inFrame, pixelsOf, lineOn, lineDrawn, drawVerdict, drawBy, drawLine, cellsLeft, askCell, remainingOf}
+use Rattle.pixel.specs.Pixel.{fallsIn, ended, rowPixel, pixelAt}
+use Rattle.pixel.specs.Ask.{pixelVerdict, pixelBy, askPixel}
 use Rattle.capture.specs.Capture.{finished, feedAfter, outputs, feedVerdict, chunkFed, feedBy, eventsBy, feedChunk}
-use Rattle.calls.specs.OnePage.{Call, draw, ask, event, feed, anew, State, Answer, drawn, asked, fed, renewed, answer, after, isEvent, calls, effectOf, Stores, QuietWrite, fedCalls, QuietCall}
+use Rattle.calls.specs.OnePage.{Call, draw, ask, event, feed, anew, pixel, State, Answer, drawn, asked, fed, renewed, shown, answer, after, isEvent, calls, effectOf, Stores, QuietWrite, fedCalls, QuietCall}
 use Rattle.calls.specs.OnePage as one-page
 use Rattle.calls.specs.Witnesses.{addressing, write, font, heard, started, traffic, picture, buffer, turning, refusalOf, firstLine, Changes}
 use Rattle.calls.specs.Witnesses.{Setting, LD, DD, CH, OSD, FBK, FL, but, ButSetting, ButCell, ready, Seen, Witnesses}
@@ -85,6 +87,7 @@ eventTest s (event e) =
     && sameTest (settingsOf (hearEvent (s .device) (s .ram) e .device .registers)) (settingsOf (s .device .registers))
 eventTest s (feed chunk out) = true
 eventTest s anew = true
+eventTest s (pixel lines frame x y) = true
 
 -- each call of a list passes a test as it is made
 runTest : (State → Call → Bool) → State → List Call → Bool
@@ -98,6 +101,7 @@ quietTest s (ask cell) = true
 quietTest s (event e) = eventTest s (event e)
 quietTest s (feed chunk out) = runTest eventTest s (fedCalls s chunk out)
 quietTest s anew = true
+quietTest s (pixel lines frame x y) = true
 
 -- what a test shows of a call holds of each call that passes it
 as-made-if : (P : State → Call → Type 0) (test : State → Call → Bool) → ((s : State) (c : Call) → T (test s c) → P s c)
@@ -117,6 +121,7 @@ write-if s (event e) t =
     λ _. record { cells = alike-if _ _ _ alike; settings = same-if _ _ same }
 write-if s (feed chunk out) t = tt
 write-if s anew t = tt
+write-if s (pixel lines frame x y) t = tt
 
 call-if : (s : State) (c : Call) → T (quietTest s c) → QuietCall font s c
 unfolding quietTest QuietCall
@@ -125,6 +130,7 @@ call-if s (ask cell) t = tt
 call-if s (event e) t = write-if s (event e) t
 call-if s (feed chunk out) t = as-made-if QuietWrite eventTest write-if s (fedCalls s chunk out) t
 call-if s anew t = tt
+call-if s (pixel lines frame x y) t = tt
 
 -- ---- a test that shows two runs to differ
 
@@ -135,6 +141,7 @@ pixelOf i (asked reply) = 0
 pixelOf i (one-page.heard reply) = 0
 pixelOf i (fed reply out) = 0
 pixelOf i renewed = 0
+pixelOf i (shown reply) = 0
 
 pixelIn : ℕ → List (Entry Call Answer) → ℕ
 pixelIn i [] = 0
@@ -147,7 +154,7 @@ unfolding addressing write font heard started traffic picture buffer turning ref
     cellsLeft askCell log end select step ramWith registersWith answerTo taken busEvent settingsOf remaining scanBy nextLine walkFrom
     over begun advanced stripOf rowBy shownBy codesBy glyphOf inRam bind fmap value cells cellsAs sameRole among beforeFirst following isLast
     interpolated sliceNumber paint painted character twelveColumns inkOf columns bitsOf
-    finished feedAfter outputs feedVerdict chunkFed feedBy eventsBy feedChunk
+    finished feedAfter outputs feedVerdict chunkFed feedBy eventsBy feedChunk fallsIn ended rowPixel pixelAt pixelVerdict pixelBy askPixel
 pixelTest i s cs =
     eqb (pixelIn i (select (λ x. not (isEvent (x .call))) (log (calls font) s cs))) (pixelIn i (log (calls font) s (othersOf (calls font) cs)))
 

@@ -8,7 +8,7 @@ use mathlib.Core.List.{List, [], _∷_, _++_}
 use lib.ListN.{length, drop}
 use Rattle.runs.specs.Runs.{Entry, log, end}
 use Rattle.capture.specs.Capture.{feedChunk, outputOf}
-use Rattle.calls.specs.OnePage.{Call, State, Answer, drawn, asked, heard, fed, renewed, chipOf, calls, fedCalls}
+use Rattle.calls.specs.OnePage.{Call, State, Answer, drawn, asked, heard, fed, renewed, shown, chipOf, calls, fedCalls}
 
 -- the two bytes of a bus event's answer
 unfoldable pub twoBytes : Answer → List ℕ
@@ -17,6 +17,7 @@ twoBytes (asked reply) = []
 twoBytes (heard reply) = outputOf reply
 twoBytes (fed reply out) = []
 twoBytes renewed = []
+twoBytes (shown reply) = []
 
 -- those of each bus event, in turn
 unfoldable pub answered : List (Entry Call Answer) → List ℕ

@@ -1,7 +1,9 @@
 -- Document 01, "Condition 3 read exactly": no frame shows two pages.
 -- For every list of bus events, line draws and cell questions whose bus writes are quiet as they are made, all answers, lines
 -- and the end state equal those of the run with all draws and questions first, then all events.
--- Feeds of a capture's chunks are in the list (document 02, K1), and feeds made anew: each fed event is read as one bus event.
+-- Feeds of a capture's chunks are in the list (document 02, K1), and feeds made anew: each fed event is read as one bus event. So are
+-- questions about one pixel (K5). Such a question is of RAM and registers as they stand, whatever frame runs, so it sees every write at once: it
+-- goes with the events, and comes after the same ones in both runs.
 -- It is stated for every device record, feed, RAM and font, of any length, so for every device that earlier calls can reach.
 -- Assumes nothing.
 use Prim.Native.Nat.{ℕ}
@@ -18,17 +20,19 @@ use Rattle.bus.specs.declared.Effect.the-variants.{Acknowledge, Ignore, Store, 
 use Rattle.bus.specs.Bus.{eventOf, step}
 use Rattle.device.specs.declared.Device.{Device}
 use Rattle.device.specs.Device.{hearEvent, drawLine, askCell, cellsLeft}
+use Rattle.pixel.specs.Ask.{askPixel}
 use Rattle.capture.specs.declared.Feed.{Feed}
 use Rattle.capture.specs.Capture.{Logged, freshFeed, Chip, chip, FeedOutcome, feedChunk, fedEvents}
 
 -- a call of the list: a draw with any bytes, in any number, in its line buffer at entry; a cell question; a bus event; a feed of a
--- chunk, with any bytes, in any number, in its output buffer at entry; the feed is made anew
+-- chunk, with any bytes, in any number, in its output buffer at entry; the feed is made anew; one pixel is asked for
 pub data Call : Type 0 where
   draw : (line : List ℕ) → Call
   ask : (cell : ℕ) → Call
   event : Event → Call
   feed : (chunk out : List ℕ) → Call
   anew : Call
+  pixel : (lines frame x y : ℕ) → Call
 
 -- the device, the RAM and the feed as a call returned or left them
 pub record State : Type 0 where
@@ -44,6 +48,7 @@ pub data Answer : Type 0 where
   heard : Reply → Answer
   fed : Reply → (out : List ℕ) → Answer
   renewed : Answer
+  shown : Reply → Answer
 
 abbrev pub chipOf : State → Chip
 chipOf s = chip (s .device) (s .ram)
@@ -55,6 +60,7 @@ answer font s (ask cell) = asked (askCell (s .device) (s .ram) cell)
 answer font s (event e) = heard (hearEvent (s .device) (s .ram) e .reply)
 answer font s (feed chunk out) = fed (feedChunk (chipOf s) (s .feed) chunk out .reply) (feedChunk (chipOf s) (s .feed) chunk out .out)
 answer font s anew = renewed
+answer font s (pixel lines frame x y) = shown (askPixel (s .device .registers) (s .ram) font lines frame x y)
 
 unfoldable pub after : List ℕ → State → Call → State
 after font s (draw line) = record { device = drawLine (s .device) (s .ram) font line .device; ram = s .ram; feed = s .feed }
@@ -65,13 +71,16 @@ after font s (feed chunk out) =
     let o : FeedOutcome = feedChunk (chipOf s) (s .feed) chunk out in
     record { device = o .chip .device; ram = o .chip .ram; feed = o .feed }
 after font s anew = record { device = s .device; ram = s .ram; feed = freshFeed }
+after font s (pixel lines frame x y) = s
 
+-- what the second run makes last
 unfoldable pub isEvent : Call → Bool
 isEvent (draw line) = false
 isEvent (ask cell) = false
 isEvent (event e) = true
 isEvent (feed chunk out) = true
 isEvent anew = true
+isEvent (pixel lines frame x y) = true
 
 -- the calls with one font lent throughout. A run gives each call the device, the RAM and the feed as the call before it returned or
 -- left them; the second run makes the draws and questions in their order, then all others in theirs (crate runs)
@@ -105,6 +114,7 @@ QuietWrite s (ask cell) = Unit
 QuietWrite s (event e) = Stores (effectOf s e) → Quiet s e
 QuietWrite s (feed chunk out) = Unit
 QuietWrite s anew = Unit
+QuietWrite s (pixel lines frame x y) = Unit
 
 -- a fed event as a bus event of its own
 abbrev pub fedCall : Logged → Call
@@ -121,6 +131,7 @@ QuietCall font s (ask cell) = Unit
 QuietCall font s (event e) = QuietWrite s (event e)
 QuietCall font s (feed chunk out) = AsMade QuietWrite (calls font) s (fedCalls s chunk out)
 QuietCall font s anew = Unit
+QuietCall font s (pixel lines frame x y) = Unit
 
 -- every bus write of the list is quiet as it is made, in the list's own run
 abbrev pub QuietRun : List ℕ → State → List Call → Type 0

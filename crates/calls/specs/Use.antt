@@ -12,7 +12,7 @@ use Rattle.bus.specs.declared.Effect.the-variants.{Store}
 use Rattle.bus.specs.declared.BusState.the-variants.{Write}
 use Rattle.bus.specs.Bus.{address}
 use Rattle.device.specs.Device.{hearEvent, askCell}
-use Rattle.calls.specs.OnePage.{Call, draw, ask, event, feed, anew, State, calls, effectOf, Stores, Quiet, fedCalls, QuietRun}
+use Rattle.calls.specs.OnePage.{Call, draw, ask, event, feed, anew, pixel, State, calls, effectOf, Stores, Quiet, fedCalls, QuietRun}
 
 pub record QuietEvents : Type 0 where
   -- a data byte to a cell of which the question says no
@@ -44,6 +44,7 @@ EventQuiet s (ask cell) = Unit
 EventQuiet s (event e) = Quiet s e
 EventQuiet s (feed chunk out) = Unit
 EventQuiet s anew = Unit
+EventQuiet s (pixel lines frame x y) = Unit
 
 -- and, if it is a feed, each of its events is, as it is made
 unfoldable pub AllQuiet : List ℕ → State → Call → Type 0
@@ -52,12 +53,13 @@ AllQuiet font s (ask cell) = Unit
 AllQuiet font s (event e) = EventQuiet s (event e)
 AllQuiet font s (feed chunk out) = AsMade EventQuiet (calls font) s (fedCalls s chunk out)
 AllQuiet font s anew = Unit
+AllQuiet font s (pixel lines frame x y) = Unit
 
 -- the claim of condition 3 asks of the bus writes alone that they be quiet: then all bus events of the list are, the fed ones too
 abbrev pub WritesAlone : Type 0
 WritesAlone = (font : List ℕ) (s : State) (cs : List Call) → QuietRun font s cs → AsMade (AllQuiet font) (calls font) s cs
 
--- a no of the cell question stays a no over later draws, questions, quiet events, quiet feeds and feeds made anew
+-- a no of the cell question stays a no over later draws, questions, quiet events, quiet feeds, feeds made anew and questions about a pixel
 abbrev pub NoStays : Type 0
 NoStays =
     (font : List ℕ) (s : State) (cs : List Call) (cell : ℕ) → QuietRun font s cs → askCell (s .device) (s .ram) cell ≡ accepted 0

@@ -16,7 +16,7 @@ use Rattle.bus.specs.declared.Event.the-variants.{Start, Byte, Fetch, Stop}
 use Rattle.bus.specs.Bus.{freshRam}
 use Rattle.device.specs.Device.{freshDevice, hearEvent, startFrame, drawLine, remainingOf, cellsLeft}
 use Rattle.capture.specs.Capture.{freshFeed}
-use Rattle.calls.specs.OnePage.{Call, draw, ask, event, feed, anew, State, Answer, drawn, asked, fed, renewed, calls, effectOf, Stores, QuietRun}
+use Rattle.calls.specs.OnePage.{Call, draw, ask, event, feed, anew, pixel, State, Answer, drawn, asked, fed, renewed, shown, calls, effectOf, Stores, QuietRun}
 use Rattle.calls.specs.OnePage as one-page
 
 -- ---- a host's traffic
@@ -71,7 +71,8 @@ buffer = replicate 60 0
 -- ---- a quiet list does something
 
 -- P becomes 1; a draw; do the remaining lines read cell 020?; it gets another byte, from a capture that is fed in two chunks, cut
--- within the event and with a draw between them, and the code there is blue; the feed, which holds a half again, is made anew; a fetch
+-- within the event and with a draw between them, and the code there is blue; the feed, which holds a half again, is made anew; the pixel that
+-- is blue now; a fetch
 unfoldable pub turning : List Call
 turning =
     map event (write 0x3FF3 (0x81 ∷ []))
@@ -80,6 +81,7 @@ turning =
     ∷ draw buffer
     ∷ feed (0x10 ∷ 3 ∷ 0 ∷ 1 ∷ []) (replicate 5 0)
     ∷ anew
+    ∷ pixel 2 16 36 0
     ∷ map event (Start ∷ Byte 0xBB ∷ Fetch ∷ Stop ∷ [])
 
 -- the number of a refusal, 0 if there is none
@@ -89,6 +91,7 @@ refusalOf (asked reply) = reply .refusal
 refusalOf (one-page.heard reply) = reply .refusal
 refusalOf (fed reply out) = reply .refusal
 refusalOf renewed = 0
+refusalOf (shown reply) = reply .refusal
 
 -- the first line of a frame that starts now
 unfoldable pub firstLine : State → List ℕ

@@ -4,17 +4,17 @@ use Prim.Native.Nat.{ℕ, _≤_}
 use mathlib.Core.Path.{_≡_, refl, sym, subst}
 use mathlib.Core.Bool.{Bool, true, false, not}
 use mathlib.Core.List.{List}
-use borrow.Author.Tests.{ltb-false}
+use borrow.Author.Tests.{eq-eqb, ne-eqb, le-ltb, ltb-false}
 use lib.Dec.{T, eqb, ltb}
 use lib.ListN.{length}
-use Rattle.limits.specs.Limits.{noFrame}
+use Rattle.limits.specs.Limits.{ramLength, fontLength, noFrame}
 use Rattle.facts.proofs.Choice.{either}
 use Rattle.refusals.specs.declared.Refusal.{Refusal}
 use Rattle.refusals.specs.declared.Refusal.the-variants.{RamLength, FontLength, LineLength, NoLine, FrameLines}
 use Rattle.refusals.specs.Refusals.{accepted, refused, Verdict, passed, failed, refuseIf}
 use Rattle.refusals.proofs.Laws.{failed-not}
 use Rattle.device.specs.declared.Device.{Device}
-use Rattle.device.specs.Device.{StartOutcome, inFrame, startFrame, DrawOutcome, drawVerdict, drawBy, drawLine, lineDrawn, lineWidth, notDrawn}
+use Rattle.device.specs.Device.{StartOutcome, inFrame, startFrame, DrawOutcome, drawVerdict, drawBy, drawLine, lineOn, lineDrawn, lineWidth, notDrawn}
 
 -- ---- a frame start
 
@@ -55,3 +55,16 @@ module _ (d : Device) (ram font line : List ℕ) (P : DrawOutcome → Type 0) (n
   by-draw h =
       by-verdict (drawVerdict d (length ram) (length font) (length line))
       (λ v. h (drawable d (length ram) (length font) (length line) v))
+
+-- no draw touches the registers
+pub draw-same : (d : Device) (ram font line : List ℕ) → drawLine d ram font line .device .registers ≡ d .registers
+unfolding lineDrawn lineOn
+draw-same d ram font line =
+    by-draw d ram font line (λ (x : DrawOutcome). x .device .registers ≡ d .registers) (λ r. refl) (λ ready. refl)
+
+-- a draw that no test refuses
+pub draw-passed : (d : Device) (ram font line : List ℕ) → length ram ≡ ramLength → length font ≡ fontLength → (d .frame .left ≡ 0 → ⊥)
+    → lineWidth d ≤ length line → drawLine d ram font line ≡ lineDrawn d ram font line
+unfolding drawVerdict drawBy drawLine
+draw-passed d ram font line r f l w =
+    rw (eq-eqb (length ram) ramLength r, eq-eqb (length font) fontLength f, ne-eqb (d .frame .left) 0 l, le-ltb (length line) (lineWidth d) w)

@@ -1,7 +1,7 @@
 -- What the bytes hold after a call is read as the record that the device's function leaves.
 -- Assumes nothing.
 use Prim.Native.Nat.{ℕ, _%_, _≤_}
-use mathlib.Core.Path.{_≡_, refl, sym, ap, _∙_}
+use mathlib.Core.Path.{_≡_, refl, sym, ap, ap₂, _∙_}
 use mathlib.Core.Bool.{Bool, true, false, not, cond, _&&_}
 use mathlib.Core.List.{List, [], _∷_, _++_}
 use native.Mathlib.Omega.{arith}
@@ -37,11 +37,12 @@ use Rattle.capture.specs.declared.Feed.{Feed}
 use Rattle.capture.specs.declared.Feed.the-variants.{Open, Half, Shut}
 use Rattle.capture.specs.Capture.{Logged, freshFeed, badKind, finished, feedAfter, outputs, outputFrom, Chip, chip, busEvents, takenReply, FeedOutcome, chunkFed, feedBy, feedChunk}
 use Rattle.capture.proofs.Laws.{held-one, output-room, by-verdict, taken-value}
-use Rattle.layout.specs.Layout.{busAt, registersAt, registersLength, nextAt, frameAt, recordLength, put, stateNumber, busBytes, nextBytes, frameBytes, deviceIn}
+use Rattle.pixel.specs.Ask.{askPixel}
+use Rattle.layout.specs.Layout.{busAt, registersAt, registersLength, nextAt, frameAt, recordLength, part, put, stateNumber, busBytes, nextBytes, frameBytes, registersIn, deviceIn}
 use Rattle.layout.specs.FeedLayout.{feedLength, feedIn}
 use Rattle.layout.proofs.Laws.{withBus, withRegisters, read-back, event-back, deaf-back, draw-back, start-back, feed-back}
-use Rattle.interface.specs.Interface.{answerOf, notTaken, isRecord, Done, freshOn, BusDone, ignoredOn, heardOn, busOn, startedOn, startOn, DrawDone, drawnOn, drawOn, isFeed, chunkMax, FeedMade, feedFreshOn, ChipBytes, busCalls, FeedDone, chunkFedOn, fedOnBy, verdictOn, rightLengths, feedOn, notFedOn, Crossing}
-use Rattle.interface.proofs.Laws.{if-taken, ignored-same, fresh-not, bus-is, bus-not-record, bus-not-kind, start-not, draw-not, cell-not, feed-fresh-not, feed-not, cell-is, feed-tests, feed-is}
+use Rattle.interface.specs.Interface.{answerOf, notTaken, isRecord, Done, freshOn, BusDone, ignoredOn, heardOn, busOn, startedOn, startOn, DrawDone, drawnOn, drawOn, pixelOn, isFeed, chunkMax, FeedMade, feedFreshOn, ChipBytes, busCalls, FeedDone, chunkFedOn, fedOnBy, verdictOn, rightLengths, feedOn, notFedOn, Crossing}
+use Rattle.interface.proofs.Laws.{if-taken, ignored-same, fresh-not, bus-is, bus-not-record, bus-not-kind, start-not, draw-not, cell-not, pixel-not, feed-fresh-not, feed-not, cell-is, pixel-is, feed-tests, feed-is}
 
 -- ---- an event that is not acknowledged
 
@@ -449,6 +450,15 @@ module _ (xs fs ram chunk out : List ℕ) where
         held-one (feedIn fs),
       ))
 
+-- ---- one pixel
+
+pixel-by-registers : (xs ys ram font : List ℕ) (lines frame x y : ℕ) → length xs ≡ length ys
+    → part registersAt registersLength xs ≡ part registersAt registersLength ys
+    → pixelOn xs ram font lines frame x y ≡ pixelOn ys ram font lines frame x y
+unfolding pixelOn
+pixel-by-registers xs ys ram font lines frame x y e p =
+    ap₂ (λ (n : ℕ) (bytes : List ℕ). cond (eqb n recordLength) (answerOf (askPixel (registersIn bytes) ram font lines frame x y)) notTaken) e p
+
 -- ---- the claim
 
 pub crossing : Crossing
@@ -459,14 +469,17 @@ crossing =
       start = start-whole;
       draw = draw-whole;
       cell = λ xs ram c h. sym (cell-is xs h ram c);
+      pixel = λ xs ram font lines frame x y h. sym (pixel-is xs h ram font lines frame x y);
       feed-fresh = feed-fresh-read;
       feed = feed-whole;
-      not-taken = λ xs ram font line kind byte lines c h. (
+      pixel-alone = pixel-by-registers;
+      not-taken = λ xs ram font line kind byte lines c frame x y h. (
         sym (fresh-not xs h),
         sym (bus-not-record xs ram kind byte h),
         sym (start-not xs lines h),
         sym (draw-not xs ram font line h),
         sym (cell-not xs ram c h),
+        sym (pixel-not xs ram font lines frame x y h),
       );
       feed-not-taken = λ xs fs ram chunk out h. sym (feed-not xs fs ram chunk out h);
       feed-not-made = λ fs h. sym (feed-fresh-not fs h);

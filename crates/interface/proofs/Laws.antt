@@ -12,11 +12,12 @@ use lib.Seq.{set-getD}
 use Rattle.facts.proofs.Parts.{getD-part}
 use Rattle.bus.specs.Bus.{eventOf, busEvent}
 use Rattle.device.specs.Device.{hearEvent, startFrame, drawLine, askCell}
+use Rattle.pixel.specs.Ask.{askPixel}
 use Rattle.layout.specs.Layout.{busAt, busLength, recordLength, part, stateNumber, deviceIn}
 use Rattle.layout.specs.FeedLayout.{feedLength}
 use Rattle.layout.proofs.Laws.{numbered}
 use Rattle.interface.specs.Interface as face
-use Rattle.interface.specs.Interface.{answerOf, notTaken, isRecord, freshOn, ignoredOn, heardOn, busOn, startedOn, startOn, drawnOn, drawOn, cellOn, isFeed, chunkMax, feedFreshOn, notFedOn, fedOnBy, verdictOn, rightLengths, feedOn}
+use Rattle.interface.specs.Interface.{answerOf, notTaken, isRecord, freshOn, ignoredOn, heardOn, busOn, startedOn, startOn, drawnOn, drawOn, cellOn, pixelOn, isFeed, chunkMax, feedFreshOn, notFedOn, fedOnBy, verdictOn, rightLengths, feedOn}
 
 -- what holds of a call that the interface's own tests let through, and of one that they do not, holds of the call
 pub if-taken : {A : Type 0} (P : A → Type 0) (t : Bool) (x y : A) → (t ≡ true → P x) → P y → P (cond t x y)
@@ -54,6 +55,10 @@ draw-not xs ram font line h = rw (ne-eqb _ _ h)
 pub cell-not : (xs ram : List ℕ) (cell : ℕ) → (length xs ≡ recordLength → ⊥) → notTaken ≡ cellOn xs ram cell
 unfolding cellOn
 cell-not xs ram cell h = rw (ne-eqb _ _ h)
+
+pub pixel-not : (xs ram font : List ℕ) (lines frame x y : ℕ) → (length xs ≡ recordLength → ⊥) → notTaken ≡ pixelOn xs ram font lines frame x y
+unfolding pixelOn
+pixel-not xs ram font lines frame x y h = rw (ne-eqb _ _ h)
 
 pub feed-fresh-not : (fs : List ℕ) → (length fs ≡ feedLength → ⊥) → _≡_ {A = face.FeedMade} (record { feed = fs; answer = notTaken }) (feedFreshOn fs)
 unfolding feedFreshOn
@@ -113,6 +118,11 @@ module _ (xs : List ℕ) (h : length xs ≡ recordLength) where
   pub cell-is : (ram : List ℕ) (cell : ℕ) → answerOf (askCell (deviceIn xs) ram cell) ≡ cellOn xs ram cell
   unfolding cellOn
   cell-is ram cell = rw (eq-eqb _ _ h)
+
+  pub pixel-is : (ram font : List ℕ) (lines frame x y : ℕ)
+      → answerOf (askPixel (deviceIn xs .registers) ram font lines frame x y) ≡ pixelOn xs ram font lines frame x y
+  unfolding pixelOn
+  pixel-is ram font lines frame x y = rw (eq-eqb _ _ h)
 
   pub feed-is : (fs ram chunk out : List ℕ) → length fs ≡ feedLength → length chunk ≤ chunkMax
       → fedOnBy (verdictOn fs ram chunk out) xs fs ram chunk out ≡ feedOn xs fs ram chunk out

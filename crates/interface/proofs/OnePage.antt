@@ -28,8 +28,8 @@ use Rattle.calls.proofs.OnePage.{late, same-draw, apart, still-unread}
 use Rattle.layout.specs.Layout.{busAt, registersAt, registersLength, frameAt, recordLength, put, stateNumber, busBytes, frameBytes, deviceIn}
 use Rattle.layout.specs.FeedLayout.{feedLength, feedBytes, feedIn}
 use Rattle.facts.proofs.Parts.{sets-comm}
-use Rattle.interface.specs.Interface.{answerOf, notTaken, BusDone, heardOn, busOn, DrawDone, drawnOn, drawOn, cellOn, feedFreshOn, chunkMax, ChipBytes, busCalls, FeedDone, chunkFedOn, fedOnBy, verdictOn, feedOn, fedEventsOn}
-use Rattle.interface.specs.OnePage.{Call, draw, cell, bus, feed, anew, State, Answer, drawn, asked, heard, fed, renewed, answer, after, isEvent, calls, Quiet, QuietWrite, fedCall, QuietCall, QuietRun, OnePageBytes, NoStaysBytes}
+use Rattle.interface.specs.Interface.{answerOf, notTaken, BusDone, heardOn, busOn, DrawDone, drawnOn, drawOn, cellOn, pixelOn, feedFreshOn, chunkMax, ChipBytes, busCalls, FeedDone, chunkFedOn, fedOnBy, verdictOn, feedOn, fedEventsOn}
+use Rattle.interface.specs.OnePage.{Call, draw, cell, bus, feed, anew, pixel, State, Answer, drawn, asked, heard, fed, renewed, shown, answer, after, isEvent, calls, Quiet, QuietWrite, fedCall, QuietCall, QuietRun, OnePageBytes, NoStaysBytes}
 use Rattle.interface.proofs.Laws.{both-tests, feed-tests, bus-is, draw-is}
 use Rattle.interface.proofs.Crossing.{heard-sixteen, Taken, taken-back, all-taken, crossing}
 
@@ -42,6 +42,7 @@ taken n k (cell c) = eqb n recordLength
 taken n k (bus kind byte) = eqb n recordLength && not (ltb 3 kind)
 taken n k (feed chunk out) = eqb n recordLength && (eqb k feedLength && not (ltb chunkMax (length chunk)))
 taken n k anew = eqb k feedLength
+taken n k (pixel lines frame x y) = eqb n recordLength
 
 abbrev takenAt : State → Call → Bool
 takenAt s c = taken (length (s .device)) (length (s .feed)) c
@@ -64,6 +65,7 @@ same-length font s (cell c) = (refl, refl)
 same-length font s (bus kind byte) = (crossing .length-bus (s .device) (s .ram) kind byte .0, refl)
 same-length font s (feed chunk out) = let l = crossing .length-feed (s .device) (s .feed) (s .ram) chunk out in (l .0, l .1)
 same-length font s anew = (refl, crossing .length-feed-fresh (s .feed))
+same-length font s (pixel lines frame x y) = (refl, refl)
 
 still-taken : (font : List ℕ) (s : State) (c d : Call) → takenAt (after font s c) d ≡ takenAt s d
 still-taken font s c d = let l = same-length font s c in ap₂ (λ (n k : ℕ). taken n k d) (l .0) (l .1)
@@ -75,18 +77,20 @@ unanswered (cell c) = asked notTaken
 unanswered (bus kind byte) = heard notTaken
 unanswered (feed chunk out) = fed notTaken out
 unanswered anew = renewed notTaken
+unanswered (pixel lines frame x y) = shown notTaken
 
 record Untouched (font : List ℕ) (s : State) (c : Call) : Type 0 where
   state : after font s c ≡ s
   answers : answer font s c ≡ unanswered c
 
 untouched : (font : List ℕ) (s : State) (c : Call) → takenAt s c ≡ false → Untouched font s c
-unfolding taken unanswered answer after drawOn cellOn busOn feedOn feedFreshOn
+unfolding taken unanswered answer after drawOn cellOn pixelOn busOn feedOn feedFreshOn
 untouched font s (draw line) t = record { state = rw t; answers = rw t }
 untouched font s (cell c) t = record { state = refl; answers = rw t }
 untouched font s (bus kind byte) t = record { state = rw t; answers = rw t }
 untouched font s (feed chunk out) t = record { state = rw t; answers = rw t }
 untouched font s anew t = record { state = rw t; answers = rw t }
+untouched font s (pixel lines frame x y) t = record { state = refl; answers = rw t }
 
 -- ---- a call that is taken is the device's call
 
@@ -106,13 +110,15 @@ made (cell c) = device.ask c
 made (bus kind byte) = device.event (eventOf kind byte)
 made (feed chunk out) = device.feed chunk out
 made anew = device.anew
+made (pixel lines frame x y) = device.pixel lines frame x y
 
-shown : device.Answer → Answer
-shown (device.drawn r line) = drawn (answerOf r) line
-shown (device.asked r) = asked (answerOf r)
-shown (device.heard r) = heard (answerOf r)
-shown (device.fed r out) = fed (answerOf r) out
-shown device.renewed = renewed 0
+inBytes : device.Answer → Answer
+inBytes (device.drawn r line) = drawn (answerOf r) line
+inBytes (device.asked r) = asked (answerOf r)
+inBytes (device.heard r) = heard (answerOf r)
+inBytes (device.fed r out) = fed (answerOf r) out
+inBytes device.renewed = renewed 0
+inBytes (device.shown r) = shown (answerOf r)
 
 -- a bus call that is taken leaves what the device's event leaves
 event-read : (font : List ℕ) (s : State) (x : Logged) → Taken (lentIn s) x → reads (after font s (fedCall x)) ≡ device.after font (reads s) (device.fedCall x)
@@ -121,10 +127,10 @@ event-read font s x t = ap (λ (c : Chip). record { device = c .device; ram = c 
 
 record Carried (font : List ℕ) (s : State) (c : Call) : Type 0 where
   state : reads (after font s c) ≡ device.after font (reads s) (made c)
-  answers : answer font s c ≡ shown (device.answer font (reads s) (made c))
+  answers : answer font s c ≡ inBytes (device.answer font (reads s) (made c))
 
 carried : (font : List ℕ) (s : State) (c : Call) → takenAt s c ≡ true → Carried font s c
-unfolding taken reads made shown answer after device.answer device.after
+unfolding taken reads made inBytes answer after device.answer device.after
 carried font s (draw line) t =
     let d = crossing .draw (s .device) (s .ram) font line (eqb-true _ _ t) in
     record { state = λ i. record { device = d .0 i; ram = s .ram; feed = feedIn (s .feed) }; answers = λ i. drawn (d .2 i) (d .1 i) }
@@ -142,13 +148,15 @@ carried font s (feed chunk out) t =
 carried font s anew t =
     let f = crossing .feed-fresh (s .feed) (eqb-true _ _ t) in
     record { state = λ i. record { device = deviceIn (s .device); ram = s .ram; feed = f .0 i }; answers = ap renewed (f .1) }
+carried font s (pixel lines frame x y) t =
+    record { state = refl; answers = ap shown (crossing .pixel (s .device) (s .ram) font lines frame x y (eqb-true _ _ t)) }
 
 -- one after another
 twice : (font : List ℕ) (s : State) (c d : Call) → takenAt s c ≡ true → takenAt s d ≡ true
-    → answer font (after font s c) d ≡ shown (device.answer font (device.after font (reads s) (made c)) (made d))
+    → answer font (after font s c) d ≡ inBytes (device.answer font (device.after font (reads s) (made c)) (made d))
 twice font s c d t u =
     carried font (after font s c) d (still-taken font s c d ∙ u) .answers
-    ∙ ap (λ (v : device.State). shown (device.answer font v (made d))) (carried font s c t .state)
+    ∙ ap (λ (v : device.State). inBytes (device.answer font v (made d))) (carried font s c t .state)
 
 -- ---- quiet, of the device's events
 
@@ -190,6 +198,7 @@ quiet-taken font s (draw line) h t = tt
 quiet-taken font s (cell c) h t = tt
 quiet-taken font s (bus kind byte) h t = event-quiet s (record { kind = kind; byte = byte }) (bus-taken s kind byte t) h
 quiet-taken font s anew h t = tt
+quiet-taken font s (pixel lines frame x y) h t = tt
 quiet-taken font s (feed chunk out) h t =
     events-quiet font s (eventsBy (verdictOn (s .feed) (s .ram) chunk out) (feedIn (s .feed)) chunk)
     (made-taken (verdictOn (s .feed) (s .ram) chunk out) (feedIn (s .feed)) chunk (lentIn s) (feed-taken s chunk out t .0)) (rw t at h)
@@ -308,8 +317,8 @@ module _ (font : List ℕ) (s : State) (e c : Call) where
   unfolding QuietTaken
   apart-taken t u a bytes =
       record {
-        other = twice font s e c t u ∙ ap shown (a .other) ∙ sym (carried font s c u .answers);
-        own = twice font s c e u t ∙ ap shown (a .own) ∙ sym (carried font s e t .answers);
+        other = twice font s e c t u ∙ ap inBytes (a .other) ∙ sym (carried font s c u .answers);
+        own = twice font s c e u t ∙ ap inBytes (a .own) ∙ sym (carried font s e t .answers);
         either-way = bytes;
         still = λ _. subst (λ (v : device.State). AllQuiet font v (made e)) (sym (carried font s c u .state)) (a .still);
       }
@@ -328,46 +337,69 @@ module _ (font : List ℕ) (s : State) (e c : Call) where
         still = λ t. absurd (true≢false (sym t ∙ n′));
       }
 
--- draws and questions do not look at the feed's record
-anew-draw : (font : List ℕ) (s : State) (line : List ℕ) → Apart (QuietTaken font) (calls font) s anew (draw line)
-unfolding QuietTaken AllQuiet made answer after
-anew-draw font s line = record { other = refl; own = refl; either-way = refl; still = λ t. tt }
+-- a draw or a question
+data Looks : Call → Type 0 where
+  draws : (line : List ℕ) → Looks (draw line)
+  asks : (x : ℕ) → Looks (cell x)
 
-anew-cell : (font : List ℕ) (s : State) (x : ℕ) → Apart (QuietTaken font) (calls font) s anew (cell x)
-unfolding QuietTaken AllQuiet made answer after
-anew-cell font s x = record { other = refl; own = refl; either-way = refl; still = λ t. tt }
+looks-if : (c : Call) → isEvent c ≡ false → Looks c
+unfolding isEvent
+looks-if (draw line) o = draws line
+looks-if (cell x) o = asks x
+looks-if (bus kind byte) o = absurd (true≢false o)
+looks-if (feed chunk out) o = absurd (true≢false o)
+looks-if anew o = absurd (true≢false o)
+looks-if (pixel lines frame x y) o = absurd (true≢false o)
 
-apart-heard : (font : List ℕ) (s : State) (e c : Call) → isEvent e ≡ true → isEvent c ≡ false → QuietTaken font s e → takenAt s e ≡ true
-    → Apart (QuietTaken font) (calls font) s e c
-unfolding isEvent device.isEvent QuietTaken AllQuiet EventQuiet made reads after taken
-apart-heard font s (draw line) c p o q t = absurd (true≢false (sym p))
-apart-heard font s (cell x) c p o q t = absurd (true≢false (sym p))
-apart-heard font s (bus kind byte) (draw line) p o q t =
+-- it does not look at the feed's record
+anew-apart : (font : List ℕ) (s : State) {c : Call} → Looks c → Apart (QuietTaken font) (calls font) s anew c
+unfolding QuietTaken AllQuiet made answer after
+anew-apart font s (draws line) = record { other = refl; own = refl; either-way = refl; still = λ t. tt }
+anew-apart font s (asks x) = record { other = refl; own = refl; either-way = refl; still = λ t. tt }
+
+bus-apart : (font : List ℕ) (s : State) (kind byte : ℕ) {c : Call} → Looks c → QuietTaken font s (bus kind byte) → takenAt s (bus kind byte) ≡ true
+    → Apart (QuietTaken font) (calls font) s (bus kind byte) c
+unfolding device.isEvent QuietTaken AllQuiet EventQuiet made reads after taken
+bus-apart font s kind byte (draws line) q t =
     let h = bus-taken s kind byte t in
     let l = same-lent font line (lentIn s) (record { kind = kind; byte = byte }) h (feedIn (s .feed)) (q t) in
     apart-taken font s (bus kind byte) (draw line) t (eq-eqb _ _ (h .0))
     (apart font (reads s) (device.event (eventOf kind byte)) (device.draw line) refl refl (q t))
     (λ i. record { device = l i .device; ram = l i .ram; feed = s .feed })
-apart-heard font s (bus kind byte) (cell x) p o q t =
+bus-apart font s kind byte (asks x) q t =
     apart-taken font s (bus kind byte) (cell x) t (eq-eqb _ _ (bus-taken s kind byte t .0))
     (apart font (reads s) (device.event (eventOf kind byte)) (device.ask x) refl refl (q t)) refl
-apart-heard font s (bus kind byte) (bus k b) p o q t = absurd (true≢false o)
-apart-heard font s (bus kind byte) (feed xs ys) p o q t = absurd (true≢false o)
-apart-heard font s (bus kind byte) anew p o q t = absurd (true≢false o)
-apart-heard font s (feed chunk out) (draw line) p o q t =
+
+feed-apart : (font : List ℕ) (s : State) (chunk out : List ℕ) {c : Call} → Looks c → QuietTaken font s (feed chunk out) → takenAt s (feed chunk out) ≡ true
+    → Apart (QuietTaken font) (calls font) s (feed chunk out) c
+unfolding device.isEvent QuietTaken AllQuiet made reads after taken
+feed-apart font s chunk out (draws line) q t =
     apart-taken font s (feed chunk out) (draw line) t (eq-eqb _ _ (feed-taken s chunk out t .0))
     (apart font (reads s) (device.feed chunk out) (device.draw line) refl refl (q t)) (fed-late font s chunk out line t (q t))
-apart-heard font s (feed chunk out) (cell x) p o q t =
+feed-apart font s chunk out (asks x) q t =
     apart-taken font s (feed chunk out) (cell x) t (eq-eqb _ _ (feed-taken s chunk out t .0))
     (apart font (reads s) (device.feed chunk out) (device.ask x) refl refl (q t)) refl
-apart-heard font s (feed chunk out) (bus k b) p o q t = absurd (true≢false o)
-apart-heard font s (feed chunk out) (feed xs ys) p o q t = absurd (true≢false o)
-apart-heard font s (feed chunk out) anew p o q t = absurd (true≢false o)
-apart-heard font s anew (draw line) p o q t = anew-draw font s line
-apart-heard font s anew (cell x) p o q t = anew-cell font s x
-apart-heard font s anew (bus k b) p o q t = absurd (true≢false o)
-apart-heard font s anew (feed xs ys) p o q t = absurd (true≢false o)
-apart-heard font s anew anew p o q t = absurd (true≢false o)
+
+-- a question about a pixel writes nothing
+pixel-apart : (font : List ℕ) (s : State) (lines frame x y : ℕ) {c : Call} → Looks c → QuietTaken font s (pixel lines frame x y)
+    → takenAt s (pixel lines frame x y) ≡ true → Apart (QuietTaken font) (calls font) s (pixel lines frame x y) c
+unfolding device.isEvent QuietTaken AllQuiet made reads after taken
+pixel-apart font s lines frame x y (draws line) q t =
+    apart-taken font s (pixel lines frame x y) (draw line) t t
+    (apart font (reads s) (device.pixel lines frame x y) (device.draw line) refl refl (q t)) refl
+pixel-apart font s lines frame x y (asks c) q t =
+    apart-taken font s (pixel lines frame x y) (cell c) t t
+    (apart font (reads s) (device.pixel lines frame x y) (device.ask c) refl refl (q t)) refl
+
+apart-heard : (font : List ℕ) (s : State) (e c : Call) → isEvent e ≡ true → isEvent c ≡ false → QuietTaken font s e → takenAt s e ≡ true
+    → Apart (QuietTaken font) (calls font) s e c
+unfolding isEvent
+apart-heard font s (draw line) c p o q t = absurd (true≢false (sym p))
+apart-heard font s (cell x) c p o q t = absurd (true≢false (sym p))
+apart-heard font s (bus kind byte) c p o q t = bus-apart font s kind byte (looks-if c o) q t
+apart-heard font s (feed chunk out) c p o q t = feed-apart font s chunk out (looks-if c o) q t
+apart-heard font s anew c p o q t = anew-apart font s (looks-if c o)
+apart-heard font s (pixel lines frame x y) c p o q t = pixel-apart font s lines frame x y (looks-if c o) q t
 
 apart-calls : (font : List ℕ) (s : State) (e c : Call) → isEvent e ≡ true → isEvent c ≡ false → QuietTaken font s e
     → Apart (QuietTaken font) (calls font) s e c
@@ -408,6 +440,7 @@ still-no font c s (cell x) q n = n
 still-no font c s (bus kind byte) q n = still-by font c s (bus kind byte) (λ t. bus-taken s kind byte t .0) q n
 still-no font c s (feed chunk out) q n = still-by font c s (feed chunk out) (λ t. feed-taken s chunk out t .0) q n
 still-no font c s anew q n = n
+still-no font c s (pixel lines frame x y) q n = n
 
 pub no-stays-bytes : NoStaysBytes
 no-stays-bytes font s cs c q n =

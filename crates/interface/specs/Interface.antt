@@ -16,9 +16,10 @@ use Rattle.bus.specs.declared.BusState.{BusState}
 use Rattle.bus.specs.declared.BusState.the-variants.{Slave}
 use Rattle.bus.specs.Bus.{eventOf, BusOutcome}
 use Rattle.device.specs.Device.{freshDevice, EventOutcome, hearEvent, StartOutcome, startFrame, DrawOutcome, drawLine, askCell}
+use Rattle.pixel.specs.Ask.{askPixel}
 use Rattle.capture.specs.declared.Feed.{Feed}
 use Rattle.capture.specs.Capture.{Logged, freshFeed, finished, feedAfter, outputFrom, chip, feedVerdict, takenReply, eventsBy, FeedOutcome, feedChunk}
-use Rattle.layout.specs.Layout.{busAt, registersAt, nextAt, frameAt, recordLength, put, stateNumber, busBytes, nextBytes, frameBytes, deviceBytes, deviceIn}
+use Rattle.layout.specs.Layout.{busAt, registersAt, registersLength, nextAt, frameAt, recordLength, part, put, stateNumber, busBytes, nextBytes, frameBytes, deviceBytes, deviceIn}
 use Rattle.layout.specs.FeedLayout.{feedLength, feedBytes, feedIn}
 
 -- ---- answers: refusal × 65,536 + value
@@ -115,6 +116,12 @@ drawOn xs ram font line =
 unfoldable pub cellOn : List ℕ → List ℕ → ℕ → ℕ
 cellOn xs ram cell = cond (isRecord xs) (answerOf (askCell (deviceIn xs) ram cell)) notTaken
 
+-- ---- one pixel (document 02, K5)
+
+unfoldable pub pixelOn : List ℕ → List ℕ → List ℕ → (lines frame x y : ℕ) → ℕ
+pixelOn xs ram font lines frame x y =
+    cond (isRecord xs) (answerOf (askPixel (deviceIn xs .registers) ram font lines frame x y)) notTaken
+
 -- ---- feed (document 02, K1)
 
 abbrev pub isFeed : List ℕ → Bool
@@ -207,18 +214,25 @@ pub record Crossing : Type 0 where
       → let o : DrawOutcome = drawLine (deviceIn xs) ram font line in
       let r : DrawDone = drawOn xs ram font line in (deviceIn (r .device) ≡ o .device) × (r .line ≡ o .line) × (r .answer ≡ answerOf (o .reply))
   pub cell : (xs ram : List ℕ) (c : ℕ) → length xs ≡ recordLength → cellOn xs ram c ≡ answerOf (askCell (deviceIn xs) ram c)
+  pub pixel : (xs ram font : List ℕ) (lines frame x y : ℕ) → length xs ≡ recordLength
+      → pixelOn xs ram font lines frame x y ≡ answerOf (askPixel (deviceIn xs .registers) ram font lines frame x y)
   pub feed-fresh : (fs : List ℕ) → length fs ≡ feedLength → (feedIn (feedFreshOn fs .feed) ≡ freshFeed) × (feedFreshOn fs .answer ≡ 0)
   pub feed : (xs fs ram chunk out : List ℕ) → length xs ≡ recordLength → length fs ≡ feedLength → length chunk ≤ chunkMax
       → let o : FeedOutcome = feedChunk (chip (deviceIn xs) ram) (feedIn fs) chunk out in
       let r : FeedDone = feedOn xs fs ram chunk out in
       (deviceIn (r .device) ≡ o .chip .device) × (feedIn (r .feed) ≡ o .feed) × (r .ram ≡ o .chip .ram) × (r .out ≡ o .out) × (r .answer ≡ answerOf (o .reply))
+  -- of the record's bytes a question about a pixel looks at the registers' alone
+  pub pixel-alone : (xs ys ram font : List ℕ) (lines frame x y : ℕ) → length xs ≡ length ys
+      → part registersAt registersLength xs ≡ part registersAt registersLength ys
+      → pixelOn xs ram font lines frame x y ≡ pixelOn ys ram font lines frame x y
   -- refused with 255: nothing changes
-  pub not-taken : (xs ram font line : List ℕ) (kind byte lines c : ℕ) → (length xs ≡ recordLength → ⊥)
+  pub not-taken : (xs ram font line : List ℕ) (kind byte lines c frame x y : ℕ) → (length xs ≡ recordLength → ⊥)
       → (freshOn xs ≡ record { device = xs; answer = notTaken })
       × (busOn xs ram kind byte ≡ record { device = xs; ram = ram; answer = notTaken })
       × (startOn xs lines ≡ record { device = xs; answer = notTaken })
       × (drawOn xs ram font line ≡ record { device = xs; line = line; answer = notTaken })
       × (cellOn xs ram c ≡ notTaken)
+      × (pixelOn xs ram font lines frame x y ≡ notTaken)
   pub feed-not-taken : (xs fs ram chunk out : List ℕ) → (length xs ≡ recordLength → length fs ≡ feedLength → length chunk ≤ chunkMax → ⊥)
       → feedOn xs fs ram chunk out ≡ notFedOn xs fs ram out notTaken
   pub feed-not-made : (fs : List ℕ) → (length fs ≡ feedLength → ⊥) → feedFreshOn fs ≡ record { feed = fs; answer = notTaken }

@@ -1,7 +1,8 @@
 -- Condition 3 over the bytes that C sees: no frame shows two pages (crate calls' specs/OnePage.antt, there over the device record).
 -- For every list of calls of osd_bus, osd_feed, osd_feed_fresh, osd_draw and osd_cell whose bus writes are quiet as they are made, all
 -- answers, all line and output buffers, the RAM and every byte of both records equal those of the run with all draws and questions first,
--- then all other calls. Each event of a feed is read as one bus call.
+-- then all other calls. Each event of a feed is read as one bus call. Calls of osd_pixel may be among them: it is told of every write at once, so it
+-- goes with the bus calls.
 -- It is stated for every record buffer, RAM and font, whatever their bytes and lengths, and for every call: refused ones, kinds above 3,
 -- cells above 65,535 and half events are among them. (A device buffer of another length than 32 is refused with 255 by each call that is
 -- lent it, and stays as it is; so is a feed buffer of another length than 2.)
@@ -19,16 +20,17 @@ use Rattle.device.specs.Device.{cellsLeft}
 use Rattle.capture.specs.Capture.{Logged}
 use Rattle.calls.specs.OnePage.{Stores}
 use Rattle.layout.specs.Layout.{recordLength, deviceIn}
-use Rattle.interface.specs.Interface.{busOn, drawOn, cellOn, feedFreshOn, FeedDone, feedOn, fedEventsOn}
+use Rattle.interface.specs.Interface.{busOn, drawOn, cellOn, pixelOn, feedFreshOn, FeedDone, feedOn, fedEventsOn}
 
 -- a call of the list: a draw with any bytes, in any number, in its line buffer at entry; a cell question; a bus call; a feed of a chunk,
--- with any bytes, in any number, in its output buffer at entry; the feed is made anew
+-- with any bytes, in any number, in its output buffer at entry; the feed is made anew; one pixel is asked for
 pub data Call : Type 0 where
   draw : (line : List ℕ) → Call
   cell : (number : ℕ) → Call
   bus : (kind byte : ℕ) → Call
   feed : (chunk out : List ℕ) → Call
   anew : Call
+  pixel : (lines frame x y : ℕ) → Call
 
 -- the bytes of the device's record, of the RAM and of the feed's record as a call left them
 pub record State : Type 0 where
@@ -44,6 +46,7 @@ pub data Answer : Type 0 where
   heard : (number : ℕ) → Answer
   fed : (number : ℕ) (out : List ℕ) → Answer
   renewed : (number : ℕ) → Answer
+  shown : (number : ℕ) → Answer
 
 -- each call by the definition that the promise of its function cites
 unfoldable pub answer : List ℕ → State → Call → Answer
@@ -53,6 +56,7 @@ answer font s (bus kind byte) = heard (busOn (s .device) (s .ram) kind byte .ans
 answer font s (feed chunk out) =
     fed (feedOn (s .device) (s .feed) (s .ram) chunk out .answer) (feedOn (s .device) (s .feed) (s .ram) chunk out .out)
 answer font s anew = renewed (feedFreshOn (s .feed) .answer)
+answer font s (pixel lines frame x y) = shown (pixelOn (s .device) (s .ram) font lines frame x y)
 
 unfoldable pub after : List ℕ → State → Call → State
 after font s (draw line) = record { device = drawOn (s .device) (s .ram) font line .device; ram = s .ram; feed = s .feed }
@@ -63,13 +67,16 @@ after font s (feed chunk out) =
     let r : FeedDone = feedOn (s .device) (s .feed) (s .ram) chunk out in
     record { device = r .device; ram = r .ram; feed = r .feed }
 after font s anew = record { device = s .device; ram = s .ram; feed = feedFreshOn (s .feed) .feed }
+after font s (pixel lines frame x y) = s
 
+-- what the second run makes last
 unfoldable pub isEvent : Call → Bool
 isEvent (draw line) = false
 isEvent (cell c) = false
 isEvent (bus kind byte) = true
 isEvent (feed chunk out) = true
 isEvent anew = true
+isEvent (pixel lines frame x y) = true
 
 -- the calls with one font lent throughout; each gets the records and the RAM as the call before it left them (crate runs)
 abbrev pub calls : List ℕ → Machine State Call Answer
@@ -94,6 +101,7 @@ QuietWrite s (cell c) = Unit
 QuietWrite s (bus kind byte) = Writes s kind byte → Quiet s kind byte
 QuietWrite s (feed chunk out) = Unit
 QuietWrite s anew = Unit
+QuietWrite s (pixel lines frame x y) = Unit
 
 -- a fed event as a bus call of its own
 abbrev pub fedCall : Logged → Call
@@ -110,6 +118,7 @@ QuietCall font s (cell c) = Unit
 QuietCall font s (bus kind byte) = QuietWrite s (bus kind byte)
 QuietCall font s (feed chunk out) = AsMade QuietWrite (calls font) s (fedCalls s chunk out)
 QuietCall font s anew = Unit
+QuietCall font s (pixel lines frame x y) = Unit
 
 -- every bus write of the list is quiet as it is made, in the list's own run
 abbrev pub QuietRun : List ℕ → State → List Call → Type 0
@@ -121,7 +130,8 @@ QuietRun font s cs = AsMade (QuietCall font) (calls font) s cs
 abbrev pub OnePageBytes : Type 0
 OnePageBytes = (font : List ℕ) (s : State) (cs : List Call) → QuietRun font s cs → SameRuns (calls font) s cs
 
--- a no (answer 0) of the cell question stays a no over later draws, questions, quiet bus calls, quiet feeds and feeds made anew
+-- a no (answer 0) of the cell question stays a no over later draws, questions, quiet bus calls, quiet feeds, feeds made anew and questions
+-- about a pixel
 abbrev pub NoStaysBytes : Type 0
 NoStaysBytes =
     (font : List ℕ) (s : State) (cs : List Call) (c : ℕ) → QuietRun font s cs → cellOn (s .device) (s .ram) c ≡ 0

@@ -3,7 +3,7 @@
 ghost use mathlib.Core.Path.{_≡_};
 ghost use Rattle.layout.specs.Layout.{recordLength};
 ghost use Rattle.layout.specs.FeedLayout.{feedLength};
-ghost use Rattle.interface.specs.Interface.{freshOn, busOn, startOn, drawOn, cellOn, feedFreshOn, feedOn};
+ghost use Rattle.interface.specs.Interface.{freshOn, busOn, startOn, drawOn, cellOn, pixelOn, feedFreshOn, feedOn};
 use capture::Feed;
 use device::Device;
 use device::DrawAnswer;
@@ -128,6 +128,26 @@ pub extern "C" fn osd_cell(device: &[u8], ram: &[u8], cell: u32) -> u32
         return NOT_TAKEN;
     }
     let reply = layout::device_in(device).ask(ram, cell);
+    bus_bytes::answer(reply.refusal(), reply.value() as u16)
+}
+
+// Of the record only the registers are looked at.
+#[no_mangle]
+pub extern "C" fn osd_pixel<'a>(
+    device: &[u8],
+    ram: &'a [u8],
+    font: &'a [u8],
+    lines: u32,
+    frame: u32,
+    x: u32,
+    y: u32,
+) -> u32
+    ensures { λ r. ⌜ r ≡ pixelOn (now (device .entry)) (now (ram .entry)) (now (font .entry)) lines frame x y ⌝ }
+{
+    if device.len() != DEVICE_LENGTH {
+        return NOT_TAKEN;
+    }
+    let reply = pixel::ask(layout::device_in(device), ram, font, lines, frame, x, y);
     bus_bytes::answer(reply.refusal(), reply.value() as u16)
 }
 

@@ -41,14 +41,8 @@ module _ (text out : List ℕ) (fits : length text ≤ length out) where
 
 module _ (d : Device) (ram font : List ℕ) (n : ℕ) (some : d .frame .left ≡ suc n) (r : length ram ≡ 1024) (f : length font ≡ 4608) where
   drawn-is : nextDraw d ram font ≡ lineDrawn d ram font (replicate (lineWidth d) 0)
-  unfolding drawVerdict drawBy drawLine
   drawn-is =
-      rw (
-        eq-eqb (length ram) 1024 r,
-        eq-eqb (length font) 4608 f,
-        ne-eqb (d .frame .left) 0 (λ z. omega arith),
-        le-ltb (length (replicate {A = ℕ} (lineWidth d) 0)) (lineWidth d) (omega (arith, length-replicate {A = ℕ} (lineWidth d) 0)),
-      )
+      draw-passed d ram font (replicate (lineWidth d) 0) r f (λ z. omega arith) (omega (arith, length-replicate {A = ℕ} (lineWidth d) 0))
 
   drawn-accepted : nextDraw d ram font .reply .refusal ≡ 0
   unfolding lineDrawn

@@ -1,0 +1,174 @@
+-- The proof that the pixel asked for is the one that is drawn (specs/Pixels.antt): while RAM and registers stay put, each accepted draw brings
+-- the walk one line on, and no other call moves it.
+-- Assumes nothing.
+use Prim.Native.Nat.{ℕ, suc, _+_, _-_, _%_, _≤_, _<_}
+use mathlib.Core.Path.{_≡_, refl, sym, ap, _∙_, subst}
+use mathlib.Core.Bool.{cond}
+use mathlib.Core.List.{List, [], _∷_, _++_, map}
+use native.Mathlib.Nat.{zero-add, add-zero, add-assoc}
+use native.Mathlib.Omega.{arith}
+use borrow.Author.Tests.{eq-eqb, ne-eqb, le-ltb, lt-leb}
+use lib.Dec.{eqb}
+use lib.ListN.{length, getD, drop, List·getD-append}
+use Rattle.limits.specs.Limits.{ramLength, fontLength, frameLines}
+use Rattle.runs.specs.Runs.{log, end, AsMade}
+use Rattle.cells.specs.Reading.{value}
+use Rattle.refusals.specs.Refusals.{accepted}
+use Rattle.refusals.proofs.Laws.{not-zero}
+use Rattle.registers.specs.declared.Registers.{Registers}
+use Rattle.registers.specs.Registers.{settingsOf, pageOf}
+use Rattle.raster.specs.Raster.{widthOf}
+use Rattle.walk.specs.Walk.{walkFrom}
+use Rattle.glyph.specs.Glyph.{glyphOf}
+use Rattle.line.specs.Line.{Scanned, scan, paint}
+use Rattle.line.proofs.Laws.{paint-length}
+use Rattle.line.proofs.Strips.{scan-value}
+use Rattle.device.specs.declared.Device.{Device}
+use Rattle.device.specs.declared.Frame.{Frame}
+use Rattle.device.specs.Device.{hearEvent, StartOutcome, inFrame, startFrame, DrawOutcome, nextScan, pixelsOf, lineOn, lineDrawn, lineWidth, drawLine}
+use Rattle.device.proofs.Laws.{by-draw, draw-passed}
+use Rattle.capture.specs.Capture.{Logged, fedEvents}
+use Rattle.pixel.specs.Pixel.{pixelAt}
+use Rattle.pixel.specs.Ask.{pixelVerdict, pixelBy, askPixel}
+use Rattle.pixel.proofs.Lines.{walkAfter, one-more, pixel-is}
+use Rattle.calls.specs.OnePage.{Call, draw, ask, event, feed, anew, pixel, State, chipOf, answer, after, calls, fedCall}
+use Rattle.calls.specs.Pixels.{started, StayPut, drew, linesDrawn, PixelsAgree}
+use Rattle.calls.proofs.Fed.{fed-after}
+
+-- ---- events and feeds leave the frame as it is
+
+events-frame : (font : List ℕ) (u : State) (es : List Logged) → end (calls font) u (map fedCall es) .device .frame ≡ u .device .frame
+unfolding end after hearEvent
+events-frame font u [] = refl
+events-frame font u (x ∷ es) = events-frame font (after font u (fedCall x)) es
+
+feed-frame : (font : List ℕ) (u : State) (chunk out : List ℕ) → after font u (feed chunk out) .device .frame ≡ u .device .frame
+feed-frame font u chunk out =
+    ap (λ (v : State). v .device .frame) (fed-after u chunk out font) ∙ events-frame font u (fedEvents (chipOf u) (u .feed) chunk out)
+
+-- ---- what the lines of a frame bring
+
+module _ (font : List ℕ) (r : Registers) (mem : List ℕ) (f lines : ℕ) where
+  -- after n of them
+  record At (n : ℕ) (u : State) : Type 0 where
+    ram : u .ram ≡ mem
+    registers : u .device .registers ≡ r
+    number : u .device .frame .number ≡ f
+    left : u .device .frame .left ≡ lines - n
+    walk : u .device .frame .walk ≡ walkAfter mem (settingsOf r .ch) n (walkFrom (pageOf r))
+
+  -- a call that leaves the frame as it is draws no line
+  frame-kept : (n : ℕ) (u : State) (c : Call) → At n u → StayPut font u c → after font u c .device .frame ≡ u .device .frame → At (n + 0) (after font u c)
+  frame-kept n u c i p e =
+      subst (λ (m : ℕ). At m (after font u c)) (sym (add-zero n))
+      (record {
+        ram = p .ram ∙ i .ram;
+        registers = p .registers ∙ i .registers;
+        number = ap (λ (x : Frame). x .number) e ∙ i .number;
+        left = ap (λ (x : Frame). x .left) e ∙ i .left;
+        walk = ap (λ (x : Frame). x .walk) e ∙ i .walk;
+      })
+
+  -- where an accepted draw brings the walk
+  walk-on : (n : ℕ) (u : State) → At n u
+      → value (u .ram) (scan (settingsOf (u .device .registers)) (u .device .frame .walk)) .walk
+      ≡ walkAfter mem (settingsOf r .ch) (n + 1) (walkFrom (pageOf r))
+  walk-on n u i =
+      let more : suc n ≡ n + 1 = omega arith in
+      (λ j. value (i .ram j) (scan (settingsOf (i .registers j)) (i .walk j)) .walk)
+      ∙ ap (λ (z : Scanned). z .walk) (scan-value glyphOf mem (settingsOf r) (walkAfter mem (settingsOf r .ch) n (walkFrom (pageOf r))))
+      ∙ sym (one-more mem (settingsOf r .ch) n (walkFrom (pageOf r)))
+      ∙ ap (λ (k : ℕ). walkAfter mem (settingsOf r .ch) k (walkFrom (pageOf r))) more
+
+  -- one call
+  one-call : (n : ℕ) (u : State) (c : Call) → At n u → StayPut font u c → At (n + drew (answer font u c)) (after font u c)
+  unfolding answer after drew
+  one-call n u (draw line) i p =
+      by-draw (u .device) (u .ram) font line
+      (λ (o : DrawOutcome). At (n + cond (eqb (o .reply .refusal) 0) 1 0) (record { device = o .device; ram = u .ram; feed = u .feed }))
+      (λ q. rw (not-zero q, add-zero) i)
+      (unfold lineDrawn lineOn in λ ready.
+      record { ram = i .ram; registers = i .registers; number = i .number; left = omega (arith, i .left); walk = walk-on n u i })
+  one-call n u (ask cell) i p = frame-kept n u (ask cell) i p refl
+  one-call n u (event e) i p = frame-kept n u (event e) i p (unfold hearEvent in refl)
+  one-call n u (feed chunk out) i p = frame-kept n u (feed chunk out) i p (feed-frame font u chunk out)
+  one-call n u anew i p = frame-kept n u anew i p refl
+  one-call n u (pixel ls g x y) i p = frame-kept n u (pixel ls g x y) i p refl
+
+  -- all calls of a run
+  all-calls : (cs : List Call) (n : ℕ) (u : State) → At n u → AsMade (StayPut font) (calls font) u cs
+      → At (n + linesDrawn (log (calls font) u cs)) (end (calls font) u cs)
+  unfolding log end linesDrawn AsMade
+  all-calls [] n u i p = subst (λ (m : ℕ). At m u) (sym (add-zero n)) i
+  all-calls (c ∷ cs) n u i p =
+      subst (λ (m : ℕ). At m (end (calls font) (after font u c) cs)) (add-assoc n (drew (answer font u c)) (linesDrawn (log (calls font) (after font u c) cs)))
+      (all-calls cs (n + drew (answer font u c)) (after font u c) (one-call n u c i (p .0)) (p .1))
+
+  -- the pixel that the next line has at x
+  at-pixel : (n x : ℕ) (u : State) → At n u → x < widthOf (settingsOf r .ld) → getD (pixelsOf (u .device) (u .ram) font) x 0 ≡ pixelAt r mem font f x n
+  unfolding pixelsOf
+  at-pixel n x u i h =
+      (λ j. getD (paint (settingsOf (i .registers j)) font (i .number j) (value (i .ram j) (scan (settingsOf (i .registers j)) (i .walk j)) .row)) x 0)
+      ∙ pixel-is r mem font f x n h
+
+-- ---- the claim
+
+-- an accepted frame start
+start-is : (d : Device) (lines : ℕ) → 1 ≤ lines → lines ≤ frameLines → startFrame d lines ≡ record { device = inFrame d lines; reply = accepted 0 }
+unfolding startFrame
+start-is d lines h k = rw (ne-eqb lines 0 (λ e. omega arith), le-ltb frameLines lines k)
+
+-- a question that no test refuses
+ask-passed : (r : Registers) (ram font : List ℕ) (lines frame x y : ℕ) → length ram ≡ ramLength → length font ≡ fontLength → 1 ≤ lines → lines ≤ frameLines
+    → x < widthOf (settingsOf r .ld) → y < lines → askPixel r ram font lines frame x y ≡ accepted (pixelAt r ram font (frame % 64) x y)
+unfolding askPixel pixelVerdict pixelBy
+ask-passed r ram font lines frame x y a b h k w v =
+    rw (
+      eq-eqb (length ram) ramLength a,
+      eq-eqb (length font) fontLength b,
+      ne-eqb lines 0 (λ e. omega arith),
+      le-ltb frameLines lines k,
+      lt-leb (widthOf (settingsOf r .ld)) x w,
+      lt-leb lines y v,
+    )
+
+-- the line's bytes before W are its pixels
+line-at : (d : Device) (ram font line : List ℕ) (x : ℕ) → x < lineWidth d → getD (lineDrawn d ram font line .line) x 0 ≡ getD (pixelsOf d ram font) x 0
+unfolding lineDrawn pixelsOf
+line-at d ram font line x h =
+    List·getD-append (pixelsOf d ram font) (drop (lineWidth d) line) 0 x
+    (omega (arith, paint-length (settingsOf (d .registers)) font (d .frame .number) (value ram (nextScan d) .row)))
+
+pub pixels-agree : PixelsAgree
+pixels-agree font s lines frame x y cs line a b h k number put count v w room =
+    let r : Registers = s .device .registers in
+    let start = start-is (s .device) lines h k in
+    let before : At font r (s .ram) (frame % 64) lines 0 (started s lines) =
+    record {
+      ram = refl;
+      registers = ap (λ (o : StartOutcome). o .device .registers) start ∙ unfold inFrame in refl;
+      number = number;
+      left = ap (λ (o : StartOutcome). o .device .frame .left) start ∙ unfold inFrame in omega arith;
+      walk = ap (λ (o : StartOutcome). o .device .frame .walk) start ∙ unfold inFrame walkAfter in refl;
+    }
+    in
+    let u : State = end (calls font) (started s lines) cs in
+    let i : At font r (s .ram) (frame % 64) lines y u =
+    subst (λ (n : ℕ). At font r (s .ram) (frame % 64) lines n u) (zero-add _ ∙ count)
+    (all-calls font r (s .ram) (frame % 64) lines cs 0 (started s lines) before put)
+    in
+    let wide : lineWidth (u .device) ≡ lineWidth (s .device) = ap (λ (q : Registers). widthOf (settingsOf q .ld)) (i .registers) in
+    let passed : drawLine (u .device) (u .ram) font line ≡ lineDrawn (u .device) (u .ram) font line =
+    draw-passed (u .device) (u .ram) font line (ap length (i .ram) ∙ a) b (λ e. omega (arith, i .left))
+    (omega (arith, room, wide))
+    in
+    record {
+      drawn = ap (λ (o : DrawOutcome). o .reply .refusal) passed ∙ unfold lineDrawn in refl;
+      pixel =
+          ask-passed r (s .ram) font lines frame x y a b h k w v
+          ∙ ap accepted
+          (sym
+          (ap (λ (o : DrawOutcome). getD (o .line) x 0) passed
+          ∙ line-at (u .device) (u .ram) font line x (omega (arith, w, wide))
+          ∙ at-pixel font r (s .ram) (frame % 64) lines y x u i w));
+    }

@@ -1,0 +1,62 @@
+-- Request K5: the pixel that is asked for (crate pixel) is the one that the line engine draws, on every pixel of every line, when RAM, registers
+-- and font stay put through the frame.
+-- It is stated for every device record and feed, made-up ones too, and every RAM and font of their lengths.
+-- Assumes nothing.
+use Prim.Native.Nat.{ℕ, _+_, _%_, _≤_, _<_}
+use mathlib.Core.Path.{_≡_}
+use mathlib.Core.Bool.{cond}
+use mathlib.Core.List.{List, [], _∷_}
+use lib.Dec.{eqb}
+use lib.ListN.{length, getD}
+use Rattle.limits.specs.Limits.{ramLength, fontLength, frameLines}
+use Rattle.runs.specs.Runs.{Entry, log, end, AsMade}
+use Rattle.refusals.specs.Refusals.{accepted}
+use Rattle.device.specs.Device.{startFrame, drawLine, lineWidth}
+use Rattle.pixel.specs.Ask.{askPixel}
+use Rattle.calls.specs.OnePage.{Call, State, Answer, drawn, asked, heard, fed, renewed, shown, after, calls}
+
+-- the state after a frame start
+abbrev pub started : State → ℕ → State
+started s lines = record { device = startFrame (s .device) lines .device; ram = s .ram; feed = s .feed }
+
+-- a call that leaves RAM and registers as they are. Every draw and every question does, refused ones too; so do the bus events and feeds that
+-- store nothing, or the byte that is there
+pub record StayPut (font : List ℕ) (s : State) (c : Call) : Type 0 where
+  pub ram : after font s c .ram ≡ s .ram
+  pub registers : after font s c .device .registers ≡ s .device .registers
+
+-- how many lines the calls of a run drew: their accepted draws
+unfoldable pub drew : Answer → ℕ
+drew (drawn reply line) = cond (eqb (reply .refusal) 0) 1 0
+drew (asked reply) = 0
+drew (heard reply) = 0
+drew (fed reply out) = 0
+drew renewed = 0
+drew (shown reply) = 0
+
+unfoldable pub linesDrawn : List (Entry Call Answer) → ℕ
+linesDrawn [] = 0
+linesDrawn (x ∷ more) = drew (x .answer) + linesDrawn more
+
+-- the next draw is accepted, and writes at x the pixel that is asked for
+pub record SamePixel (font : List ℕ) (s u : State) (lines frame x y : ℕ) (line : List ℕ) : Type 0 where
+  pub drawn : drawLine (u .device) (u .ram) font line .reply .refusal ≡ 0
+  pub pixel : askPixel (s .device .registers) (s .ram) font lines frame x y ≡ accepted (getD (drawLine (u .device) (u .ram) font line .line) x 0)
+
+-- the claim: a frame is started, with 1 to 2,048 lines, and takes that frame number; calls are made that leave RAM and registers as they are, y of
+-- them accepted draws; then the next draw, into a line of at least W bytes, writes that pixel at x, for every y below the line count and every x
+-- below W
+abbrev pub PixelsAgree : Type 0
+PixelsAgree =
+    (font : List ℕ) (s : State) (lines frame x y : ℕ) (cs : List Call) (line : List ℕ)
+    → length (s .ram) ≡ ramLength
+    → length font ≡ fontLength
+    → 1 ≤ lines
+    → lines ≤ frameLines
+    → started s lines .device .frame .number ≡ frame % 64
+    → AsMade (StayPut font) (calls font) (started s lines) cs
+    → linesDrawn (log (calls font) (started s lines) cs) ≡ y
+    → y < lines
+    → x < lineWidth (s .device)
+    → lineWidth (s .device) ≤ length line
+    → SamePixel font s (end (calls font) (started s lines) cs) lines frame x y line
