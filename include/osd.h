@@ -127,6 +127,7 @@ typedef uint64_t osd_len;
 #define OSD_CELL_RANGE 8       /* cell is OSD_RAM_LEN or above */
 #define OSD_FEED_SHUT 9        /* the feed is shut already (value 0), or a bad kind shuts it (value: output bytes written) */
 #define OSD_OUTPUT_ROOM 10     /* out has less than two bytes for each event that the chunk would complete */
+#define OSD_PIXEL_RANGE 11     /* x is at the line's width or beyond, or y at lines or beyond */
 #define OSD_NOT_TAKEN 255      /* a record's length is wrong, osd_bus's kind is above OSD_STOP, or chunk is too long */
 
 /*
@@ -294,6 +295,19 @@ uint32_t osd_draw(uint8_t *device, osd_len device_len, const uint8_t *ram, osd_l
  * Refusals: OSD_NOT_TAKEN, OSD_RAM_LENGTH, OSD_CELL_RANGE. Value: 1 yes, 0 no (and without a running frame).
  */
 uint32_t osd_cell(const uint8_t *device, osd_len device_len, const uint8_t *ram, osd_len ram_len, uint32_t cell);
+
+/*
+ * The pixel at column x of line y, both counted from 0, of a frame of 1 to 2,048 lines that starts with the page that P names now, has this
+ * frame number (any number; it is taken modulo 64, and flashing goes by it) and is drawn with RAM, registers and font as they stand. Of the
+ * record only the registers are looked at, so it matters neither whether a frame runs nor which, and no byte of any buffer changes.
+ * The answer is what osd_draw writes at line[x], where nothing changes while the frame is drawn: after osd_frame_start has taken that
+ * number, with the draw after y others.
+ * Use it at the bench, to hold single pixels against a recording. Each call walks from the frame's first descriptor and through the row, so a
+ * line is drawn much faster by osd_draw.
+ * Refusals: OSD_NOT_TAKEN, OSD_RAM_LENGTH, OSD_FONT_LENGTH, OSD_FRAME_LINES, OSD_PIXEL_RANGE. Value: the pixel, OSD_FBLK | OSD_R | OSD_G | OSD_B.
+ */
+uint32_t osd_pixel(const uint8_t *device, osd_len device_len, const uint8_t *ram, osd_len ram_len, const uint8_t *font, osd_len font_len,
+                   uint32_t lines, uint32_t frame, uint32_t x, uint32_t y);
 
 #ifdef __cplusplus
 }

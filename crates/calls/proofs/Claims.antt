@@ -2,7 +2,7 @@
 -- Assumes nothing.
 use Rattle.calls.specs.Fed.{FedAreBusEvents}
 use Rattle.calls.specs.OnePage.{OnePage}
-use Rattle.calls.specs.Pixels.{PixelsAgree}
+use Rattle.calls.specs.Pixels.{StayingPut, PixelsAgree}
 use Rattle.calls.specs.Reach.{UnusedBits}
 use Rattle.calls.specs.Use.{QuietEvents, WritesAlone, NoStays}
 use Rattle.calls.specs.Witnesses.{Witnesses}
@@ -15,6 +15,9 @@ use Rattle.calls.proofs.Witnesses as witness
 
 pub one-page : OnePage
 one-page = page.one-page
+
+pub staying-put : StayingPut
+staying-put = pixels.staying-put
 
 pub pixels-agree : PixelsAgree
 pixels-agree = pixels.pixels-agree

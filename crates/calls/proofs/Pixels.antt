@@ -18,6 +18,9 @@ use Rattle.refusals.proofs.Laws.{not-zero}
 use Rattle.registers.specs.declared.Registers.{Registers}
 use Rattle.registers.specs.Registers.{settingsOf, pageOf}
 use Rattle.raster.specs.Raster.{widthOf}
+use Rattle.bus.specs.declared.Event.{Event}
+use Rattle.bus.specs.Bus.{BusOutcome, busEvent, taken}
+use Rattle.bus.proofs.Laws.{by-event}
 use Rattle.walk.specs.Walk.{walkFrom}
 use Rattle.glyph.specs.Glyph.{glyphOf}
 use Rattle.line.specs.Line.{Scanned, scan, paint}
@@ -26,14 +29,43 @@ use Rattle.line.proofs.Strips.{scan-value}
 use Rattle.device.specs.declared.Device.{Device}
 use Rattle.device.specs.declared.Frame.{Frame}
 use Rattle.device.specs.Device.{hearEvent, StartOutcome, inFrame, startFrame, DrawOutcome, nextScan, pixelsOf, lineOn, lineDrawn, lineWidth, drawLine}
-use Rattle.device.proofs.Laws.{by-draw, draw-passed}
+use Rattle.device.proofs.Laws.{by-draw, draw-same, draw-passed}
 use Rattle.capture.specs.Capture.{Logged, fedEvents}
 use Rattle.pixel.specs.Pixel.{pixelAt}
 use Rattle.pixel.specs.Ask.{pixelVerdict, pixelBy, askPixel}
 use Rattle.pixel.proofs.Lines.{walkAfter, one-more, pixel-is}
-use Rattle.calls.specs.OnePage.{Call, draw, ask, event, feed, anew, pixel, State, chipOf, answer, after, calls, fedCall}
-use Rattle.calls.specs.Pixels.{started, StayPut, drew, linesDrawn, PixelsAgree}
+use Rattle.calls.specs.OnePage.{Call, draw, ask, event, feed, anew, pixel, State, chipOf, answer, after, calls, fedCall, effectOf}
+use Rattle.calls.specs.Pixels.{started, StayPut, StayingPut, drew, linesDrawn, PixelsAgree}
 use Rattle.calls.proofs.Fed.{fed-after}
+use Rattle.calls.proofs.Quiet.{unstored, taken-refused}
+
+-- ---- calls that leave RAM and registers as they are
+
+-- what is left of both
+Same : State → BusOutcome → Type 0
+Same s o = (o .ram ≡ s .ram) × (o .registers ≡ s .device .registers)
+
+event-put : (font : List ℕ) (s : State) (e : Event) → Same s (busEvent (s .device .bus) (s .device .registers) (s .ram) e) → StayPut font s (event e)
+unfolding Same after hearEvent
+event-put font s e h = record { ram = h .0; registers = h .1 }
+
+pub staying-put : StayingPut
+unfolding after Same taken hearEvent
+staying-put =
+    record {
+      draws = λ font s line. record { ram = refl; registers = draw-same (s .device) (s .ram) font line };
+      cells = λ font s cell. record { ram = refl; registers = refl };
+      pixels = λ font s lines frame x y. record { ram = refl; registers = refl };
+      renewals = λ font s. record { ram = refl; registers = refl };
+      events = λ font s e n.
+          event-put font s e
+          (by-event (Same s) (s .device .bus) (s .device .registers) (s .ram) e (refl, refl) (unstored (s .ram) (s .device .registers) (effectOf s e) n));
+      refused = λ font s e.
+          λ n.
+          event-put font s e
+          (by-event (λ (o : BusOutcome). (o .reply .refusal ≡ 0 → ⊥) → Same s o) (s .device .bus) (s .device .registers) (s .ram) e
+          (λ k. (refl, refl)) (λ k. unstored (s .ram) (s .device .registers) (effectOf s e) (taken-refused s e (effectOf s e) k)) n);
+    }
 
 -- ---- events and feeds leave the frame as it is
 

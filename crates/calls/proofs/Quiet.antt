@@ -57,15 +57,19 @@ quiet-as : (s : State) (e : Event) (f : Effect) → effectOf s e ≡ f
     → Harmless (s .ram) (s .device .registers) (cellsLeft (s .device) (s .ram)) f → Quiet s e
 quiet-as s e f q h = quiet-by s e (subst (Harmless (s .ram) (s .device .registers) (cellsLeft (s .device) (s .ram))) (sym q) h)
 
-nothing-stored : (ram : List ℕ) (r : Registers) (cs : List ℕ) (f : Effect) → (Stores f → ⊥) → Harmless ram r cs f
+-- an effect that stores nothing changes nothing
+pub unstored : (ram : List ℕ) (r : Registers) (f : Effect) → (Stores f → ⊥) → (ramWith f ram ≡ ram) × (registersWith f r ≡ r)
 unfolding Stores ramWith registersWith
-nothing-stored ram r cs Acknowledge n = record { keeps = same-ram cs ram refl; same = refl }
-nothing-stored ram r cs Ignore n = record { keeps = same-ram cs ram refl; same = refl }
-nothing-stored ram r cs (Store a x) n = absurd (n tt)
-nothing-stored ram r cs (Load a) n = record { keeps = same-ram cs ram refl; same = refl }
+unstored ram r Acknowledge n = (refl, refl)
+unstored ram r Ignore n = (refl, refl)
+unstored ram r (Store a x) n = absurd (n tt)
+unstored ram r (Load a) n = (refl, refl)
+
+nothing-stored : (ram : List ℕ) (r : Registers) (cs : List ℕ) (f : Effect) → (Stores f → ⊥) → Harmless ram r cs f
+nothing-stored ram r cs f n = let u = unstored ram r f n in record { keeps = same-ram cs ram (u .0); same = ap settingsOf (u .1) }
 
 -- a refused event, for whatever reason
-taken-refused : (s : State) (e : Event) (f : Effect) → (busReply (answerTo f (s .device .registers) (s .ram)) .refusal ≡ 0 → ⊥) → Stores f → ⊥
+pub taken-refused : (s : State) (e : Event) (f : Effect) → (busReply (answerTo f (s .device .registers) (s .ram)) .refusal ≡ 0 → ⊥) → Stores f → ⊥
 unfolding answerTo Stores
 taken-refused s e Acknowledge h t = t
 taken-refused s e Ignore h t = t

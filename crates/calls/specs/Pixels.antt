@@ -11,19 +11,28 @@ use lib.ListN.{length, getD}
 use Rattle.limits.specs.Limits.{ramLength, fontLength, frameLines}
 use Rattle.runs.specs.Runs.{Entry, log, end, AsMade}
 use Rattle.refusals.specs.Refusals.{accepted}
-use Rattle.device.specs.Device.{startFrame, drawLine, lineWidth}
+use Rattle.bus.specs.declared.Event.{Event}
+use Rattle.device.specs.Device.{hearEvent, startFrame, drawLine, lineWidth}
 use Rattle.pixel.specs.Ask.{askPixel}
-use Rattle.calls.specs.OnePage.{Call, State, Answer, drawn, asked, heard, fed, renewed, shown, after, calls}
+use Rattle.calls.specs.OnePage.{Call, draw, ask, event, anew, pixel, State, Answer, drawn, asked, heard, fed, renewed, shown, after, calls, effectOf, Stores}
 
 -- the state after a frame start
 abbrev pub started : State → ℕ → State
 started s lines = record { device = startFrame (s .device) lines .device; ram = s .ram; feed = s .feed }
 
--- a call that leaves RAM and registers as they are. Every draw and every question does, refused ones too; so do the bus events and feeds that
--- store nothing, or the byte that is there
+-- a call that leaves RAM and registers as they are
 pub record StayPut (font : List ℕ) (s : State) (c : Call) : Type 0 where
   pub ram : after font s c .ram ≡ s .ram
   pub registers : after font s c .device .registers ≡ s .device .registers
+
+-- the claim that these do: every draw and question, refused ones too, a feed made anew, and each bus event that stores nothing or is refused
+pub record StayingPut : Type 0 where
+  pub draws : (font : List ℕ) (s : State) (line : List ℕ) → StayPut font s (draw line)
+  pub cells : (font : List ℕ) (s : State) (cell : ℕ) → StayPut font s (ask cell)
+  pub pixels : (font : List ℕ) (s : State) (lines frame x y : ℕ) → StayPut font s (pixel lines frame x y)
+  pub renewals : (font : List ℕ) (s : State) → StayPut font s anew
+  pub events : (font : List ℕ) (s : State) (e : Event) → (Stores (effectOf s e) → ⊥) → StayPut font s (event e)
+  pub refused : (font : List ℕ) (s : State) (e : Event) → (hearEvent (s .device) (s .ram) e .reply .refusal ≡ 0 → ⊥) → StayPut font s (event e)
 
 -- how many lines the calls of a run drew: their accepted draws
 unfoldable pub drew : Answer → ℕ
