@@ -5,7 +5,7 @@ CARGO = CARGO_TARGET_DIR=target/cargo cargo
 MANIFEST = --quiet --offline --manifest-path compare/Cargo.toml
 
 # the scripts of tests/ that make stored inputs and outputs, and where they put them
-STORED = test_bus test_feed test_frames test_pages test_bench demo door_monitor
+STORED = test_bus test_feed test_frames test_pages test_pixel test_bench demo door_monitor
 INTO = .
 
 .PHONY: demo claims stored stored-check library divisions example model comparison speed ports port-known ports-refusals ports-test

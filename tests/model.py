@@ -1,7 +1,8 @@
 """A second implementation of document 01 and of the requests that have landed, for the stored outputs of the test programs.
 
 It was written from their words alone, as a device that is told what to do step by step, and shares nothing with the Rattle code or
-with the definitions in specs/. The scripts beside it make a program's stdin and stdout from it.
+with the definitions in specs/. The pixel of request K5 is read from the words once more, apart from the device's lines. The scripts
+beside it make a program's stdin and stdout from it.
 """
 import copy
 import math
@@ -169,6 +170,79 @@ class Device:
         if cell >= 1024:
             return (8, 0)
         return (0, int(cell in self.cells_left(ram)))
+
+
+def pixel(registers, ram, font, lines, frame, x, y):
+    """Request K5: the pixel at column x of line y, from these alone, read off the page and not drawn: (refusal, value)."""
+    width = 12 * (registers[0] % 64 + 1)
+    if len(ram) != 1024:
+        return (1, 0)
+    if len(font) != 4608:
+        return (2, 0)
+    if lines == 0 or lines > 2048:
+        return (6, 0)
+    if x >= width or y >= lines:
+        return (11, 0)
+    if registers[3] < 0x80:
+        return (0, 0)
+    plain = 8 * (registers[3] // 64 % 2)
+    from_first = x - 3 * (max(registers[1], 4) + 8)
+    if from_first < 0:
+        return (0, plain)
+
+    # the strip, and in `end` its last line, counted from 1
+    ch = max(registers[2] % 64, 1)
+    at, end = 64 * (registers[3] % 8), 0
+    while True:
+        low, high = ram[at], ram[at + 1]
+        if high < 0x80:
+            height = max(low, 1)
+        else:
+            height = 2 * ch if high & 0x20 else ch
+        end += height
+        if y < end:
+            break
+        at = (at + 2) % 1024
+    if high < 0x80 or not high & 0x40:
+        return (0, plain)
+
+    # the slice, from the strip's line j
+    j = y + 1 - (end - height)
+    n = (j + 1) // 2 if high & 0x20 else j
+    s = max((36 * n + ch) // (2 * ch), 1)
+
+    # the code in whose twelve columns x falls; all codes up to it are read
+    place, column = divmod(from_first, 12)
+    codes = (high % 4 * 256 + low) // 2 * 2
+    row = [(codes + 2 * i) % 1024 for i in range(place + 1)]
+    if any(ram[a + 1] == 0xFF for a in row):
+        return (0, plain)
+    look, set_and_number = ram[row[-1]], ram[row[-1] + 1]
+    user, number = divmod(set_and_number, 128)
+
+    # its slice: PX11 to PX0 as one number
+    if not user:
+        a = 36 * number + 2 * (s - 1)
+        bits = font[a + 1] % 16 * 256 + font[a]
+    elif number <= 25:
+        a = 38 * number + 2 * s
+        bits = ram[a + 1] % 16 * 256 + ram[a]
+    else:
+        bits = 0
+    shown_below = (64, 32, 16, 48)[registers[3] // 16 % 4]
+    if look & 0x80 and frame % 64 >= shown_below:
+        bits = 0
+
+    def foreground(c):
+        return bits >> (11 - c) & 1
+
+    if foreground(column):
+        return (0, 8 + look // 16 % 8)
+    if not look & 8:
+        return (0, 8 + look % 8)
+    if look & 2 and column > 0 and foreground(column - 1):
+        return (0, 8)
+    return (0, plain)
 
 
 class Feed:
