@@ -9,14 +9,15 @@
 #define GUARD 24
 #define SLOTS 11
 #define ROOM 32768
-#define FUNCTIONS 10
-#define ARGUMENTS 5
+#define FUNCTIONS 11
+#define ARGUMENTS 7
 
 /* The functions and their arguments, as the trace must have them. */
 static const char *const functions[FUNCTIONS][2] = {
     {"osd_device_len", ""}, {"osd_fresh", "w"},     {"osd_reset", "w"}, {"osd_bus", "wwbb"},
     {"osd_frame_start", "wn"}, {"osd_draw", "wrrw"}, {"osd_cell", "rrn"},
     {"osd_feed_len", ""}, {"osd_feed_fresh", "w"}, {"osd_feed", "wwwrw"},
+    {"osd_pixel", "rrrnnnn"},
 };
 
 /* A slot: bytes between guards, and what they must be. */
@@ -141,6 +142,7 @@ struct call {
 static uint32_t make(const struct call *call)
 {
     uint8_t *const *at = call->at;
+    const uint32_t *numbers = call->numbers;
     osd_len len[ARGUMENTS] = {0};
     for (int i = 0; i < ARGUMENTS; i++)
         len[i] = call->buffers[i] ? call->buffers[i]->len : 0;
@@ -148,13 +150,14 @@ static uint32_t make(const struct call *call)
     case 0: return osd_device_len();
     case 1: return osd_fresh(at[0], len[0]);
     case 2: return osd_reset(at[0], len[0]);
-    case 3: return osd_bus(at[0], len[0], at[1], len[1], (uint8_t)call->numbers[2], (uint8_t)call->numbers[3]);
-    case 4: return osd_frame_start(at[0], len[0], call->numbers[1]);
+    case 3: return osd_bus(at[0], len[0], at[1], len[1], (uint8_t)numbers[2], (uint8_t)numbers[3]);
+    case 4: return osd_frame_start(at[0], len[0], numbers[1]);
     case 5: return osd_draw(at[0], len[0], at[1], len[1], at[2], len[2], at[3], len[3]);
-    case 6: return osd_cell(at[0], len[0], at[1], len[1], call->numbers[2]);
+    case 6: return osd_cell(at[0], len[0], at[1], len[1], numbers[2]);
     case 7: return osd_feed_len();
     case 8: return osd_feed_fresh(at[0], len[0]);
-    default: return osd_feed(at[0], len[0], at[1], len[1], at[2], len[2], at[3], len[3], at[4], len[4]);
+    case 9: return osd_feed(at[0], len[0], at[1], len[1], at[2], len[2], at[3], len[3], at[4], len[4]);
+    default: return osd_pixel(at[0], len[0], at[1], len[1], at[2], len[2], numbers[3], numbers[4], numbers[5], numbers[6]);
     }
 }
 

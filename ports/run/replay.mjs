@@ -46,6 +46,7 @@ function sample(page) {
     for (let cell = 0; drawn === 108 && cell < 1024; cell++) parts.push(number(library.osd_cell(device, 32n, ram, 1024n, cell)))
     parts.push(number(library.osd_draw(device, 32n, ram, 1024n, font, 4608n, line, 384n)))
     parts.push(Buffer.from(bytes.subarray(line, line + 384)))
+    parts.push(number(library.osd_pixel(device, 32n, ram, 1024n, font, 4608n, 216, 0, (drawn * 53) % 384, drawn)))
   }
   if (refused) fail('a call for the sample page was refused')
   console.log(`sample page: digest ${digestOf(parts)}`)

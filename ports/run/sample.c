@@ -1,12 +1,14 @@
 /*
- * Draws the sample page, the demo's font and bus traffic (crates/demo/stdin), as one frame, asks about every cell in the middle of it,
- * and prints the digest of all lines and answers. compare/runner/src/sample.rs has the same of the independent implementation.
+ * Draws the sample page, the demo's font and bus traffic (crates/demo/stdin), as one frame, asks about every cell in the middle of it
+ * and for one pixel of each line, and prints the digest of all lines and answers. compare/runner/src/sample.rs has the same of the
+ * independent implementation.
  */
 #include "osd.h"
 #include "print.h"
 
 #define LINES 216
 #define WIDTH 384
+#define STEP 53 /* columns from the pixel asked for to that of the next line */
 
 /* page.S; like the buffers it lies at no even address */
 extern const uint8_t sample_page[], sample_page_end[];
@@ -49,6 +51,9 @@ int sample(void)
         stack_clean();
         add_answer(osd_draw(lent.device, sizeof lent.device, lent.ram, sizeof lent.ram, font, OSD_FONT_LEN, lent.line, sizeof lent.line));
         add(lent.line, sizeof lent.line);
+        stack_clean();
+        add_answer(osd_pixel(lent.device, sizeof lent.device, lent.ram, sizeof lent.ram, font, OSD_FONT_LEN, LINES, 0,
+                             (uint32_t)drawn * STEP % WIDTH, (uint32_t)drawn));
     }
     if (refused > 0) {
         put("a call for the sample page was refused\n");

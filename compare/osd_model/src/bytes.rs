@@ -75,12 +75,10 @@ impl Device {
     pub fn from_bytes(bytes: &[u8; DEVICE_LEN]) -> Device {
         let number = |at: usize| u16::from_le_bytes([bytes[at], bytes[at + 1]]);
         let word = |at: usize| number(at) / 2 % RAM_WORDS as u16;
-        let mut registers = [0; Registers::COUNT];
-        registers.copy_from_slice(&bytes[REGISTERS..REGISTERS + Registers::COUNT]);
         Device {
             bus: bus_from_bytes(bytes[0], bytes[1]),
             counter: number(2) & COUNTER_MASK,
-            registers: Registers::masked(registers),
+            registers: Registers::of_record(bytes),
             next_frame: bytes[20] % FRAME_NUMBERS,
             frame: Frame {
                 number: bytes[21] % FRAME_NUMBERS,
@@ -89,6 +87,16 @@ impl Device {
                 strip: strip_from_bytes(bytes[26], bytes[27], word(28), number(30)),
             },
         }
+    }
+}
+
+impl Registers {
+    /// The registers of a device record.
+    #[inline]
+    pub(crate) fn of_record(bytes: &[u8; DEVICE_LEN]) -> Registers {
+        let mut registers = [0; Registers::COUNT];
+        registers.copy_from_slice(&bytes[REGISTERS..REGISTERS + Registers::COUNT]);
+        Registers::masked(registers)
     }
 }
 

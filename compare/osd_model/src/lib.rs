@@ -2,11 +2,11 @@
 //!
 //! A [`Device`] takes the host's two-wire bus events, keeps sixteen registers,
 //! walks a frame strip by strip over 1,024 lent RAM cells and draws each scan
-//! line from those and a lent font. A logger's capture of the bus is fed to it
-//! in chunks, with a [`Feed`] between them. Every call checks the lent buffers
-//! first; a refused call changes nothing, but an unknown slave address leaves
-//! the device deaf, and a bad kind in a capture leaves what came before it and
-//! shuts the feed.
+//! line from those and a lent font. A pixel of a frame can be asked for by
+//! itself. A logger's capture of the bus is fed to it in chunks, with a
+//! [`Feed`] between them. Every call checks the lent buffers first; a refused
+//! call changes nothing, but an unknown slave address leaves the device deaf,
+//! and a bad kind in a capture leaves what came before it and shuts the feed.
 
 #![no_std]
 #![forbid(unsafe_code)]
@@ -18,6 +18,7 @@ mod cell;
 mod draw;
 mod feed;
 mod frame;
+mod pixel;
 mod registers;
 #[cfg(test)]
 mod tests;
@@ -25,6 +26,7 @@ mod tests;
 pub use bus::Event;
 pub use bytes::{bus_bytes, DEVICE_LEN};
 pub use feed::{feed_bytes, Fed, Feed, FEED_LEN};
+pub use pixel::pixel_bytes;
 
 use bus::Bus;
 use frame::Frame;
@@ -68,6 +70,8 @@ pub enum Refusal {
     FeedShut = 9,
     /// The output has no room for all events that the chunk completes.
     OutputRoom = 10,
+    /// The pixel asked for is outside the frame.
+    NoSuchPixel = 11,
 }
 
 impl Refusal {

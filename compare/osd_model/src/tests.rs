@@ -9,7 +9,7 @@ use std::vec::Vec;
 use crate::bus::Event::{self, Byte, Fetch, Start, Stop};
 use crate::frame::{slice_of_step, Characters, Steps};
 use crate::registers::Registers;
-use crate::{bus_bytes, feed_bytes, Device, Feed, Refusal, DEVICE_LEN, FEED_LEN, FONT_LEN, RAM_LEN};
+use crate::{bus_bytes, feed_bytes, pixel_bytes, Device, Feed, Refusal, DEVICE_LEN, FEED_LEN, FONT_LEN, RAM_LEN};
 
 fn blank() -> (Device, Vec<u8>, Vec<u8>, Vec<u8>) {
     (Device::fresh(), vec![0; RAM_LEN], vec![0; FONT_LEN], vec![0xEE; 800])
@@ -995,5 +995,271 @@ fn same_as_bus_events() {
         }
         assert_eq!(fed.feed(chunk, capture.len() + 5), (refusal, out));
         assert_eq!((fed.feed_record, fed.record, fed.ram), (left, record, ram));
+    }
+}
+
+/// Request K5. Pixels of a line of frame 0, asked for one by one.
+fn asked(device: &Device, ram: &[u8], font: &[u8], columns: Range<u32>, line: u32) -> std::string::String {
+    hex(&columns.map(|x| device.pixel(ram, font, 2048, 0, x, line).unwrap()).collect::<Vec<u8>>())
+}
+
+#[test]
+fn pixels_of_the_worked_example() {
+    let (mut device, mut ram, font, _) = example();
+    let shown = "000000000000000000000000000000000000F9999999FFFF000000000000";
+    assert_eq!(asked(&device, &ram, &font, 0..60, 0), shown);
+    for (x, digit) in (0..).zip(shown.chars()) {
+        let pixel = device.pixel(&ram, &font, 1, 0, x, 0).unwrap();
+        assert_eq!(u32::from(pixel), digit.to_digit(16).unwrap());
+    }
+    // Its 17 other lines are background; behind it comes spacing of SL 0.
+    let background = "000000000000000000000000000000000000999999999999000000000000";
+    for line in 1..18 {
+        assert_eq!(asked(&device, &ram, &font, 0..60, line), background);
+    }
+    let plain = "0".repeat(60);
+    assert_eq!(asked(&device, &ram, &font, 0..60, 18), plain);
+    // FBK: plain pixels are black with FBLK 1.
+    poke(&mut device, &mut ram, 0x3FF3, &[0xC0]);
+    assert_eq!(asked(&device, &ram, &font, 0..60, 0), shown.replace('0', "8"));
+    assert_eq!(asked(&device, &ram, &font, 0..60, 18), "8".repeat(60));
+    // OSD 0: nothing at all, FBK or not.
+    poke(&mut device, &mut ram, 0x3FF3, &[0x40]);
+    assert_eq!(asked(&device, &ram, &font, 0..60, 0), plain);
+    // DE 0: a strip as high as before, and plain.
+    poke(&mut device, &mut ram, 0x3FF3, &[0x80]);
+    ram[1] = 0x80;
+    for line in 0..18 {
+        assert_eq!(asked(&device, &ram, &font, 0..60, line), plain);
+    }
+}
+
+#[test]
+fn pixels_with_shadow_and_flash() {
+    let (mut device, mut ram, mut font, _) = example();
+    font[2340..2342].copy_from_slice(&[0x0E, 0xFA]); // A0E: 1010 0000 1110, and bits that do not count
+    ram[4] = 0xFA; // flashing, white, shadowed
+    for mode in 0..4 {
+        poke(&mut device, &mut ram, 0x3FF3, &[0xC0 | mode << 4]);
+        for frame in (0..300).chain([65_535, 65_536, 65_536 + 47, u32::MAX - 16, u32::MAX]) {
+            let line: Vec<u8> = (36..48).map(|x| device.pixel(&ram, &font, 1, frame, x, 0).unwrap()).collect();
+            let shown = frame % 64 < [64, 32, 16, 48][usize::from(mode)];
+            assert_eq!(hex(&line), if shown { "F8F88888FFF8" } else { "888888888888" });
+        }
+    }
+    // PX11 is black in no case, also where the character before ends in foreground.
+    font[2340] = 0x0F;
+    ram[4..10].copy_from_slice(&[0x7A, 0x41, 0x7A, 0x42, 0x00, 0xFF]);
+    poke(&mut device, &mut ram, 0x3FF3, &[0x80]);
+    assert_eq!(asked(&device, &ram, &font, 36..60, 0), "F8F80000FFFF000000000000");
+}
+
+#[test]
+fn pixels_of_cut_characters_and_none() {
+    // W 60, DD 5: the second character is cut to 9 columns. Below 4 DD is 4.
+    let (mut device, mut ram, mut font, _) = example();
+    font[2340..2342].copy_from_slice(&[0x55, 0x05]);
+    ram[6..10].copy_from_slice(&[0x71, 0x41, 0x00, 0xFF]);
+    for (dd, shown) in [
+        (3, "9F9F9F9F9F9F9F9F9F9F9F9F"),
+        (4, "9F9F9F9F9F9F9F9F9F9F9F9F"),
+        (5, "0009F9F9F9F9F9F9F9F9F9F9"),
+        (11, "0000000000000000000009F9"),
+        (12, "000000000000000000000000"),
+        (255, "000000000000000000000000"),
+    ] {
+        poke(&mut device, &mut ram, 0x3FF1, &[dd]);
+        assert_eq!(asked(&device, &ram, &font, 36..60, 0), shown, "DD {dd}");
+    }
+}
+
+#[test]
+fn pixels_of_tall_letters() {
+    for (height, zoom, lines) in TALL {
+        for code in [0x41, 0x81] {
+            let (device, ram, font, _) = tall(height, zoom, code);
+            for line in 0..=lines {
+                let slice = if line < lines { "F9999999FFFF" } else { "99999999999F" };
+                assert_eq!(asked(&device, &ram, &font, 36..48, line), slice);
+            }
+        }
+    }
+}
+
+#[test]
+fn a_page_by_p_as_it_stands() {
+    // Page 3 is the example's; page 0 is spacing.
+    let (mut device, mut ram, font, _) = example();
+    ram.copy_within(0..2, 192);
+    ram[..2].copy_from_slice(&[9, 0]);
+    poke(&mut device, &mut ram, 0x3FF3, &[0x83]);
+    assert_eq!(asked(&device, &ram, &font, 36..48, 0), "F9999999FFFF");
+    // A running frame goes on with the page that it took; the question does not.
+    device.frame_start(9).unwrap();
+    poke(&mut device, &mut ram, 0x3FF3, &[0x80]);
+    assert_eq!(asked(&device, &ram, &font, 36..48, 0), "000000000000");
+}
+
+#[test]
+fn refusals_of_a_pixel_and_their_order() {
+    let (mut device, mut ram, font, _) = example();
+    let (long_ram, long_font) = (vec![0; RAM_LEN + 1], vec![0; FONT_LEN + 1]);
+    let rams = [(&ram[..], false), (&[], true), (&ram[1..], true), (&long_ram, true)];
+    let fonts = [(&font[..], false), (&[], true), (&font[1..], true), (&long_font, true)];
+    // Lines that are the ones asked for where they are cut to 16 bits.
+    let frames = [1, 2, 300, 2048, 0, 2049, 65_535, 65_536, 65_536 + 1, 65_536 + 300, 1 << 31, u32::MAX];
+    for ((ram, bad_ram), (font, bad_font)) in rams.into_iter().flat_map(|ram| fonts.map(|font| (ram, font))) {
+        for lines in frames {
+            for x in [0, 59, 60, 61, 767, 768, 65_535, 65_536, 65_536 + 36, (1 << 31) + 36, u32::MAX] {
+                for y in [0, 1, 2, 299, 300, 2047, 2048, 65_535, 65_536, 65_536 + 1, 1 << 31, u32::MAX] {
+                    let answer = device.pixel(ram, font, lines, 0, x, y).map_err(Refusal::number);
+                    let expected = match (bad_ram, bad_font, lines) {
+                        (true, ..) => Err(1),
+                        (_, true, _) => Err(2),
+                        (.., 0 | 2049..) => Err(6),
+                        _ if x >= 60 || y >= lines => Err(11),
+                        _ => Ok(()),
+                    };
+                    assert_eq!(answer.map(|_| ()), expected, "{lines} lines, column {x}, line {y}");
+                }
+            }
+        }
+    }
+    // W goes with LD, whatever VSP and HSP are.
+    for ld in [0, 1, 62, 63] {
+        for polarity in [0, 0x40, 0x80, 0xC0] {
+            poke(&mut device, &mut ram, 0x3FF0, &[ld | polarity]);
+            let width = device.width() as u32;
+            assert_eq!(device.pixel(&ram, &font, 1, 0, width - 1, 0), Ok(0));
+            assert_eq!(device.pixel(&ram, &font, 1, 0, width, 0), Err(Refusal::NoSuchPixel));
+        }
+    }
+}
+
+#[test]
+fn a_pixel_of_any_record() {
+    let mut noise = Noise(0x2545_F491_4F6C_DD1D);
+    let font: Vec<u8> = (0..FONT_LEN).map(|_| noise.byte()).collect();
+    for round in 0..4000 {
+        let ram = noise.ram();
+        let mut record = noise.record(round);
+        record[7] |= if round % 8 == 0 { 0 } else { 0x80 };
+        let device = Device::from_bytes(&record);
+        let (lines, frame) = (noise.below(2050) as u32, noise.next() as u32);
+        let (x, y) = (noise.below(device.width() as u64 + 2) as u32, noise.below(2050) as u32);
+        let answer = match device.pixel(&ram, &font, lines, frame, x, y) {
+            Ok(pixel) => u32::from(pixel),
+            Err(refusal) => u32::from(refusal.number()) << 16,
+        };
+        assert_eq!(pixel_bytes(&record, &ram, &font, lines, frame, x, y), answer);
+        // Of the record only the registers count.
+        let others = noise.record(round + 1);
+        record[..4].copy_from_slice(&others[..4]);
+        record[20..].copy_from_slice(&others[20..]);
+        assert_eq!(pixel_bytes(&record, &ram, &font, lines, frame, x, y), answer);
+        assert_eq!(pixel_bytes(&record, &ram[1..], &font[1..], 0, frame, x, y), 1 << 16);
+    }
+}
+
+/// Draws a frame of this number and asks for all pixels of one line of
+/// `every`: with the device that draws, since its frame does not matter.
+fn asked_as_drawn(device: &Device, ram: &[u8], font: &[u8], lines: u32, frame: u32, every: u32) {
+    let mut drawing = Device { next_frame: (frame % 64) as u8, ..*device };
+    drawing.frame_start(lines).unwrap();
+    let mut line = vec![0xEE; device.width()];
+    for y in 0..lines {
+        drawing.draw(ram, font, &mut line).unwrap();
+        if y % every > 0 {
+            continue;
+        }
+        for (x, &pixel) in (0..).zip(&line) {
+            assert_eq!(drawing.pixel(ram, font, lines, frame, x, y), Ok(pixel), "column {x}, line {y}, frame {frame}");
+        }
+    }
+}
+
+/// Codes of all kinds from this word on, around the end of RAM.
+fn codes(noise: &mut Noise, ram: &mut [u8], word: usize, count: usize) {
+    for word in word..word + count {
+        let high = match noise.below(4) {
+            0 => 0x80 + noise.below(26) as u8,
+            1 => 0x9A + noise.below(101) as u8,
+            _ => noise.below(128) as u8,
+        };
+        ram[2 * (word % 512)..][..2].copy_from_slice(&[noise.byte(), high]);
+    }
+}
+
+#[test]
+fn pixels_as_drawn_of_every_kind_of_strip() {
+    let mut noise = Noise(0x0BAD_5EED_0BAD_5EED);
+    let font: Vec<u8> = (0..FONT_LEN).map(|_| noise.byte()).collect();
+    for (height, mode) in [0, 1, 12, 18, 37, 63].into_iter().flat_map(|height| (0..4).map(move |mode| (height, mode))) {
+        for (ld, dd) in [(4, 5), (12, 4), (7, 9), (0, 4), (9, 255)] {
+            let mut ram: Vec<u8> = (0..RAM_LEN).map(|_| noise.byte()).collect();
+            let page = noise.below(8) as u8;
+            // Rows: over the end of RAM; of an end of line; of three codes and an
+            // end of line; on and on.
+            for (word, count) in [(507, 20), (300, 0), (310, 3), (320, 180)] {
+                codes(&mut noise, &mut ram, word, count);
+            }
+            for end in [300, 313] {
+                ram[2 * end..][..2].copy_from_slice(&[noise.byte(), 0xFF]);
+            }
+            let row = |word: usize, bits: u8| [(2 * word) as u8 | 1, 0x80 | bits | (word / 128) as u8];
+            let strips = [
+                [0, 0x7F],
+                row(507, 0x40),
+                [2, 0],
+                row(320, 0),
+                row(300, 0x40),
+                row(310, 0x60),
+                row(321, 0x44), // bits 4 to 2 do not count
+                row(322, 0x20),
+                row(508, 0x78),
+            ];
+            for (place, strip) in strips.into_iter().enumerate() {
+                ram[64 * usize::from(page) + 2 * place..][..2].copy_from_slice(&strip);
+            }
+            let (mut device, ..) = blank();
+            let osd = if ld == 7 && mode == 2 { 0 } else { 0x80 };
+            let settings = [ld | noise.byte() & 0xC0, dd, height, osd | noise.byte() & 0x40 | mode << 4 | page];
+            poke(&mut device, &mut [0; RAM_LEN], 0x3FF0, &settings);
+            // To the end of the last strip and some lines on, whatever is there.
+            let lines = 3 + 9 * u32::from(height.max(1)) + noise.below(20) as u32;
+            let frame = noise.below(64) as u32 + [0, 0, 64, 65_536, u32::MAX - 63][noise.below(5) as usize];
+            asked_as_drawn(&device, &ram, &font, lines, frame, 1);
+        }
+    }
+}
+
+#[test]
+fn pixels_as_drawn_of_every_frame_number() {
+    let mut noise = Noise(0x5DEE_CE66_D1CE_4E5B);
+    let font: Vec<u8> = (0..FONT_LEN).map(|_| noise.byte()).collect();
+    let (mut device, mut ram, ..) = blank();
+    codes(&mut noise, &mut ram, 100, 20);
+    ram[..2].copy_from_slice(&[200, 0xC0]);
+    for frame in (0..64).flat_map(|number| [number, number + 64, number + 128, number + 65_536, number + (1 << 31)]) {
+        for mode in 0..4 {
+            poke(&mut device, &mut ram, 0x3FF0, &[9, 4, 3, 0x80 | mode << 4]);
+            asked_as_drawn(&device, &ram, &font, 3, frame, 1);
+        }
+    }
+}
+
+#[test]
+fn pixels_as_drawn_over_noise() {
+    let mut noise = Noise(0xD1B5_4A32_D192_ED03);
+    for round in 0..300 {
+        let ram = noise.ram();
+        let font: Vec<u8> = (0..FONT_LEN).map(|_| noise.byte()).collect();
+        let mut record = noise.record(round);
+        for number in 0..4 {
+            record[4 + usize::from(number)] = noise.register(number);
+        }
+        let device = Device::from_bytes(&record);
+        let lines = [1, 7, 64, 700, 2048][noise.below(5) as usize];
+        asked_as_drawn(&device, &ram, &font, lines, noise.next() as u32, 1 + lines / 8);
     }
 }

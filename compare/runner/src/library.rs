@@ -8,6 +8,15 @@ pub const NOT_TAKEN: u32 = 255 << 16;
 /// The most bytes of a chunk.
 pub const CHUNK_MAX: usize = 65_534;
 
+/// Which pixel is asked for: column x of line y, in a frame of these lines and this number.
+#[derive(Clone, Copy, Debug)]
+pub struct Place {
+    pub lines: u32,
+    pub frame: u32,
+    pub x: u32,
+    pub y: u32,
+}
+
 pub trait Library {
     fn fresh(&mut self, device: &mut Lent) -> u32;
     fn reset(&mut self, device: &mut Lent) -> u32;
@@ -15,6 +24,7 @@ pub trait Library {
     fn frame_start(&mut self, device: &mut Lent, lines: u32) -> u32;
     fn draw(&mut self, device: &mut Lent, ram: &Lent, font: &Lent, line: &mut Lent) -> u32;
     fn cell(&mut self, device: &Lent, ram: &Lent, cell: u32) -> u32;
+    fn pixel(&mut self, device: &Lent, ram: &Lent, font: &Lent, place: Place) -> u32;
     fn feed_fresh(&mut self, feed: &mut Lent) -> u32;
     fn feed(&mut self, device: &mut Lent, feed: &mut Lent, ram: &mut Lent, chunk: &Lent, out: &mut Lent) -> u32;
 
@@ -48,6 +58,10 @@ impl Library for Linked {
 
     fn cell(&mut self, device: &Lent, ram: &Lent, cell: u32) -> u32 {
         linked::cell(device.get(), ram.get(), cell)
+    }
+
+    fn pixel(&mut self, device: &Lent, ram: &Lent, font: &Lent, place: Place) -> u32 {
+        linked::pixel(device.get(), ram.get(), font.get(), place)
     }
 
     fn feed_fresh(&mut self, feed: &mut Lent) -> u32 {

@@ -1,5 +1,7 @@
 //! The proved library, as include/osd.h declares it.
 
+use crate::library::Place;
+
 mod c {
     extern "C" {
         pub fn osd_device_len() -> u32;
@@ -18,6 +20,18 @@ mod c {
             line_len: usize,
         ) -> u32;
         pub fn osd_cell(device: *const u8, device_len: usize, ram: *const u8, ram_len: usize, cell: u32) -> u32;
+        pub fn osd_pixel(
+            device: *const u8,
+            device_len: usize,
+            ram: *const u8,
+            ram_len: usize,
+            font: *const u8,
+            font_len: usize,
+            lines: u32,
+            frame: u32,
+            x: u32,
+            y: u32,
+        ) -> u32;
         pub fn osd_feed_len() -> u32;
         pub fn osd_feed_fresh(feed: *mut u8, feed_len: usize) -> u32;
         pub fn osd_feed(
@@ -90,6 +104,12 @@ pub fn draw(device: &mut [u8], ram: &[u8], font: &[u8], line: &mut [u8]) -> u32 
 #[inline]
 pub fn cell(device: &[u8], ram: &[u8], cell: u32) -> u32 {
     unsafe { c::osd_cell(pointer(device), device.len(), pointer(ram), ram.len(), cell) }
+}
+
+#[inline]
+pub fn pixel(device: &[u8], ram: &[u8], font: &[u8], Place { lines, frame, x, y }: Place) -> u32 {
+    let (device_len, ram_len, font_len) = (device.len(), ram.len(), font.len());
+    unsafe { c::osd_pixel(pointer(device), device_len, pointer(ram), ram_len, pointer(font), font_len, lines, frame, x, y) }
 }
 
 pub fn feed_len() -> u32 {

@@ -30,14 +30,15 @@ pub fn code(ram: &mut [u8], word: usize, attributes: u8, high: u8) {
     put(ram, word, attributes, high);
 }
 
-/// A page as a host would write it: some descriptors, some rows, some end of line codes; or noise; or in between.
-pub fn random_page(random: &mut Random, ram: &mut [u8]) {
+/// A page as a host would write it: some descriptors, some rows, some end of line codes; or noise; or in between. Answers its P.
+pub fn random_page(random: &mut Random, ram: &mut [u8]) -> u8 {
     random.fill(ram);
+    let p = random.below(8) as u8;
     if random.one_in(3) {
-        return;
+        return p;
     }
     let descriptors = 1 + random.below(40) as usize;
-    let first = 32 * random.below(8) as usize;
+    let first = 32 * usize::from(p);
     let rows = 1 + random.below(6) as usize;
     let start = random.below(512) as usize;
     let columns = 1 + random.below(64) as usize;
@@ -57,7 +58,9 @@ pub fn random_page(random: &mut Random, ram: &mut [u8]) {
             spacing(ram, first + i, random.below(30) as u8);
         } else {
             let row = start + random.below(rows as u64) as usize * (columns + 1);
-            characters(ram, first + i, row, !random.one_in(8), random.one_in(4));
+            let skipped = if random.one_in(8) { columns } else { 0 };
+            characters(ram, first + i, row + skipped, !random.one_in(8), random.one_in(4));
         }
     }
+    p
 }

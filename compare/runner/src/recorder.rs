@@ -24,14 +24,14 @@
 //! Changed bytes are a list of: slot, first place (2 bytes), number (2 bytes), the bytes; its end is a slot of 255.
 
 use crate::lent::Lent as Buffer;
-use crate::library::{Library, CHUNK_MAX, NOT_TAKEN};
+use crate::library::{Library, Place, CHUNK_MAX, NOT_TAKEN};
 use crate::random::Random;
 use crate::sessions::packed;
-use osd_model::{bus_bytes, feed_bytes, Device, Feed, DEVICE_LEN, FEED_LEN};
+use osd_model::{bus_bytes, feed_bytes, pixel_bytes, Device, Feed, DEVICE_LEN, FEED_LEN};
 use std::io::{Result, Write};
 use Argument::{Byte, Lent, Number};
 
-const FUNCTIONS: [(&str, &str); 10] = [
+const FUNCTIONS: [(&str, &str); 11] = [
     ("osd_device_len", ""),
     ("osd_fresh", "w"),
     ("osd_reset", "w"),
@@ -42,6 +42,7 @@ const FUNCTIONS: [(&str, &str); 10] = [
     ("osd_feed_len", ""),
     ("osd_feed_fresh", "w"),
     ("osd_feed", "wwwrw"),
+    ("osd_pixel", "rrrnnnn"),
 ];
 
 const LAST_KIND: u8 = 3;
@@ -267,6 +268,20 @@ impl<W: Write> Library for Recorder<W> {
         }
         let answer = match <&[u8; DEVICE_LEN]>::try_from(device.get()) {
             Ok(record) => packed(Device::from_bytes(record).cell(ram.get(), cell).map(u32::from)),
+            Err(_) => NOT_TAKEN,
+        };
+        self.answered(answer, [])
+    }
+
+    fn pixel(&mut self, device: &Buffer, ram: &Buffer, font: &Buffer, Place { lines, frame, x, y }: Place) -> u32 {
+        let (slot, ram_slot, font_slot) = (self.lend(device, Use::Device), self.lend(ram, Use::Ram), self.lend(font, Use::Font));
+        let [lent, ram_lent, font_lent] = [slot, ram_slot, font_slot].map(Lent);
+        self.call("osd_pixel", [lent, ram_lent, font_lent, Number(lines), Number(frame), Number(x), Number(y)]);
+        if self.made_up {
+            return 0;
+        }
+        let answer = match device.get().try_into() {
+            Ok(record) => pixel_bytes(record, ram.get(), font.get(), lines, frame, x, y),
             Err(_) => NOT_TAKEN,
         };
         self.answered(answer, [])

@@ -1,12 +1,14 @@
 //! The sample page: the demo's font and bus traffic (crates/demo/stdin), drawn as one frame. ports/run/sample.c does the same in C.
 
 use crate::lent::Lent;
-use crate::library::Library;
+use crate::library::{Library, Place};
 use crate::pages::{FONT, RAM};
 use crate::random::Random;
 
 pub const LINES: u32 = 216;
 pub const WIDTH: usize = 384;
+/// Columns from the pixel asked for to that of the next line.
+const STEP: u32 = 53;
 
 /// CRC-32, as zip and Ethernet have it.
 struct Digest(u32);
@@ -22,7 +24,8 @@ impl Digest {
     }
 }
 
-/// Draws the page, and asks about every cell in the middle of the frame. Answers the digest of all lines and answers.
+/// Draws the page, and asks about every cell in the middle of the frame and for one pixel of each line. Answers the digest of all
+/// lines and answers.
 pub fn play<L: Library>(library: &mut L, page: &[u8]) -> u32 {
     let (font, traffic) = page.split_at(FONT);
     let mut random = Random::new(0);
@@ -45,6 +48,8 @@ pub fn play<L: Library>(library: &mut L, page: &[u8]) -> u32 {
         let mut line = Lent::copy_of(&mut random, &[0; WIDTH]);
         digest.add(&library.draw(&mut device, &ram, &font, &mut line).to_le_bytes());
         digest.add(line.get());
+        let place = Place { lines: LINES, frame: 0, x: drawn * STEP % WIDTH as u32, y: drawn };
+        digest.add(&library.pixel(&device, &ram, &font, place).to_le_bytes());
     }
     !digest.0
 }

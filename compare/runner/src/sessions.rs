@@ -2,8 +2,10 @@
 //!
 //! Every answer, every byte of every buffer (the device's record too) and every byte around the buffers is compared after every call.
 
+mod pixels;
+
 use crate::lent::Lent;
-use crate::library::{Library, NOT_TAKEN};
+use crate::library::{Library, Place, NOT_TAKEN};
 use crate::pages::{random_page, FONT, RAM};
 use crate::random::Random;
 use crate::traffic;
@@ -34,6 +36,7 @@ struct Session<'a, L> {
     call: u32,
     model: Device,
     model_ram: Vec<u8>,
+    model_font: Vec<u8>,
     model_feed: [u8; FEED_LEN],
     /// Bytes of a capture that were not fed yet.
     arrived: Vec<u8>,
@@ -56,19 +59,22 @@ impl<L: Library> Session<'_, L> {
         assert_eq!(library.fresh(&mut device), 0);
         let mut feed = Lent::new(&mut random, FEED_LEN);
         assert_eq!(library.feed_fresh(&mut feed), 0);
+        let ram = Lent::copy_of(&mut random, &page);
+        let font = Lent::new(&mut random, FONT);
         Session {
             library,
-            ram: Lent::copy_of(&mut random, &page),
-            font: Lent::new(&mut random, FONT),
             random,
             seed,
             call: 0,
             model: Device::fresh(),
             model_ram: page,
+            model_font: font.get().to_vec(),
             model_feed: Feed::fresh().to_bytes(),
             arrived: vec![],
             device,
             feed,
+            ram,
+            font,
             counts: [0; 256],
         }
     }
@@ -84,12 +90,13 @@ impl<L: Library> Session<'_, L> {
         }
     }
 
-    /// After every call: the answer, the records, the RAM and what lies around them.
+    /// After every call: the answer, the records, the RAM, the font and what lies around them.
     fn check(&mut self, what: &str, ours: u32, model: u32) {
         self.same(what, ours, model);
         self.same("record", self.device.get(), &self.model.to_bytes()[..]);
         self.same("feed record", self.feed.get(), &self.model_feed[..]);
         self.same("RAM", self.ram.get(), &self.model_ram[..]);
+        self.same("font", self.font.get(), &self.model_font[..]);
         let held = [&self.device, &self.feed, &self.ram, &self.font].iter().all(|lent| lent.guards_hold());
         self.same("bytes around the buffers", held, true);
         self.counts[(ours >> 16) as usize] += 1;
@@ -122,12 +129,17 @@ impl<L: Library> Session<'_, L> {
 
     /// Settings that show something: mostly with the display on, and a CH of every size.
     fn display(&mut self) {
+        let p = self.random.below(8) as u8;
+        self.display_page(p);
+    }
+
+    fn display_page(&mut self, p: u8) {
         let ld = if self.random.one_in(3) { 63 } else { self.random.byte() };
         let dd = if self.random.one_in(4) { self.random.byte() } else { self.random.below(40) as u8 };
         let ch = self.random.byte();
         let ch = self.random.pick(&[0, 1, 9, 12, 18, 18, 36, 37, 63, ch]);
-        let control = self.random.byte() | if self.random.one_in(8) { 0 } else { 0x80 };
-        self.settings(&[ld, dd, ch, control]);
+        let control = self.random.byte() & 0x78 | if self.random.one_in(8) { 0 } else { 0x80 };
+        self.settings(&[ld, dd, ch, control | p]);
     }
 
     fn any_event(&mut self) {
@@ -344,7 +356,7 @@ impl<L: Library> Session<'_, L> {
         self.display();
         self.frame_start();
         while self.call < CALLS {
-            match self.random.below(28) {
+            match self.random.below(31) {
                 0..=3 => self.transfer(),
                 4 if self.random.one_in(4) => self.display(),
                 4 => self.transfer(),
@@ -356,6 +368,7 @@ impl<L: Library> Session<'_, L> {
                 20..=26 => self.feed(),
                 27 if self.model_feed[0] > 1 || self.random.one_in(3) => self.other_feed(),
                 27 => self.feed(),
+                28..=30 => self.pixel(),
                 _ if self.random.one_in(10) => self.reset(),
                 _ => self.any_event(),
             }
@@ -364,6 +377,8 @@ impl<L: Library> Session<'_, L> {
             self.ask(cell);
         }
         self.tall_letters();
+        self.refused_pixels();
+        self.still_frame();
     }
 }
 
@@ -390,10 +405,14 @@ pub fn corrupted<L: Library>(library: &mut L, seed: u64) -> u64 {
             let kind = random.byte() % 5;
             let byte = random.byte();
             let number = random.below(1100) as u32;
+            let record_before = device.get().to_vec();
             library.cell(&device, &ram, number);
             let ram_before = ram.get().to_vec();
+            let [lines, frame, x, y] = [2100, u64::MAX, 800, 2100].map(|end| random.below(end) as u32);
+            library.pixel(&device, &ram, &font, Place { lines, frame, x, y });
+            let same_record = device.get() == &record_before[..];
             library.draw(&mut device, &ram, &font, &mut line);
-            calls += 3;
+            calls += 4;
             if random.one_in(6) {
                 library.frame_start(&mut device, number);
                 calls += 1;
@@ -407,7 +426,7 @@ pub fn corrupted<L: Library>(library: &mut L, seed: u64) -> u64 {
                 calls += 1;
             }
             let held = [&device, &ram, &font, &line, &feed, &chunk, &out].iter().all(|lent| lent.guards_hold());
-            if !held || !same_ram || font.get() != &font_before[..] || chunk.get() != &capture[..] {
+            if !held || !same_record || !same_ram || font.get() != &font_before[..] || chunk.get() != &capture[..] {
                 println!("seed {seed}: a corrupted record changed bytes outside");
                 exit(1);
             }

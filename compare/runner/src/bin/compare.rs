@@ -1,5 +1,5 @@
-//! Compares the proved library with the independent implementation, call by call, over many random sessions; and captures that are
-//! cut with the same captures fed whole.
+//! Compares the proved library with the independent implementation, call by call, over many random sessions; captures that are cut with
+//! the same captures fed whole; and pixels that are asked for with those that are drawn.
 //!
 //!     compare PAGE [SEED [SESSIONS]]
 //!
@@ -8,7 +8,7 @@
 
 use runner::library::Linked;
 use runner::sessions::{corrupted, play, DEFAULT_SEED, DEFAULT_SESSIONS};
-use runner::{captures, linked, pages};
+use runner::{captures, frames, linked, pages};
 
 fn main() {
     let mut words = std::env::args().skip(1);
@@ -25,16 +25,19 @@ fn main() {
     let mut counts = [0; 256];
     let mut made_up = 0;
     let mut made_up_fed = 0;
+    let mut asked = 0;
     for i in 0..sessions {
         for (all, some) in counts.iter_mut().zip(play(&mut Linked, seed + i)) {
             *all += some;
         }
         made_up += corrupted(&mut Linked, seed + i);
         made_up_fed += captures::made_up(seed + i);
+        asked += frames::made_up(seed + i);
     }
     let (_, capture) = page.split_at(pages::FONT);
     let fed = captures::sample(capture);
     captures::longest();
+    frames::lengths();
 
     println!("seeds {seed} to {}: {sessions} sessions", seed + sessions - 1);
     for (refusal, count) in counts.iter().enumerate().filter(|(_, &count)| count > 0) {
@@ -45,4 +48,5 @@ fn main() {
         "a capture of {} bytes fed {fed} times, {sessions} others {made_up_fed} times, whole and cut: 0 differences",
         capture.len()
     );
+    println!("{asked} pixels of {sessions} frames asked for and drawn: 0 differences");
 }

@@ -4,7 +4,8 @@
 //!
 //! Each figure is the least of ROUNDS rounds, in which the two take turns. A ratio below 1 means that the proved library is faster.
 
-use osd_model::{bus_bytes, feed_bytes, Device, Event};
+use osd_model::{bus_bytes, feed_bytes, pixel_bytes, Device, Event};
+use runner::library::Place;
 use runner::linked;
 use runner::pages::{self, FIRST_USER, FONT, RAM};
 use runner::random::Random;
@@ -70,6 +71,11 @@ fn model_bus(device: &mut Record, ram: &mut [u8], kind: u8, byte: u8) -> u32 {
 #[inline(never)]
 fn model_feed(device: &mut Record, feed: &mut [u8; 2], ram: &mut [u8], chunk: &[u8], out: &mut [u8]) -> u32 {
     feed_bytes(device, feed, ram, chunk, out)
+}
+
+#[inline(never)]
+fn model_pixel(device: &Record, ram: &[u8], font: &[u8], Place { lines, frame, x, y }: Place) -> u32 {
+    pixel_bytes(device, ram, font, lines, frame, x, y)
 }
 
 /// The least time of some rounds, in nanoseconds a turn, of two competitors that take turns.
@@ -239,6 +245,34 @@ fn cells(name: &str, rounds: u32, mut pair: Pair) {
     row(&format!("{name}, mean"), mean);
 }
 
+/// The same pixel again and again, through the same record on both sides; pixels all over the frame are compared.
+fn pixel(name: &str, rounds: u32, pair: Pair, x: u32, y: u32) {
+    const TIMES: u32 = 64;
+    let Pair { ram, font, ours: record, .. } = pair;
+    let place = Place { lines: LINES, frame: 0, x, y };
+    let figures = race(
+        rounds,
+        TIMES,
+        || {
+            for _ in 0..TIMES {
+                black_box(linked::pixel(&record, &ram, &font, black_box(place)));
+            }
+        },
+        || {
+            for _ in 0..TIMES {
+                black_box(model_pixel(&record, &ram, &font, black_box(place)));
+            }
+        },
+    );
+    for y in (0..LINES).step_by(89).chain([y]) {
+        for x in 0..768 {
+            let place = Place { x, y, ..place };
+            assert_eq!(linked::pixel(&record, &ram, &font, place), model_pixel(&record, &ram, &font, place));
+        }
+    }
+    row(name, figures);
+}
+
 /// Every descriptor shows the row of 61 codes at word 256.
 fn full_page(mut code: impl FnMut() -> (u8, u8)) -> Vec<u8> {
     let mut ram = vec![0; RAM];
@@ -283,6 +317,15 @@ fn all_descriptors() -> Vec<u8> {
     ram
 }
 
+/// Every word is a strip's descriptor, and a user character as a code. The last one alone has DE, so that 2,048 lines of CH 1 end in it.
+fn all_strips() -> Vec<u8> {
+    let mut ram = vec![0; RAM];
+    for word in 0..WORDS {
+        pages::characters(&mut ram, word, 7 * word, word == WORDS - 1, false);
+    }
+    ram
+}
+
 fn main() {
     let rounds = std::env::args().nth(1).map_or(200, |word| word.parse().expect("a number"));
     let mut random = Random::new(9425);
@@ -318,4 +361,8 @@ fn main() {
             cells(&format!("a cell question, CH {ch}, {name}"), rounds, pair);
         }
     }
+    pixel("a pixel, first line, first character", rounds, wide(&font_page), 36, 0);
+    pixel("a pixel, CH 18, full page, line 1,000, in the middle", rounds, wide(&font_page), 384, 1000);
+    let thin = Pair::new(all_strips(), &font, [63, 4, 1, 0x80]);
+    pixel("a pixel, CH 1, 2,048 strips, last line, last column", rounds, thin, 767, 2047);
 }
