@@ -3,9 +3,11 @@
 use Rattle.interface.specs.Cuts.{AnyCutBytes, TwoCutsBytes}
 use Rattle.interface.specs.Interface.{Crossing}
 use Rattle.interface.specs.OnePage.{OnePageBytes, NoStaysBytes}
+use Rattle.interface.specs.Pixels.{PixelsAgreeBytes}
 use Rattle.interface.proofs.Crossing as interface
 use Rattle.interface.proofs.Cuts as cuts
 use Rattle.interface.proofs.OnePage as page
+use Rattle.interface.proofs.Pixels as pixels
 
 pub crossing : Crossing
 crossing = interface.crossing
@@ -21,3 +23,6 @@ one-page-bytes = page.one-page-bytes
 
 pub no-stays-bytes : NoStaysBytes
 no-stays-bytes = page.no-stays-bytes
+
+pub pixels-agree-bytes : PixelsAgreeBytes
+pixels-agree-bytes = pixels.pixels-agree-bytes

@@ -3,3 +3,4 @@ pub mod Crossing
 pub mod Cuts
 pub mod Laws
 pub mod OnePage
+pub mod Pixels

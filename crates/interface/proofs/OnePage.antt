@@ -36,7 +36,7 @@ use Rattle.interface.proofs.Crossing.{heard-sixteen, Taken, taken-back,
 -- ---- calls that are taken
 
 -- by the lengths of the two records' buffers: what is not taken is refused with 255
-taken : ℕ → ℕ → Call → Bool
+unfoldable pub taken : ℕ → ℕ → Call → Bool
 taken n k (draw line) = eqb n recordLength
 taken n k (cell c) = eqb n recordLength
 taken n k (bus kind byte) = eqb n recordLength && not (ltb 3 kind)
@@ -44,7 +44,7 @@ taken n k (feed chunk out) = eqb n recordLength && (eqb k feedLength && not (ltb
 taken n k anew = eqb k feedLength
 taken n k (pixel lines frame x y) = eqb n recordLength
 
-abbrev takenAt : State → Call → Bool
+abbrev pub takenAt : State → Call → Bool
 takenAt s c = taken (length (s .device)) (length (s .feed)) c
 
 bus-taken : (s : State) (kind byte : ℕ) → takenAt s (bus kind byte) ≡ true → (length (s .device) ≡ recordLength) × (kind ≤ 3)
@@ -57,7 +57,7 @@ unfolding taken
 feed-taken s chunk out t = feed-tests (s .device) (s .feed) chunk t
 
 -- the buffers keep their lengths, so what is taken stays so
-same-length : (font : List ℕ) (s : State) (c : Call)
+pub same-length : (font : List ℕ) (s : State) (c : Call)
     → (length (after font s c .device) ≡ length (s .device)) × (length (after font s c .feed) ≡ length (s .feed))
 unfolding after
 same-length font s (draw line) = (crossing .length-draw (s .device) (s .ram) font line .0, refl)
@@ -71,7 +71,7 @@ still-taken : (font : List ℕ) (s : State) (c d : Call) → takenAt (after font
 still-taken font s c d = let l = same-length font s c in ap₂ (λ (n k : ℕ). taken n k d) (l .0) (l .1)
 
 -- a call that is not taken changes nothing
-unanswered : Call → Answer
+unfoldable pub unanswered : Call → Answer
 unanswered (draw line) = drawn notTaken line
 unanswered (cell c) = asked notTaken
 unanswered (bus kind byte) = heard notTaken
@@ -79,11 +79,11 @@ unanswered (feed chunk out) = fed notTaken out
 unanswered anew = renewed notTaken
 unanswered (pixel lines frame x y) = shown notTaken
 
-record Untouched (font : List ℕ) (s : State) (c : Call) : Type 0 where
-  state : after font s c ≡ s
-  answers : answer font s c ≡ unanswered c
+pub record Untouched (font : List ℕ) (s : State) (c : Call) : Type 0 where
+  pub state : after font s c ≡ s
+  pub answers : answer font s c ≡ unanswered c
 
-untouched : (font : List ℕ) (s : State) (c : Call) → takenAt s c ≡ false → Untouched font s c
+pub untouched : (font : List ℕ) (s : State) (c : Call) → takenAt s c ≡ false → Untouched font s c
 unfolding taken unanswered answer after drawOn cellOn pixelOn busOn feedOn feedFreshOn
 untouched font s (draw line) t = record { state = rw t; answers = rw t }
 untouched font s (cell c) t = record { state = refl; answers = rw t }
@@ -95,16 +95,16 @@ untouched font s (pixel lines frame x y) t = record { state = refl; answers = rw
 -- ---- a call that is taken is the device's call
 
 -- the device's state that bytes and a feed are read as
-abbrev readAs : Feed → ChipBytes → device.State
+abbrev pub readAs : Feed → ChipBytes → device.State
 readAs f l = record { device = deviceIn (l .device); ram = l .ram; feed = f }
 
-abbrev lentIn : State → ChipBytes
+abbrev pub lentIn : State → ChipBytes
 lentIn s = record { device = s .device; ram = s .ram }
 
-reads : State → device.State
+unfoldable pub reads : State → device.State
 reads s = readAs (feedIn (s .feed)) (lentIn s)
 
-made : Call → device.Call
+unfoldable pub made : Call → device.Call
 made (draw line) = device.draw line
 made (cell c) = device.ask c
 made (bus kind byte) = device.event (eventOf kind byte)
@@ -112,7 +112,7 @@ made (feed chunk out) = device.feed chunk out
 made anew = device.anew
 made (pixel lines frame x y) = device.pixel lines frame x y
 
-inBytes : device.Answer → Answer
+unfoldable pub inBytes : device.Answer → Answer
 inBytes (device.drawn r line) = drawn (answerOf r) line
 inBytes (device.asked r) = asked (answerOf r)
 inBytes (device.heard r) = heard (answerOf r)
@@ -125,11 +125,11 @@ event-read : (font : List ℕ) (s : State) (x : Logged) → Taken (lentIn s) x �
 unfolding reads after device.after
 event-read font s x t = ap (λ (c : Chip). record { device = c .device; ram = c .ram; feed = feedIn (s .feed) }) (taken-back (lentIn s) x t)
 
-record Carried (font : List ℕ) (s : State) (c : Call) : Type 0 where
-  state : reads (after font s c) ≡ device.after font (reads s) (made c)
-  answers : answer font s c ≡ inBytes (device.answer font (reads s) (made c))
+pub record Carried (font : List ℕ) (s : State) (c : Call) : Type 0 where
+  pub state : reads (after font s c) ≡ device.after font (reads s) (made c)
+  pub answers : answer font s c ≡ inBytes (device.answer font (reads s) (made c))
 
-carried : (font : List ℕ) (s : State) (c : Call) → takenAt s c ≡ true → Carried font s c
+pub carried : (font : List ℕ) (s : State) (c : Call) → takenAt s c ≡ true → Carried font s c
 unfolding taken reads made inBytes answer after device.answer device.after
 carried font s (draw line) t =
     let d = crossing .draw (s .device) (s .ram) font line (eqb-true _ _ t) in

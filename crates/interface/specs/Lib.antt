@@ -1,3 +1,4 @@
 pub mod Cuts
 pub mod Interface
 pub mod OnePage
+pub mod Pixels

@@ -1,0 +1,165 @@
+-- The proof that osd_pixel answers what osd_draw writes (specs/Pixels.antt): a run over the bytes is the device's run of those of its calls that
+-- are taken, of which the claim over the device record speaks.
+-- Assumes nothing.
+use Prim.Native.Nat.{ℕ, _+_, _*_, _%_, _≤_, _<_}
+use mathlib.Core.Path.{_≡_, refl, sym, ap, ap₂, _∙_, subst}
+use mathlib.Core.Bool.{Bool, true, false, cond}
+use mathlib.Core.List.{List, [], _∷_}
+use native.Mathlib.Nat.{zero-add}
+use native.Mathlib.Decide.{ℕ-discrete}
+use native.Mathlib.Omega.{arith}
+use borrow.Author.Tests.{eq-eqb, ne-eqb, lt-ltb, le-ltb, eqb-false}
+use lib.Dec.{eqb, ltb}
+use lib.ListN.{length, getD}
+use Rattle.limits.specs.Limits.{ramLength, fontLength, frameLines}
+use Rattle.runs.specs.Runs.{log, end, AsMade}
+use Rattle.cells.specs.Reading.{cells}
+use Rattle.refusals.specs.Refusals.{Reply, numberOf}
+use Rattle.refusals.proofs.Laws.{not-zero}
+use Rattle.line.proofs.Counts.{line-most}
+use Rattle.device.specs.declared.Device.{Device}
+use Rattle.device.specs.Device.{DrawOutcome, lineDrawn, drawLine}
+use Rattle.device.proofs.Laws.{by-draw}
+use Rattle.calls.specs.OnePage as device
+use Rattle.calls.specs.Pixels as pixels
+use Rattle.calls.proofs.Pixels.{pixels-agree}
+use Rattle.layout.specs.Layout.{recordLength, registersIn}
+use Rattle.layout.specs.FeedLayout.{feedIn}
+use Rattle.interface.specs.Interface.{answerOf, notTaken, startOn, drawOn, pixelOn}
+use Rattle.interface.specs.OnePage.{Call, draw, cell, bus, feed, anew, pixel, State, Answer, answer, after, calls}
+use Rattle.interface.specs.Pixels.{started, StayPut, drew, linesDrawn, PixelsAgreeBytes}
+use Rattle.interface.proofs.OnePage.{taken, takenAt, same-length, unanswered, untouched, reads, made, inBytes, carried}
+use Rattle.interface.proofs.Crossing.{crossing}
+
+-- ---- answers
+
+-- the number of an answer says whether the call is accepted, if then its value has 16 bits
+refusal-zero : (r : Reply) → (r .refusal ≡ 0 → r .value < 65536) → ltb (answerOf r) 65536 ≡ eqb (r .refusal) 0
+refusal-zero r h = by (ℕ-discrete (r .refusal) 0)
+  where
+    by : Dec (r .refusal ≡ 0) → ltb (answerOf r) 65536 ≡ eqb (r .refusal) 0
+    by (yes e) = rw (eq-eqb _ _ e, lt-ltb (answerOf r) 65536 (omega (arith, h e)))
+    by (no n) = rw (ne-eqb _ _ n, le-ltb (answerOf r) 65536 (omega arith))
+
+-- as the read count of a draw has
+draw-value : (d : Device) (ram font line : List ℕ) → drawLine d ram font line .reply .refusal ≡ 0 → drawLine d ram font line .reply .value < 65536
+unfolding lineDrawn
+draw-value d ram font line =
+    by-draw d ram font line (λ (o : DrawOutcome). o .reply .refusal ≡ 0 → o .reply .value < 65536)
+    (λ r e. absurd (eqb-false (numberOf r) 0 (not-zero r) e)) (λ ready e. omega (arith, line-most (d .registers) (d .frame .walk) ram))
+
+-- a call that is taken draws as many lines as the device's
+same-drew : (font : List ℕ) (u : device.State) (c : device.Call) → drew (inBytes (device.answer font u c)) ≡ pixels.drew (device.answer font u c)
+unfolding inBytes drew device.answer pixels.drew
+same-drew font u (device.draw line) =
+    ap (λ (b : Bool). cond b 1 0) (refusal-zero (drawLine (u .device) (u .ram) font line .reply) (draw-value (u .device) (u .ram) font line))
+same-drew font u (device.ask c) = refl
+same-drew font u (device.event e) = refl
+same-drew font u (device.feed chunk out) = refl
+same-drew font u device.anew = refl
+same-drew font u (device.pixel lines frame x y) = refl
+
+-- and one that is not draws none
+none-drew : (c : Call) → drew (unanswered c) ≡ 0
+unfolding unanswered drew
+none-drew (draw line) = refl
+none-drew (cell c) = refl
+none-drew (bus kind byte) = refl
+none-drew (feed chunk out) = refl
+none-drew anew = refl
+none-drew (pixel lines frame x y) = refl
+
+-- ---- a run, by the device's calls
+
+module _ (font : List ℕ) (n k : ℕ) where
+  -- those that are taken, by the lengths of the two records' buffers
+  takenCalls : List Call → List device.Call
+  takenCalls [] = []
+  takenCalls (c ∷ cs) = cond (taken n k c) (made c ∷ takenCalls cs) (takenCalls cs)
+
+  record AsTaken (s : State) (cs : List Call) (ds : List device.Call) : Type 0 where
+    long : length (end (calls font) s cs .device) ≡ n
+    state : reads (end (calls font) s cs) ≡ end (device.calls font) (reads s) ds
+    lines : linesDrawn (log (calls font) s cs) ≡ pixels.linesDrawn (log (device.calls font) (reads s) ds)
+    put : AsMade (StayPut font) (calls font) s cs → AsMade (pixels.StayPut font) (device.calls font) (reads s) ds
+
+  stay : (s : State) (c : Call) → takenAt s c ≡ true → StayPut font s c → pixels.StayPut font (reads s) (made c)
+  unfolding reads
+  stay s c t p =
+      let e = carried font s c t .state in
+      record {
+        ram = sym (ap (λ (u : device.State). u .ram) e) ∙ p .ram;
+        registers = sym (ap (λ (u : device.State). u .device .registers) e) ∙ ap registersIn (p .registers);
+      }
+
+  -- one call more
+  module _ (s : State) (c : Call) (cs : List Call) (ds : List device.Call) (ih : AsTaken (after font s c) cs ds) where
+    call-taken : takenAt s c ≡ true → AsTaken s (c ∷ cs) (made c ∷ ds)
+    unfolding log end AsMade linesDrawn pixels.linesDrawn
+    call-taken t =
+        let one = carried font s c t in
+        record {
+          long = ih .long;
+          state = ih .state ∙ ap (λ (u : device.State). end (device.calls font) u ds) (one .state);
+          lines =
+              ap₂ (λ (a b : ℕ). a + b) (ap drew (one .answers) ∙ same-drew font (reads s) (made c))
+              (ih .lines ∙ ap (λ (u : device.State). pixels.linesDrawn (log (device.calls font) u ds)) (one .state));
+          put = λ p.
+              (stay s c t (p .0), subst (λ (u : device.State). AsMade (pixels.StayPut font) (device.calls font) u ds) (one .state) (ih .put (p .1)));
+        }
+
+    call-not : takenAt s c ≡ false → AsTaken s (c ∷ cs) ds
+    unfolding log end AsMade linesDrawn
+    call-not t =
+        let none = untouched font s c t in
+        record {
+          long = ih .long;
+          state = ih .state ∙ ap (λ (u : State). end (device.calls font) (reads u) ds) (none .state);
+          lines =
+              ap₂ (λ (a b : ℕ). a + b) (ap drew (none .answers) ∙ none-drew c)
+              (ih .lines ∙ ap (λ (u : State). pixels.linesDrawn (log (device.calls font) (reads u) ds)) (none .state))
+              ∙ zero-add (pixels.linesDrawn (log (device.calls font) (reads s) ds));
+          put = λ p. subst (λ (u : State). AsMade (pixels.StayPut font) (device.calls font) (reads u) ds) (none .state) (ih .put (p .1));
+        }
+
+  run-taken : (cs : List Call) (s : State) → length (s .device) ≡ n → length (s .feed) ≡ k → AsTaken s cs (takenCalls cs)
+  unfolding takenCalls
+  run-taken [] s e f = unfold log end AsMade linesDrawn pixels.linesDrawn in record { long = e; state = refl; lines = refl; put = λ p. tt }
+  run-taken (c ∷ cs) s e f =
+      let l = same-length font s c in
+      by (taken n k c) (ap₂ (λ (i j : ℕ). taken i j c) e f) (run-taken cs (after font s c) (l .0 ∙ e) (l .1 ∙ f))
+    where
+      by : (t : Bool) → takenAt s c ≡ t → AsTaken (after font s c) cs (takenCalls cs) → AsTaken s (c ∷ cs) (cond t (made c ∷ takenCalls cs) (takenCalls cs))
+      by true t ih = call-taken s c cs (takenCalls cs) ih t
+      by false t ih = call-not s c cs (takenCalls cs) ih t
+
+-- ---- the claim
+
+pub pixels-agree-bytes : PixelsAgreeBytes
+unfolding reads
+pixels-agree-bytes font s lines frame x y cs line long a b h k number put count v w room =
+    let start = crossing .start (s .device) lines long in
+    let begun : reads (started s lines) ≡ pixels.started (reads s) lines =
+    λ i. record { device = start .0 i; ram = s .ram; feed = feedIn (s .feed) } in
+    let ds : List device.Call = takenCalls font recordLength (length (s .feed)) cs in
+    let run : AsTaken font recordLength (length (s .feed)) (started s lines) cs ds =
+    run-taken font recordLength (length (s .feed)) cs (started s lines) (crossing .length-start (s .device) lines ∙ long) refl in
+    let u : State = end (calls font) (started s lines) cs in
+    let end-is : reads u ≡ end (device.calls font) (pixels.started (reads s) lines) ds =
+    run .state ∙ ap (λ (t : device.State). end (device.calls font) t ds) begun in
+    let same =
+    pixels-agree font (reads s) lines frame x y ds line a b h k (sym (ap (λ (t : device.State). t .device .frame .number) begun) ∙ number)
+    (subst (λ (t : device.State). AsMade (pixels.StayPut font) (device.calls font) t ds) begun (run .put put))
+    (sym (ap (λ (t : device.State). pixels.linesDrawn (log (device.calls font) t ds)) begun) ∙ sym (run .lines) ∙ count) v w room in
+    let done = crossing .draw (u .device) (u .ram) font line (run .long) in
+    let accepts : drawLine (reads u .device) (u .ram) font line .reply .refusal ≡ 0 =
+    ap (λ (t : device.State). drawLine (t .device) (t .ram) font line .reply .refusal) end-is ∙ same .drawn in
+    record {
+      drawn = omega (arith, done .2, accepts, draw-value (reads u .device) (u .ram) font line accepts);
+      pixel =
+          crossing .pixel (s .device) (s .ram) font lines frame x y long
+          ∙ ap answerOf (same .pixel)
+          ∙ zero-add _
+          ∙ sym (ap (λ (t : device.State). getD (drawLine (t .device) (t .ram) font line .line) x 0) end-is)
+          ∙ ap (λ (l : List ℕ). getD l x 0) (sym (done .1));
+    }

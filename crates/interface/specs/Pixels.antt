@@ -1,0 +1,61 @@
+-- Request K5 over the bytes that C sees: osd_pixel answers the pixel that osd_draw writes (crate calls' specs/Pixels.antt, there over the device
+-- record).
+-- It is stated for every device buffer of 32 bytes, whatever they are, every feed buffer, and every RAM and font of their lengths.
+-- Assumes nothing.
+use Prim.Native.Nat.{ℕ, _+_, _%_, _≤_, _<_}
+use mathlib.Core.Path.{_≡_}
+use mathlib.Core.Bool.{cond}
+use mathlib.Core.List.{List, [], _∷_}
+use lib.Dec.{ltb}
+use lib.ListN.{length, getD}
+use Rattle.limits.specs.Limits.{ramLength, fontLength, frameLines}
+use Rattle.runs.specs.Runs.{Entry, log, end, AsMade}
+use Rattle.device.specs.Device.{lineWidth}
+use Rattle.layout.specs.Layout.{registersAt, registersLength, recordLength, part, deviceIn}
+use Rattle.interface.specs.Interface.{startOn, drawOn, pixelOn}
+use Rattle.interface.specs.OnePage.{Call, State, Answer, drawn, asked, heard, fed, renewed, shown, after, calls}
+
+-- the state after osd_frame_start
+abbrev pub started : State → ℕ → State
+started s lines = record { device = startOn (s .device) lines .device; ram = s .ram; feed = s .feed }
+
+-- a call that leaves the RAM and the registers' bytes as they are
+pub record StayPut (font : List ℕ) (s : State) (c : Call) : Type 0 where
+  pub ram : after font s c .ram ≡ s .ram
+  pub registers : part registersAt registersLength (after font s c .device) ≡ part registersAt registersLength (s .device)
+
+-- how many lines the calls of a run drew: calls of osd_draw with refusal 0
+unfoldable pub drew : Answer → ℕ
+drew (drawn number line) = cond (ltb number 65536) 1 0
+drew (asked number) = 0
+drew (heard number) = 0
+drew (fed number out) = 0
+drew (renewed number) = 0
+drew (shown number) = 0
+
+unfoldable pub linesDrawn : List (Entry Call Answer) → ℕ
+linesDrawn [] = 0
+linesDrawn (x ∷ more) = drew (x .answer) + linesDrawn more
+
+-- the next osd_draw has refusal 0, and writes at line[x] what osd_pixel answers
+pub record SamePixel (font : List ℕ) (s u : State) (lines frame x y : ℕ) (line : List ℕ) : Type 0 where
+  pub drawn : drawOn (u .device) (u .ram) font line .answer < 65536
+  pub pixel : pixelOn (s .device) (s .ram) font lines frame x y ≡ getD (drawOn (u .device) (u .ram) font line .line) x 0
+
+-- the claim: osd_frame_start takes 1 to 2,048 lines and that frame number; calls are made that leave RAM and registers as they are, y of which draw
+-- a line; then the next osd_draw, into a line of at least W bytes, writes that pixel at x, for every y below the line count and every x below W
+abbrev pub PixelsAgreeBytes : Type 0
+PixelsAgreeBytes =
+    (font : List ℕ) (s : State) (lines frame x y : ℕ) (cs : List Call) (line : List ℕ)
+    → length (s .device) ≡ recordLength
+    → length (s .ram) ≡ ramLength
+    → length font ≡ fontLength
+    → 1 ≤ lines
+    → lines ≤ frameLines
+    → deviceIn (started s lines .device) .frame .number ≡ frame % 64
+    → AsMade (StayPut font) (calls font) (started s lines) cs
+    → linesDrawn (log (calls font) (started s lines) cs) ≡ y
+    → y < lines
+    → x < lineWidth (deviceIn (s .device))
+    → lineWidth (deviceIn (s .device)) ≤ length line
+    → SamePixel font s (end (calls font) (started s lines) cs) lines frame x y line
