@@ -163,7 +163,7 @@ fn slice_of(ch: u8, at: StripLine) -> Slice
 {
     let descriptor = at.descriptor;
     let line = at.line;
-    line.slice(walk::at_least_one(ch), walk::zoom(descriptor.high))
+    line.slice_by_steps(walk::at_least_one(ch), walk::zoom(descriptor.high))
 }
 
 fn pixel_at<'a>(

@@ -60,11 +60,12 @@ pub slice-some : (ch n : ℕ) → 1 ≤ sliceNumber ch n
 unfolding sliceNumber
 slice-some ch n = omega arith
 
+pub steps-bound : (ch n : ℕ) → 0 < ch → n ≤ ch → (36 * n + ch) / (2 * ch) < 19
+steps-bound ch n pos h = div-lt-iff-lt-mul {k = 2 * ch} {x = 36 * n + ch} {y = 19} (omega arith) .1 (omega arith)
+
 pub slice-bound : (ch n : ℕ) → 0 < ch → n ≤ ch → sliceNumber ch n ≤ 18
 unfolding sliceNumber
-slice-bound ch n pos h =
-    let below : (36 * n + ch) / (2 * ch) < 19 = div-lt-iff-lt-mul {k = 2 * ch} {x = 36 * n + ch} {y = 19} (omega arith) .1 (omega arith) in
-    omega arith
+slice-bound ch n pos h = omega (arith, steps-bound ch n pos h)
 
 pub unzoomed-bound : (j : ScanLine) (ch : ℕ) (zoom : Bool) → InStrip j ch zoom → unzoomed zoom (j .0) ≤ ch
 unzoomed-bound j ch true h = omega (arith, h .to)

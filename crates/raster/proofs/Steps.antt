@@ -2,7 +2,7 @@
 -- Assumes nothing.
 use Prim.Native.Nat.{ℕ, _+_, _-_, _*_, _/_, _≤_, _<_}
 use mathlib.Core.Path.{_≡_, sym, ap, _∙_}
-use native.Mathlib.Nat.{add-mul-div-right, div-eq-of-lt, add-div-right, div-le-of-le-mul}
+use native.Mathlib.Nat.{one-mul, add-mul-div-right, div-eq-of-lt, add-div-right, div-le-of-le-mul}
 use native.Mathlib.Omega.{arith}
 use Rattle.raster.specs.Raster.{sliceNumber}
 
@@ -12,6 +12,9 @@ module _ (x step : ℕ) where
   more-steps k pos l =
       let e : x - k * step + k * step ≡ x = omega arith in
       sym (add-mul-div-right (x - k * step) k pos) ∙ ap (λ (y : ℕ). y / step) e
+
+  pub one-step : 0 < step → step ≤ x → (x - step) / step + 1 ≡ x / step
+  one-step pos l = rw one-mul at (more-steps 1 pos (omega arith))
 
   -- and what is left is less than a step
   pub last-steps : (k : ℕ) → 0 < step → k * step ≤ x → x < k * step + step → k ≡ x / step

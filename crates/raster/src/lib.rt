@@ -149,6 +149,25 @@ impl ScanLine {
         Slice((steps_below_18(36 * n - ch, 2 * ch) + 1) as u8)
     }
 
+    // The same, one step of 2 CH at a time: the plain way, for one pixel. `slice` keeps its one caller, so that the compiler puts it into
+    // the drawing of a line.
+    pub fn slice_by_steps(self, height: u8, zoom: bool) -> Slice
+        requires { ⌜ InStrip self height zoom ⌝ }
+        ensures { λ r. ⌜ r ≡ interpolated self height zoom ⌝ }
+    {
+        let step = 2 * height as u32;
+        let mut left = 36 * unzoom(self.0 as u32, zoom) + height as u32;
+        let mut steps = 0;
+        while step <= left {
+            left -= step;
+            steps += 1;
+        }
+        if steps == 0 {
+            return Slice(1);
+        }
+        Slice(steps)
+    }
+
     // Does one of the next lines of the strip, so many, show a slice? The lines that show a slice are neighbours, so the first that
     // could is looked at. The division by 36 is of 16 bits: one of 32 would be a function of the run-time library on a Cortex-M0.
     pub fn shows(self, count: u16, height: u8, zoom: bool, slice: Slice) -> bool
