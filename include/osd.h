@@ -300,11 +300,11 @@ uint32_t osd_cell(const uint8_t *device, osd_len device_len, const uint8_t *ram,
  * The pixel at column x of line y, both counted from 0, of a frame of 1 to 2,048 lines that starts with the page that P names now, has this
  * frame number (any number; it is taken modulo 64, and flashing goes by it) and is drawn with RAM, registers and font as they stand. Of the
  * record only the registers are looked at, so it matters neither whether a frame runs nor which, and no byte of any buffer changes.
- * The answer is what osd_draw writes at line[x], where nothing changes while the frame is drawn: after osd_frame_start has taken that
- * number, with the draw after y others.
- * Use it at the bench, to hold single pixels against a recording. Each call walks from the frame's first descriptor and through the row, so a
- * line is drawn much faster by osd_draw.
- * Refusals: OSD_NOT_TAKEN, OSD_RAM_LENGTH, OSD_FONT_LENGTH, OSD_FRAME_LINES, OSD_PIXEL_RANGE. Value: the pixel, OSD_FBLK | OSD_R | OSD_G | OSD_B.
+ * It is the byte that osd_draw writes at line[x] for line y (the draw after y accepted ones) of a frame whose osd_frame_start took that
+ * number, if RAM, registers and font stay as they are from that start on.
+ * Use it at the bench, to hold single pixels against a recording. Each call walks from the frame's first descriptor and through the row,
+ * so a line is drawn much faster by osd_draw.
+ * Refusals: OSD_NOT_TAKEN, OSD_RAM_LENGTH, OSD_FONT_LENGTH, OSD_FRAME_LINES, OSD_PIXEL_RANGE. Value: the pixel, as osd_draw writes it.
  */
 uint32_t osd_pixel(const uint8_t *device, osd_len device_len, const uint8_t *ram, osd_len ram_len, const uint8_t *font, osd_len font_len,
                    uint32_t lines, uint32_t frame, uint32_t x, uint32_t y);

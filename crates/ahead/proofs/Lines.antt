@@ -9,7 +9,6 @@ use native.Mathlib.Omega.{arith}
 use borrow.Author.Tests.{eq-eqb, ne-eqb}
 use lib.Dec.{eqb}
 use lib.ListN.{getD}
-use Rattle.facts.proofs.Choice.{cond-same}
 use Rattle.facts.proofs.Pairs.{pair-is}
 use Rattle.cells.specs.Reading.{descriptor, Reading, done, read, bind, fmap, value, cells, among}
 use Rattle.cells.proofs.Laws.{cells-bind, among-append}
@@ -29,34 +28,19 @@ use Rattle.glyph.specs.Glyph.{glyphOf}
 use Rattle.glyph.specs.Cells.{ofUser, userSlice}
 use Rattle.glyph.proofs.Cells.{ofSlice}
 use Rattle.line.specs.Line.{Place, Scanned, codes, rowBy, shownBy, shownRow, scanBy, scan}
-use Rattle.line.proofs.Strips.{scan-value, scan-cells}
+use Rattle.line.proofs.Strips.{hasRow, no-row, still-row, scan-value, scan-cells}
 use Rattle.ahead.specs.Ahead.{remaining}
 use Rattle.ahead.specs.Looking.{rowReads, userShown, rowCells, stripReads, pairOf, codesAtMost}
 use Rattle.ahead.proofs.Rows.{Bytes, row-reads, rows-merge, first-two}
 
 -- ---- the rows of a strip
 
--- does it show a row? Not in spacing, and not with DE 0
-hasRow : Strip → Bool
-hasRow (Spacing left) = false
-hasRow (Characters address height zoom enabled line) = enabled
-
-row-none : (s : Settings) (t : Strip) → hasRow t ≡ false → shownRow s t ≡ done []
-unfolding shownBy rowBy hasRow
-row-none s (Spacing left) e = cond-same (s .osd) (done [])
-row-none s (Characters address height zoom enabled line) e = rw e (cond-same (s .osd) (done []))
-
-still-none : (t : Strip) → hasRow (advanced t) ≡ hasRow t
-unfolding advanced hasRow
-still-none (Spacing left) = refl
-still-none (Characters address height zoom enabled line) = refl
-
 rows-none : (ram : List ℕ) (s : Settings) (k : ℕ) (t : Strip) → hasRow t ≡ false → rowCells ram s k t ≡ []
 unfolding rowCells cells
 rows-none ram s zero t e = refl
 rows-none ram s (suc k) t e =
-    let f = still-none t ∙ e in
-    ap₂ (λ (p : Reading (List Place)) (l : List ℕ). cells ram p ++ l) (row-none s (advanced t) f) (rows-none ram s k (advanced t) f)
+    let f = still-row t ∙ e in
+    ap₂ (λ (p : Reading (List Place)) (l : List ℕ). cells ram p ++ l) (no-row s (advanced t) f) (rows-none ram s k (advanced t) f)
 
 -- the row of one line of characters
 line-reads : (ram : List ℕ) (s : Settings) (address height : ℕ) (zoom : Bool) (line : ScanLine) (c : ℕ) → Bytes ram

@@ -4,14 +4,13 @@
 use Prim.Native.Nat.{ℕ, suc, _+_, _-_, _%_, _≤_, _<_}
 use mathlib.Core.Path.{_≡_, refl, sym, ap, _∙_, subst}
 use mathlib.Core.Bool.{cond}
-use mathlib.Core.List.{List, [], _∷_, _++_, map}
+use mathlib.Core.List.{List, [], _∷_, map}
 use native.Mathlib.Nat.{zero-add, add-zero, add-assoc}
 use native.Mathlib.Omega.{arith}
-use borrow.Author.Tests.{eq-eqb, ne-eqb, le-ltb, lt-leb}
 use lib.Dec.{eqb}
-use lib.ListN.{length, getD, drop, List·getD-append}
-use Rattle.limits.specs.Limits.{ramLength, fontLength, frameLines}
+use lib.ListN.{length, getD}
 use Rattle.runs.specs.Runs.{log, end, AsMade}
+use Rattle.runs.proofs.Laws.{kept-by-each}
 use Rattle.cells.specs.Reading.{value}
 use Rattle.refusals.specs.Refusals.{accepted}
 use Rattle.refusals.proofs.Laws.{not-zero}
@@ -24,17 +23,16 @@ use Rattle.bus.proofs.Laws.{by-event}
 use Rattle.walk.specs.Walk.{walkFrom}
 use Rattle.glyph.specs.Glyph.{glyphOf}
 use Rattle.line.specs.Line.{Scanned, scan, paint}
-use Rattle.line.proofs.Laws.{paint-length}
 use Rattle.line.proofs.Strips.{scan-value}
 use Rattle.device.specs.declared.Device.{Device}
 use Rattle.device.specs.declared.Frame.{Frame}
-use Rattle.device.specs.Device.{hearEvent, StartOutcome, inFrame, startFrame, DrawOutcome, nextScan, pixelsOf, lineOn, lineDrawn, lineWidth, drawLine}
-use Rattle.device.proofs.Laws.{by-draw, draw-same, draw-passed}
+use Rattle.device.specs.Device.{hearEvent, StartOutcome, inFrame, startFrame, DrawOutcome, pixelsOf, lineOn, lineDrawn, lineWidth, drawLine}
+use Rattle.device.proofs.Laws.{start-passed, by-draw, draw-same, draw-passed, line-at}
 use Rattle.capture.specs.Capture.{Logged, fedEvents}
 use Rattle.pixel.specs.Pixel.{pixelAt}
-use Rattle.pixel.specs.Ask.{pixelVerdict, pixelBy, askPixel}
+use Rattle.pixel.proofs.Laws.{ask-passed}
 use Rattle.pixel.proofs.Lines.{walkAfter, one-more, pixel-is}
-use Rattle.calls.specs.OnePage.{Call, draw, ask, event, feed, anew, pixel, State, chipOf, answer, after, calls, fedCall, effectOf}
+use Rattle.calls.specs.OnePage.{Call, draw, ask, event, feed, anew, pixel, State, chipOf, answer, after, calls, fedCall, fedCalls, effectOf}
 use Rattle.calls.specs.Pixels.{started, StayPut, StayingPut, drew, linesDrawn, PixelsAgree}
 use Rattle.calls.proofs.Fed.{fed-after}
 use Rattle.calls.proofs.Quiet.{unstored, taken-refused}
@@ -48,6 +46,17 @@ Same s o = (o .ram ≡ s .ram) × (o .registers ≡ s .device .registers)
 event-put : (font : List ℕ) (s : State) (e : Event) → Same s (busEvent (s .device .bus) (s .device .registers) (s .ram) e) → StayPut font s (event e)
 unfolding Same after hearEvent
 event-put font s e h = record { ram = h .0; registers = h .1 }
+
+feed-put : (font : List ℕ) (s : State) (chunk out : List ℕ) → AsMade (StayPut font) (calls font) s (fedCalls s chunk out) → StayPut font s (feed chunk out)
+feed-put font s chunk out h =
+    let kept =
+    kept-by-each (StayPut font) (calls font) (λ (u : State). (u .ram ≡ s .ram) × (u .device .registers ≡ s .device .registers))
+    (λ u c p i. (p .ram ∙ i .0, p .registers ∙ i .1)) s (fedCalls s chunk out) h (refl, refl)
+    in
+    record {
+      ram = ap (λ (u : State). u .ram) (fed-after s chunk out font) ∙ kept .0;
+      registers = ap (λ (u : State). u .device .registers) (fed-after s chunk out font) ∙ kept .1;
+    }
 
 pub staying-put : StayingPut
 unfolding after Same taken hearEvent
@@ -65,6 +74,7 @@ staying-put =
           event-put font s e
           (by-event (λ (o : BusOutcome). (o .reply .refusal ≡ 0 → ⊥) → Same s o) (s .device .bus) (s .device .registers) (s .ram) e
           (λ k. (refl, refl)) (λ k. unstored (s .ram) (s .device .registers) (effectOf s e) (taken-refused s e (effectOf s e) k)) n);
+      feeds = feed-put;
     }
 
 -- ---- events and feeds leave the frame as it is
@@ -145,36 +155,10 @@ module _ (font : List ℕ) (r : Registers) (mem : List ℕ) (f lines : ℕ) wher
 
 -- ---- the claim
 
--- an accepted frame start
-start-is : (d : Device) (lines : ℕ) → 1 ≤ lines → lines ≤ frameLines → startFrame d lines ≡ record { device = inFrame d lines; reply = accepted 0 }
-unfolding startFrame
-start-is d lines h k = rw (ne-eqb lines 0 (λ e. omega arith), le-ltb frameLines lines k)
-
--- a question that no test refuses
-ask-passed : (r : Registers) (ram font : List ℕ) (lines frame x y : ℕ) → length ram ≡ ramLength → length font ≡ fontLength → 1 ≤ lines → lines ≤ frameLines
-    → x < widthOf (settingsOf r .ld) → y < lines → askPixel r ram font lines frame x y ≡ accepted (pixelAt r ram font (frame % 64) x y)
-unfolding askPixel pixelVerdict pixelBy
-ask-passed r ram font lines frame x y a b h k w v =
-    rw (
-      eq-eqb (length ram) ramLength a,
-      eq-eqb (length font) fontLength b,
-      ne-eqb lines 0 (λ e. omega arith),
-      le-ltb frameLines lines k,
-      lt-leb (widthOf (settingsOf r .ld)) x w,
-      lt-leb lines y v,
-    )
-
--- the line's bytes before W are its pixels
-line-at : (d : Device) (ram font line : List ℕ) (x : ℕ) → x < lineWidth d → getD (lineDrawn d ram font line .line) x 0 ≡ getD (pixelsOf d ram font) x 0
-unfolding lineDrawn pixelsOf
-line-at d ram font line x h =
-    List·getD-append (pixelsOf d ram font) (drop (lineWidth d) line) 0 x
-    (omega (arith, paint-length (settingsOf (d .registers)) font (d .frame .number) (value ram (nextScan d) .row)))
-
 pub pixels-agree : PixelsAgree
 pixels-agree font s lines frame x y cs line a b h k number put count v w room =
     let r : Registers = s .device .registers in
-    let start = start-is (s .device) lines h k in
+    let start = start-passed (s .device) lines h k in
     let before : At font r (s .ram) (frame % 64) lines 0 (started s lines) =
     record {
       ram = refl;

@@ -26,7 +26,7 @@ use Rattle.pixel.specs.Ask.{pixelVerdict, pixelBy, askPixel}
 use Rattle.capture.specs.Capture.{finished, feedAfter, outputs, feedVerdict, chunkFed, feedBy, eventsBy, feedChunk}
 use Rattle.calls.specs.OnePage.{Call, draw, ask, event, feed, anew, pixel, State, Answer, drawn, asked, fed, renewed, shown, answer, after, isEvent, calls, effectOf, Stores, QuietWrite, fedCalls, QuietCall}
 use Rattle.calls.specs.OnePage as one-page
-use Rattle.calls.specs.Witnesses.{addressing, write, font, heard, started, traffic, picture, buffer, turning, refusalOf, firstLine, Changes}
+use Rattle.calls.specs.Witnesses.{addressing, write, font, heard, starts, traffic, picture, buffer, turning, refusalOf, firstLine, Changes}
 use Rattle.calls.specs.Witnesses.{Setting, LD, DD, CH, OSD, FBK, FL, but, ButSetting, ButCell, ready, Seen, Witnesses}
 
 -- ---- tests that show a list to be quiet
@@ -149,7 +149,7 @@ pixelIn i (x ∷ xs) = pixelOf i (x .answer)
 
 -- it is the same in both runs. To open this test opens all that a witness computes
 pixelTest : ℕ → State → List Call → Bool
-unfolding addressing write font heard started traffic picture buffer turning refusalOf firstLine but ready alikeTest sameTest eventTest
+unfolding addressing write font heard starts traffic picture buffer turning refusalOf firstLine but ready alikeTest sameTest eventTest
     runTest quietTest pixelOf pixelIn answer after isEvent Stores freshDevice hearEvent startFrame inFrame pixelsOf lineOn lineDrawn drawVerdict drawBy drawLine
     cellsLeft askCell log end select step ramWith registersWith answerTo taken busEvent settingsOf remaining scanBy nextLine walkFrom
     over begun advanced stripOf rowBy shownBy codesBy glyphOf inRam bind fmap value cells cellsAs sameRole among beforeFirst following isLast

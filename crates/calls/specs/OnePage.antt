@@ -1,9 +1,9 @@
 -- Document 01, "Condition 3 read exactly": no frame shows two pages.
 -- For every list of bus events, line draws and cell questions whose bus writes are quiet as they are made, all answers, lines
--- and the end state equal those of the run with all draws and questions first, then all events.
--- Feeds of a capture's chunks are in the list (document 02, K1), and feeds made anew: each fed event is read as one bus event. So are
--- questions about one pixel (K5). Such a question is of RAM and registers as they stand, whatever frame runs, so it sees every write at once: it
--- goes with the events, and comes after the same ones in both runs.
+-- and the end state equal those of the run with all draws and cell questions first, then all events.
+-- Feeds of a capture's chunks are in the list (document 02, K1), and feeds made anew: each fed event is read as one bus event. Questions about
+-- one pixel (K5) are in the list too. Such a question reads RAM and registers as they stand, whatever frame runs, so every write before it
+-- counts: the second run makes it with the events, after the same ones.
 -- It is stated for every device record, feed, RAM and font, of any length, so for every device that earlier calls can reach.
 -- Assumes nothing.
 use Prim.Native.Nat.{ℕ}
@@ -83,7 +83,7 @@ isEvent anew = true
 isEvent (pixel lines frame x y) = true
 
 -- the calls with one font lent throughout. A run gives each call the device, the RAM and the feed as the call before it returned or
--- left them; the second run makes the draws and questions in their order, then all others in theirs (crate runs)
+-- left them; the second run makes the draws and cell questions in their order, then all others in theirs (crate runs)
 abbrev pub calls : List ℕ → Machine State Call Answer
 calls font = record { answer = answer font; after = after font; isEvent = isEvent }
 

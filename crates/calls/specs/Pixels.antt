@@ -14,7 +14,7 @@ use Rattle.refusals.specs.Refusals.{accepted}
 use Rattle.bus.specs.declared.Event.{Event}
 use Rattle.device.specs.Device.{hearEvent, startFrame, drawLine, lineWidth}
 use Rattle.pixel.specs.Ask.{askPixel}
-use Rattle.calls.specs.OnePage.{Call, draw, ask, event, anew, pixel, State, Answer, drawn, asked, heard, fed, renewed, shown, after, calls, effectOf, Stores}
+use Rattle.calls.specs.OnePage.{Call, draw, ask, event, feed, anew, pixel, State, Answer, drawn, asked, heard, fed, renewed, shown, after, calls, effectOf, Stores, fedCalls}
 
 -- the state after a frame start
 abbrev pub started : State → ℕ → State
@@ -25,7 +25,8 @@ pub record StayPut (font : List ℕ) (s : State) (c : Call) : Type 0 where
   pub ram : after font s c .ram ≡ s .ram
   pub registers : after font s c .device .registers ≡ s .device .registers
 
--- the claim that these do: every draw and question, refused ones too, a feed made anew, and each bus event that stores nothing or is refused
+-- the claim that these do: every draw and question, refused ones too, a feed made anew, each bus event that stores nothing or is refused, and a
+-- feed each of whose events does
 pub record StayingPut : Type 0 where
   pub draws : (font : List ℕ) (s : State) (line : List ℕ) → StayPut font s (draw line)
   pub cells : (font : List ℕ) (s : State) (cell : ℕ) → StayPut font s (ask cell)
@@ -33,6 +34,7 @@ pub record StayingPut : Type 0 where
   pub renewals : (font : List ℕ) (s : State) → StayPut font s anew
   pub events : (font : List ℕ) (s : State) (e : Event) → (Stores (effectOf s e) → ⊥) → StayPut font s (event e)
   pub refused : (font : List ℕ) (s : State) (e : Event) → (hearEvent (s .device) (s .ram) e .reply .refusal ≡ 0 → ⊥) → StayPut font s (event e)
+  pub feeds : (font : List ℕ) (s : State) (chunk out : List ℕ) → AsMade (StayPut font) (calls font) s (fedCalls s chunk out) → StayPut font s (feed chunk out)
 
 -- how many lines the calls of a run drew: their accepted draws
 unfoldable pub drew : Answer → ℕ

@@ -14,8 +14,8 @@ use Rattle.capture.specs.declared.Feed.{Feed}
 use Rattle.capture.specs.Capture.{chip, feedChunk}
 
 -- a fresh device, and what each call leaves of a device that was reached, refused calls too: a reset, a bus event, a frame start, a
--- draw, a feed of a chunk (a cell question and a feed made anew leave the device as it is). At each call RAM, font, buffers, feed and
--- numbers may be any, of any length
+-- draw, a feed of a chunk (a cell question, a question about a pixel and a feed made anew leave the device as it is). At each call RAM,
+-- font, buffers, feed and numbers may be any, of any length
 pub data Reachable : Device → Type 0 where
   fresh : Reachable freshDevice
   reset : {d : Device} → Reachable d → Reachable freshDevice

@@ -59,7 +59,7 @@ AllQuiet font s (pixel lines frame x y) = Unit
 abbrev pub WritesAlone : Type 0
 WritesAlone = (font : List ℕ) (s : State) (cs : List Call) → QuietRun font s cs → AsMade (AllQuiet font) (calls font) s cs
 
--- a no of the cell question stays a no over later draws, questions, quiet events, quiet feeds, feeds made anew and questions about a pixel
+-- a no of the cell question stays a no over later draws, cell questions, quiet events, quiet feeds, feeds made anew and questions about a pixel
 abbrev pub NoStays : Type 0
 NoStays =
     (font : List ℕ) (s : State) (cs : List Call) (cell : ℕ) → QuietRun font s cs → askCell (s .device) (s .ram) cell ≡ accepted 0

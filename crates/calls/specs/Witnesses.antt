@@ -18,6 +18,7 @@ use Rattle.device.specs.Device.{freshDevice, hearEvent, startFrame, drawLine, r
 use Rattle.capture.specs.Capture.{freshFeed}
 use Rattle.calls.specs.OnePage.{Call, draw, ask, event, feed, anew, pixel, State, Answer, drawn, asked, fed, renewed, shown, calls, effectOf, Stores, QuietRun}
 use Rattle.calls.specs.OnePage as one-page
+use Rattle.calls.specs.Pixels.{started}
 
 -- ---- a host's traffic
 
@@ -38,9 +39,9 @@ unfoldable pub heard : List Event → State → State
 heard es s = end (calls font) s (map event es)
 
 -- after n frame starts, each of so many lines
-unfoldable pub started : ℕ → ℕ → State → State
-started zero lines s = s
-started (suc n) lines s = started n lines (record { device = startFrame (s .device) lines .device; ram = s .ram; feed = s .feed })
+unfoldable pub starts : ℕ → ℕ → State → State
+starts zero lines s = s
+starts (suc n) lines s = starts n lines (started s lines)
 
 -- ---- the picture
 
@@ -62,7 +63,7 @@ traffic =
 
 -- frame 16 has begun, of two lines, none of them drawn
 unfoldable pub picture : State
-picture = started 17 2 (heard traffic (record { device = freshDevice; ram = freshRam; feed = freshFeed }))
+picture = starts 17 2 (heard traffic (record { device = freshDevice; ram = freshRam; feed = freshFeed }))
 
 -- a line buffer, with room for one character more
 unfoldable pub buffer : List ℕ

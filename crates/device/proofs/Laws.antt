@@ -1,20 +1,24 @@
 -- Laws of a frame start and of a draw: what holds of each by its cases, and what a draw's tests say of the device.
 -- Assumes nothing.
-use Prim.Native.Nat.{ℕ, _≤_}
+use Prim.Native.Nat.{ℕ, _≤_, _<_}
 use mathlib.Core.Path.{_≡_, refl, sym, subst}
 use mathlib.Core.Bool.{Bool, true, false, not}
 use mathlib.Core.List.{List}
+use native.Mathlib.Omega.{arith}
 use borrow.Author.Tests.{eq-eqb, ne-eqb, le-ltb, ltb-false}
 use lib.Dec.{T, eqb, ltb}
-use lib.ListN.{length}
-use Rattle.limits.specs.Limits.{ramLength, fontLength, noFrame}
+use lib.ListN.{length, getD, drop, List·getD-append}
+use Rattle.limits.specs.Limits.{ramLength, fontLength, frameLines, noFrame}
 use Rattle.facts.proofs.Choice.{either}
+use Rattle.cells.specs.Reading.{value}
 use Rattle.refusals.specs.declared.Refusal.{Refusal}
 use Rattle.refusals.specs.declared.Refusal.the-variants.{RamLength, FontLength, LineLength, NoLine, FrameLines}
 use Rattle.refusals.specs.Refusals.{accepted, refused, Verdict, passed, failed, refuseIf}
 use Rattle.refusals.proofs.Laws.{failed-not}
+use Rattle.registers.specs.Registers.{settingsOf}
+use Rattle.line.proofs.Laws.{paint-length}
 use Rattle.device.specs.declared.Device.{Device}
-use Rattle.device.specs.Device.{StartOutcome, inFrame, startFrame, DrawOutcome, drawVerdict, drawBy, drawLine, lineOn, lineDrawn, lineWidth, notDrawn}
+use Rattle.device.specs.Device.{StartOutcome, inFrame, startFrame, DrawOutcome, nextScan, pixelsOf, drawVerdict, drawBy, drawLine, lineOn, lineDrawn, lineWidth, notDrawn}
 
 -- ---- a frame start
 
@@ -23,6 +27,15 @@ pub by-start : (P : StartOutcome → Type 0) (d : Device) (lines : ℕ) → P (r
     → P (record { device = inFrame d lines; reply = accepted 0 }) → P (startFrame d lines)
 unfolding startFrame
 by-start P d lines h k = either P (noFrame lines) _ _ h k
+
+-- 1 to 2,048 lines are some frame's
+pub some-frame : (lines : ℕ) → 1 ≤ lines → lines ≤ frameLines → noFrame lines ≡ false
+some-frame lines h k = rw (ne-eqb lines 0 (λ e. omega arith), le-ltb frameLines lines k)
+
+-- a frame start that is not refused
+pub start-passed : (d : Device) (lines : ℕ) → 1 ≤ lines → lines ≤ frameLines → startFrame d lines ≡ record { device = inFrame d lines; reply = accepted 0 }
+unfolding startFrame
+start-passed d lines h k = rw (some-frame lines h k)
 
 -- ---- a draw
 
@@ -68,3 +81,10 @@ pub draw-passed : (d : Device) (ram font line : List ℕ) → length ram ≡ ram
 unfolding drawVerdict drawBy drawLine
 draw-passed d ram font line r f l w =
     rw (eq-eqb (length ram) ramLength r, eq-eqb (length font) fontLength f, ne-eqb (d .frame .left) 0 l, le-ltb (length line) (lineWidth d) w)
+
+-- the line's bytes before W are its pixels
+pub line-at : (d : Device) (ram font line : List ℕ) (x : ℕ) → x < lineWidth d → getD (lineDrawn d ram font line .line) x 0 ≡ getD (pixelsOf d ram font) x 0
+unfolding lineDrawn pixelsOf
+line-at d ram font line x h =
+    List·getD-append (pixelsOf d ram font) (drop (lineWidth d) line) 0 x
+    (omega (arith, paint-length (settingsOf (d .registers)) font (d .frame .number) (value ram (nextScan d) .row)))

@@ -1,13 +1,13 @@
 -- A chunk's events on the bytes: an answer's two bytes, a turn of the loop, and what all turns come to.
 -- Assumes nothing.
-use Prim.Native.Nat.{ℕ, zero, suc, _+_, _*_, _%_, _≤_, _<_}
-use mathlib.Core.Path.{_≡_, refl, sym, ap, _∙_}
-use mathlib.Core.Bool.{cond}
+use Prim.Native.Nat.{ℕ, suc, _+_, _*_, _%_, _≤_, _<_}
+use mathlib.Core.Path.{_≡_, refl, sym, ap, ap₂, _∙_}
+use mathlib.Core.Bool.{Bool, cond}
 use mathlib.Core.List.{List, [], _∷_}
 use native.Mathlib.Decide.{decLt}
 use native.Mathlib.Omega.{arith}
-use borrow.Author.Tests.{ne-eqb, lt-ltb, le-ltb}
-use lib.Dec.{eqb}
+use borrow.Author.Tests.{le-ltb}
+use lib.Dec.{ltb}
 use lib.ListN.{length, getD, length-take, List·getD-eq-default}
 use lib.Seq.{sets}
 use Rattle.facts.proofs.Parts.{getD-part}
@@ -24,7 +24,7 @@ use Rattle.capture.proofs.Laws.{from-event, rest-whole}
 use Rattle.layout.specs.Layout.{registersAt, registersLength, recordLength, part, deviceIn}
 use Rattle.interface.specs.Interface.{answerOf, BusDone, heardOn, busOn, chunkMax, ChipBytes, busCalls, FeedDone, notFedOn, chunkFedOn, fedOnBy, verdictOn, feedOn}
 use Rattle.layout.specs.FeedLayout.{feedLength, feedBytes, feedIn}
-use Rattle.interface.proofs.Laws.{bus-is, feed-is}
+use Rattle.interface.proofs.Laws.{refusal-zero, bus-is, feed-is}
 use Rattle.feed_bytes.specs.Turns.{outputIn, Took, eventsOn, lent}
 
 -- ---- an answer's two bytes
@@ -48,14 +48,9 @@ heard-byte xs ram e h k =
 
 -- and the number of an answer holds its two bytes
 output-is : (r : Reply) (answer : ℕ) → r .value < 256 → answer ≡ answerOf r → outputIn answer ≡ outputOf r
-output-is r answer h e = by (r .refusal) refl
-  where
-    byte : answer % 256 ≡ r .value
-    byte = omega arith
-
-    by : (n : ℕ) → r .refusal ≡ n → outputIn answer ≡ cond (eqb n 0) 1 0 ∷ r .value ∷ []
-    by zero p = rw (lt-ltb answer 65536 (omega arith), byte)
-    by (suc n) p = rw (le-ltb answer 65536 (omega arith), byte, ne-eqb (suc n) 0 (λ e. omega arith))
+output-is r answer h e =
+    let byte : answer % 256 ≡ r .value = omega arith in
+    ap₂ (λ (t : Bool) (v : ℕ). cond t 1 0 ∷ v ∷ []) (ap (λ (n : ℕ). ltb n 65536) e ∙ refusal-zero r (λ z. omega arith)) byte
 
 -- ---- a turn
 

@@ -1,15 +1,17 @@
--- The cases of the interface's own tests, and the state's byte.
+-- The cases of the interface's own tests, what an answer's number says, and the state's byte.
 -- Assumes nothing.
 use Prim.Native.Nat.{ℕ, _≤_, _<_}
 use mathlib.Core.Path.{_≡_, refl, sym, ap, _∙_}
 use mathlib.Core.Bool.{Bool, true, false, not, cond, _&&_, and-false, and-eq-true-iff}
 use mathlib.Core.List.{List}
+use native.Mathlib.Decide.{ℕ-discrete}
 use native.Mathlib.Omega.{arith}
 use borrow.Author.Tests.{eq-eqb, ne-eqb, lt-ltb, le-ltb, eqb-true, ltb-false, not-true}
 use lib.Dec.{eqb, ltb}
 use lib.ListN.{length, getD, set}
 use lib.Seq.{set-getD}
 use Rattle.facts.proofs.Parts.{getD-part}
+use Rattle.refusals.specs.Refusals.{Reply}
 use Rattle.bus.specs.Bus.{eventOf, busEvent}
 use Rattle.device.specs.Device.{hearEvent, startFrame, drawLine, askCell}
 use Rattle.pixel.specs.Ask.{askPixel}
@@ -36,6 +38,16 @@ feed-tests xs fs chunk t =
     let p = and-eq-true-iff (isRecord xs) (isFeed fs && not (ltb chunkMax (length chunk))) .0 t in
     let q = both-tests (length fs) feedLength (length chunk) chunkMax (p .1) in
     (eqb-true _ _ (p .0), q .0, q .1)
+
+-- ---- answers
+
+-- the number of an answer says whether the call is accepted, if then its value has 16 bits
+pub refusal-zero : (r : Reply) → (r .refusal ≡ 0 → r .value < 65536) → ltb (answerOf r) 65536 ≡ eqb (r .refusal) 0
+refusal-zero r h = by (ℕ-discrete (r .refusal) 0)
+  where
+    by : Dec (r .refusal ≡ 0) → ltb (answerOf r) 65536 ≡ eqb (r .refusal) 0
+    by (yes e) = rw (eq-eqb _ _ e, lt-ltb (answerOf r) 65536 (omega (arith, h e)))
+    by (no n) = rw (ne-eqb _ _ n, le-ltb (answerOf r) 65536 (omega arith))
 
 -- ---- calls that the interface refuses
 

@@ -1,20 +1,16 @@
 -- The proof that osd_pixel answers what osd_draw writes (specs/Pixels.antt): a run over the bytes is the device's run of those of its calls that
 -- are taken, of which the claim over the device record speaks.
 -- Assumes nothing.
-use Prim.Native.Nat.{ℕ, _+_, _*_, _%_, _≤_, _<_}
+use Prim.Native.Nat.{ℕ, _+_, _<_}
 use mathlib.Core.Path.{_≡_, refl, sym, ap, ap₂, _∙_, subst}
 use mathlib.Core.Bool.{Bool, true, false, cond}
 use mathlib.Core.List.{List, [], _∷_}
 use native.Mathlib.Nat.{zero-add}
-use native.Mathlib.Decide.{ℕ-discrete}
 use native.Mathlib.Omega.{arith}
-use borrow.Author.Tests.{eq-eqb, ne-eqb, lt-ltb, le-ltb, eqb-false}
-use lib.Dec.{eqb, ltb}
+use borrow.Author.Tests.{eqb-false}
 use lib.ListN.{length, getD}
-use Rattle.limits.specs.Limits.{ramLength, fontLength, frameLines}
 use Rattle.runs.specs.Runs.{log, end, AsMade}
-use Rattle.cells.specs.Reading.{cells}
-use Rattle.refusals.specs.Refusals.{Reply, numberOf}
+use Rattle.refusals.specs.Refusals.{numberOf}
 use Rattle.refusals.proofs.Laws.{not-zero}
 use Rattle.line.proofs.Counts.{line-most}
 use Rattle.device.specs.declared.Device.{Device}
@@ -25,23 +21,16 @@ use Rattle.calls.specs.Pixels as pixels
 use Rattle.calls.proofs.Pixels.{pixels-agree}
 use Rattle.layout.specs.Layout.{recordLength, registersIn}
 use Rattle.layout.specs.FeedLayout.{feedIn}
-use Rattle.interface.specs.Interface.{answerOf, notTaken, startOn, drawOn, pixelOn}
-use Rattle.interface.specs.OnePage.{Call, draw, cell, bus, feed, anew, pixel, State, Answer, answer, after, calls}
+use Rattle.interface.specs.Interface.{answerOf}
+use Rattle.interface.specs.OnePage.{Call, draw, cell, bus, feed, anew, pixel, State, answer, after, calls}
 use Rattle.interface.specs.Pixels.{started, StayPut, drew, linesDrawn, PixelsAgreeBytes}
+use Rattle.interface.proofs.Laws.{refusal-zero}
 use Rattle.interface.proofs.OnePage.{taken, takenAt, same-length, unanswered, untouched, reads, made, inBytes, carried}
 use Rattle.interface.proofs.Crossing.{crossing}
 
 -- ---- answers
 
--- the number of an answer says whether the call is accepted, if then its value has 16 bits
-refusal-zero : (r : Reply) → (r .refusal ≡ 0 → r .value < 65536) → ltb (answerOf r) 65536 ≡ eqb (r .refusal) 0
-refusal-zero r h = by (ℕ-discrete (r .refusal) 0)
-  where
-    by : Dec (r .refusal ≡ 0) → ltb (answerOf r) 65536 ≡ eqb (r .refusal) 0
-    by (yes e) = rw (eq-eqb _ _ e, lt-ltb (answerOf r) 65536 (omega (arith, h e)))
-    by (no n) = rw (ne-eqb _ _ n, le-ltb (answerOf r) 65536 (omega arith))
-
--- as the read count of a draw has
+-- the read count of a draw has 16 bits
 draw-value : (d : Device) (ram font line : List ℕ) → drawLine d ram font line .reply .refusal ≡ 0 → drawLine d ram font line .reply .value < 65536
 unfolding lineDrawn
 draw-value d ram font line =

@@ -1,7 +1,7 @@
 -- Condition 3 over the bytes that C sees: no frame shows two pages (crate calls' specs/OnePage.antt, there over the device record).
--- For every list of calls of osd_bus, osd_feed, osd_feed_fresh, osd_draw and osd_cell whose bus writes are quiet as they are made, all
--- answers, all line and output buffers, the RAM and every byte of both records equal those of the run with all draws and questions first,
--- then all other calls. Each event of a feed is read as one bus call. Calls of osd_pixel may be among them: it is told of every write at once, so it
+-- For every list of calls of osd_bus, osd_feed, osd_feed_fresh, osd_draw, osd_cell and osd_pixel whose bus writes are quiet as they are
+-- made, all answers, all line and output buffers, the RAM and every byte of both records equal those of the run with all draws and cell
+-- questions first, then all other calls. Each event of a feed is read as one bus call. osd_pixel reads RAM and registers as they stand, so it
 -- goes with the bus calls.
 -- It is stated for every record buffer, RAM and font, whatever their bytes and lengths, and for every call: refused ones, kinds above 3,
 -- cells above 65,535 and half events are among them. (A device buffer of another length than 32 is refused with 255 by each call that is
@@ -130,7 +130,7 @@ QuietRun font s cs = AsMade (QuietCall font) (calls font) s cs
 abbrev pub OnePageBytes : Type 0
 OnePageBytes = (font : List ℕ) (s : State) (cs : List Call) → QuietRun font s cs → SameRuns (calls font) s cs
 
--- a no (answer 0) of the cell question stays a no over later draws, questions, quiet bus calls, quiet feeds, feeds made anew and questions
+-- a no (answer 0) of the cell question stays a no over later draws, cell questions, quiet bus calls, quiet feeds, feeds made anew and questions
 -- about a pixel
 abbrev pub NoStaysBytes : Type 0
 NoStaysBytes =

@@ -8,6 +8,7 @@ use native.Mathlib.Omega.{arith}
 use lib.ListN.{length, take, drop, replicate, length-append, length-replicate, replicate-append-replicate}
 use lib.Seq.{take-at, drop-at}
 use borrow.Rule.Slice.PartMut.{post-is}
+use Rattle.facts.proofs.Choice.{cond-same}
 use Rattle.cells.specs.Reading.{Role, Reading, done, value, cells}
 use Rattle.cells.proofs.Laws.{value-bind, cells-bind, value-fmap, cells-fmap}
 use Rattle.cells.proofs.Bounds.{only-value}
@@ -21,7 +22,7 @@ use Rattle.raster.proofs.Rules.{slice-range}
 use Rattle.walk.specs.declared.Strip.{Strip}
 use Rattle.walk.specs.declared.Strip.the-variants.{Spacing, Characters}
 use Rattle.walk.specs.declared.Walk.{Walk}
-use Rattle.walk.specs.Walk.{nextLine, OnLine, walked}
+use Rattle.walk.specs.Walk.{advanced, nextLine, OnLine, walked}
 use Rattle.walk.specs.declared.Walked.{Walked}
 use Rattle.walk.proofs.Laws.{nextLine-only}
 use Rattle.glyph.specs.Glyph.{Glyph, glyphOf}
@@ -77,7 +78,7 @@ unfolding paint shownBy
 strip-off ram font s strip f out out′ w q o e =
     record { pixels = rw o (e ∙ ap (λ (k : ℕ). replicate k 0 ++ drop k out) q); reads = rw o (unfold cells in refl) }
 
-pub row-none : (s : Settings) (strip : Strip) → s .osd ≡ true → ((n : ℕ) → rowBy glyphOf n strip ≡ done []) → shownRow s strip ≡ done []
+row-none : (s : Settings) (strip : Strip) → s .osd ≡ true → ((n : ℕ) → rowBy glyphOf n strip ≡ done []) → shownRow s strip ≡ done []
 unfolding shownBy
 row-none s strip o none = rw o (none _)
 
@@ -115,6 +116,22 @@ pub disabled-none : (address height : ℕ) (zoom enabled : Bool) (line : ScanLin
     → rowBy glyphOf n (Characters address height zoom enabled line) ≡ done []
 unfolding rowBy
 disabled-none address height zoom enabled line e n = rw e
+
+-- does a strip show a row?
+unfoldable pub hasRow : Strip → Bool
+hasRow (Spacing left) = false
+hasRow (Characters address height zoom enabled line) = enabled
+
+pub no-row : (s : Settings) (t : Strip) → hasRow t ≡ false → shownRow s t ≡ done []
+unfolding shownBy rowBy hasRow
+no-row s (Spacing left) e = cond-same (s .osd) (done [])
+no-row s (Characters address height zoom enabled line) e = rw e (cond-same (s .osd) (done []))
+
+-- at each of its lines alike
+pub still-row : (t : Strip) → hasRow (advanced t) ≡ hasRow t
+unfolding advanced hasRow
+still-row (Spacing left) = refl
+still-row (Characters address height zoom enabled line) = refl
 
 -- a line of characters
 pub strip-characters : (ram font : List ℕ) (s : Settings) (address height : ℕ) (zoom enabled : Bool) (line : ScanLine) (f : ℕ) (out : List ℕ) (n : ℕ) (out′ : List ℕ)

@@ -1,26 +1,32 @@
 -- The laws of one pixel: strip by strip to the line, code by code to the column.
 -- Assumes nothing.
 use Prim.Native.Nat.{ℕ, zero, suc, _+_, _-_, _*_, _/_, _%_, _≤_, _<_}
-use mathlib.Core.Path.{_≡_, refl, sym, ap, _∙_}
+use mathlib.Core.Path.{_≡_, refl, sym, ap}
 use mathlib.Core.Bool.{Bool, true, false, cond, false≢true}
 use mathlib.Core.List.{List}
 use native.Mathlib.Omega.{arith}
-use borrow.Author.Tests.{ltb-true, lt-ltb, le-ltb}
+use borrow.Author.Tests.{eq-eqb, ltb-true, lt-ltb, le-ltb, lt-leb}
 use lib.Dec.{eqb, ltb}
-use lib.ListN.{getD}
+use lib.ListN.{length, getD}
+use Rattle.limits.specs.Limits.{ramLength, fontLength, frameLines}
 use Rattle.cells.specs.Reading.{slice, done, read, value}
+use Rattle.refusals.specs.Refusals.{accepted}
+use Rattle.registers.specs.declared.Registers.{Registers}
+use Rattle.registers.specs.Registers.{settingsOf}
 use Rattle.raster.specs.declared.Slice.{Slice}
-use Rattle.raster.specs.Raster.{InStrip, beforeFirst, linesAfter, stripLines}
+use Rattle.raster.specs.Raster.{InStrip, beforeFirst, linesAfter, stripLines, widthOf}
 use Rattle.walk.specs.declared.Strip.the-variants.{Spacing, Characters}
 use Rattle.walk.specs.Walk.{even, next, atLeastOne, isSpacing, enabledBy, zoomedBy, codesAt, showsCodes, stripOf, linesLeft}
 use Rattle.walk.proofs.Laws.{stripOf-some}
 use Rattle.glyph.specs.Words.{wordIn}
 use Rattle.glyph.proofs.Laws.{word-low}
 use Rattle.glyph.specs.Glyph.{font, user, blank, endsLine, userCell, fontByte, inRam, glyphOf, bitsOf}
+use Rattle.device.proofs.Laws.{some-frame}
 use Rattle.pixel.specs.declared.Pair.{Pair}
 use Rattle.pixel.specs.declared.StripLine.{StripLine}
 use Rattle.pixel.specs.declared.Row.{Row}
-use Rattle.pixel.specs.Pixel.{pairAt, linesOf, fallsIn, ended, twelveAt, sliceBits, characterPixel, rowPixel}
+use Rattle.pixel.specs.Pixel.{pairAt, linesOf, fallsIn, ended, twelveAt, sliceBits, characterPixel, rowPixel, pixelAt}
+use Rattle.pixel.specs.Ask.{pixelVerdict, pixelBy, askPixel}
 
 -- ---- the lines of a strip
 
@@ -165,3 +171,17 @@ module _ (ram f : List ℕ) (row : Row) (a left : ℕ) (e : endsLine (pairAt ram
       let code : left / 12 ≡ suc ((left - 12) / 12) = omega arith in
       let column : left % 12 ≡ (left - 12) % 12 = omega arith in
       rw (code, column) (sym (row-later ram f (rowAt row a) ((left - 12) / 12) ((left - 12) % 12) e))
+
+-- ---- a question that no test refuses
+
+pub ask-passed : (r : Registers) (ram f : List ℕ) (lines frame x y : ℕ) → length ram ≡ ramLength → length f ≡ fontLength → 1 ≤ lines → lines ≤ frameLines
+    → x < widthOf (settingsOf r .ld) → y < lines → askPixel r ram f lines frame x y ≡ accepted (pixelAt r ram f (frame % 64) x y)
+unfolding askPixel pixelVerdict pixelBy
+ask-passed r ram f lines frame x y a b h k w v =
+    rw (
+      eq-eqb (length ram) ramLength a,
+      eq-eqb (length f) fontLength b,
+      some-frame lines h k,
+      lt-leb (widthOf (settingsOf r .ld)) x w,
+      lt-leb lines y v,
+    )

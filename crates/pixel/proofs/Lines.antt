@@ -21,20 +21,19 @@ use Rattle.walk.specs.declared.Strip.{Strip}
 use Rattle.walk.specs.declared.Strip.the-variants.{Spacing, Characters}
 use Rattle.walk.specs.declared.Walk.{Walk}
 use Rattle.walk.specs.declared.Walked.{Walked}
-use Rattle.walk.specs.Walk.{even, next, walkFrom, atLeastOne, zoomedBy, codesAt, showsCodes, stripOf, over, linesLeft, advanced, nextLine, walked}
-use Rattle.walk.proofs.Laws.{left-over, none-over, left-advanced, advancedBy, left-by, codes-shown, codes-none, walked-read, walked-on}
+use Rattle.walk.specs.Walk.{even, next, walkFrom, atLeastOne, isSpacing, enabledBy, zoomedBy, codesAt, showsCodes, stripOf, over, linesLeft, advanced, nextLine, walked}
+use Rattle.walk.proofs.Laws.{left-over, none-over, left-advanced, advancedBy, left-by, codes-shown, walked-read, walked-on}
 use Rattle.glyph.specs.Glyph.{glyphOf}
 use Rattle.paint.specs.Pixels.{plainOf}
 use Rattle.line.specs.declared.Pen.{Pen}
 use Rattle.line.specs.Line.{Place, Scanned, rowBy, shownBy, shownRow, scan, paint}
 use Rattle.line.specs.Contracts.{roomOf}
-use Rattle.line.proofs.Strips.{row-none, paint-none, spacing-none, disabled-none, scan-value}
+use Rattle.line.proofs.Strips.{paint-none, hasRow, no-row, still-row, scan-value}
 use Rattle.pixel.specs.declared.Pair.{Pair}
 use Rattle.pixel.specs.declared.StripLine.{StripLine}
-use Rattle.pixel.specs.declared.Row.{Row}
-use Rattle.pixel.specs.Pixel.{pairAt, linesOf, fallsIn, sliceOf, rowPixel, charactersPixel, pixelAt}
+use Rattle.pixel.specs.Pixel.{pairAt, linesOf, fallsIn, rowPixel, charactersPixel, pixelAt}
 use Rattle.pixel.proofs.Laws.{lines-left, lines-some, falls-here, falls-later}
-use Rattle.pixel.proofs.Rows.{room-pixel}
+use Rattle.pixel.proofs.Rows.{rowOf, room-pixel}
 
 -- ---- the walk, line by line
 
@@ -79,7 +78,7 @@ module _ (ram : List ℕ) (ch : ℕ) where
       ∙ on-strip k (next (even (w .descriptor))) (advanced (stripAt (w .descriptor))) (omega (arith, left-advanced (stripAt (w .descriptor))))
 
   -- the strip at its line
-  abbrev pub shownStrip : StripLine → Strip
+  abbrev shownStrip : StripLine → Strip
   shownStrip l = advancedBy (l .line .0) (stripOf ch (l .descriptor .low) (l .descriptor .high))
 
   -- the walk is at the line that y falls in
@@ -134,18 +133,21 @@ characters-by (suc k) address height zoom enabled line =
     characters-by k address height zoom enabled (following line)
     ∙ ap (λ (j : ℕ). Characters address height zoom enabled (record { 0 = j })) (omega arith)
 
-spacing-by : (k left n : ℕ) → rowBy glyphOf n (advancedBy k (Spacing left)) ≡ done []
-unfolding advancedBy advanced
-spacing-by zero left n = spacing-none left n
-spacing-by (suc k) left n = spacing-by k (left - 1) n
+-- a descriptor's strip shows a row exactly if codes are read, at each of its lines
+row-by : (k : ℕ) (t : Strip) → hasRow (advancedBy k t) ≡ hasRow t
+unfolding advancedBy
+row-by zero t = refl
+row-by (suc k) t = row-by k (advanced t) ∙ still-row t
 
--- none where no codes are read
-no-row : (ch low high k n : ℕ) → showsCodes high ≡ false → rowBy glyphOf n (advancedBy k (stripOf ch low high)) ≡ done []
-no-row ch low high k n e =
-    codes-none (λ (t : Strip). rowBy glyphOf n (advancedBy k t) ≡ done []) ch low high e (λ left. spacing-by k left n)
-    (λ address height zoom line.
-    ap (rowBy glyphOf n) (characters-by k address height zoom false line)
-    ∙ disabled-none address height zoom false (record { 0 = line .0 + k }) refl n)
+row-of : (ch low high : ℕ) → hasRow (stripOf ch low high) ≡ showsCodes high
+unfolding stripOf hasRow
+row-of ch low high = by (isSpacing high)
+  where
+    by : (t : Bool)
+        → hasRow (cond t (Spacing (atLeastOne low)) (Characters (codesAt low high) (atLeastOne ch) (zoomedBy high) (enabledBy high) beforeFirst))
+        ≡ cond t false (enabledBy high)
+    by true = refl
+    by false = refl
 
 -- ---- the pixel of a painted line
 
@@ -165,18 +167,16 @@ module _ (ram font : List ℕ) (s : Settings) (f x : ℕ) (inside : x < widthOf 
 
   -- a line of characters: plain up to the first one, then the room of its row
   module _ (address height : ℕ) (zoom : Bool) (line : ScanLine) (paired : even address ≡ address) (on : s .osd ≡ true) where
-    pen : Pen
+    abbrev pen : Pen
     pen = record { slice = interpolated line height zoom; plain = plainOf (s .fbk); hidden = hiddenIn (s .fl) f }
 
-    first : ℕ
+    abbrev first : ℕ
     first = firstPixelOf (s .dd)
 
     row-pixel : getD (paint s font f (value ram (shownRow s (Characters address height zoom true line)))) x 0
         ≡ cond (ltb x (firstPixelOf (s .dd))) (plainOf (s .fbk))
-        (rowPixel ram font
-        (record { address = address; slice = interpolated line height zoom; plain = plainOf (s .fbk); hidden = hiddenIn (s .fl) f })
-        ((x - firstPixelOf (s .dd)) / 12) ((x - firstPixelOf (s .dd)) % 12))
-    unfolding paint shownBy rowBy pen first
+        (rowPixel ram font (rowOf pen address) ((x - firstPixelOf (s .dd)) / 12) ((x - firstPixelOf (s .dd)) % 12))
+    unfolding paint shownBy rowBy
     row-pixel = rw on (by (decLt x first))
       where
         margin : List ℕ
@@ -188,9 +188,7 @@ module _ (ram font : List ℕ) (s : Settings) (f x : ℕ) (inside : x < widthOf 
         by : Dec (x < first)
             → getD (margin ++ room) x 0
             ≡ cond (ltb x first) (plainOf (s .fbk))
-            (rowPixel ram font
-            (record { address = address; slice = interpolated line height zoom; plain = plainOf (s .fbk); hidden = hiddenIn (s .fl) f })
-            ((x - first) / 12) ((x - first) % 12))
+            (rowPixel ram font (rowOf pen address) ((x - first) / 12) ((x - first) % 12))
         by (yes l) =
             rw (lt-ltb x first l)
             (List·getD-append margin room 0 x (omega (arith, length-replicate (min first (widthOf (s .ld))) (plainOf (s .fbk))))
@@ -227,8 +225,9 @@ module _ (ram font : List ℕ) (s : Settings) (f x : ℕ) (inside : x < widthOf 
           ≡ cond (not o) 0 (cond (not t) (plainOf (s .fbk)) (charactersPixel s ram font f at x))
       by false t p q = dark-pixel (value ram (shownRow s (shownStrip ram (s .ch) at))) p
       by true false p q =
+          let d : Pair = at .descriptor in
           plain-pixel (shownRow s (shownStrip ram (s .ch) at)) p
-          (row-none s (shownStrip ram (s .ch) at) p (λ n. no-row (s .ch) (at .descriptor .low) (at .descriptor .high) (at .line .0) n q))
+          (no-row s (shownStrip ram (s .ch) at) (row-by (at .line .0) (stripOf (s .ch) (d .low) (d .high)) ∙ row-of (s .ch) (d .low) (d .high) ∙ q))
       by true true p q = characters-pixel at p q
 
 -- ---- line y of a frame

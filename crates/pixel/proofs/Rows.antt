@@ -1,14 +1,14 @@
 -- The pixel of a row is the one that the painted row has there.
 -- Assumes nothing.
-use Prim.Native.Nat.{ℕ, zero, suc, _+_, _-_, _*_, _/_, _%_, _^_, _≤_, _<_}
+use Prim.Native.Nat.{ℕ, zero, suc, _+_, _-_, _*_, _/_, _%_, _^_, _<_}
 use mathlib.Core.Path.{_≡_, refl, sym, ap, ap₂, _∙_}
 use mathlib.Core.Bool.{Bool, true, false, not, cond, _&&_}
-use mathlib.Core.List.{List, _++_}
+use mathlib.Core.List.{List}
 use native.Mathlib.Nat.{div-eq-of-lt}
 use native.Mathlib.Omega.{arith}
 use borrow.Author.Tests.{lt-ltb}
 use lib.Dec.{eqb}
-use lib.ListN.{length, getD, take, replicate, length-take, getD-replicate, List·getD-append}
+use lib.ListN.{length, getD, take, length-take, getD-replicate, List·getD-append}
 use lib.Pow.{pow-pos}
 use lib.Seq.{getD-take, getD-append-add}
 use Rattle.walk.specs.Walk.{even, next}
@@ -73,17 +73,18 @@ column-is row low bits (suc c) h =
 
 -- ---- the room of a row
 
-abbrev rowOf : Pen → ℕ → Row
+-- what is the same along a row, and where it starts
+abbrev pub rowOf : Pen → ℕ → Row
 rowOf pen a = record { address = a; slice = pen .slice; plain = pen .plain; hidden = pen .hidden }
 
 module _ (ram font : List ℕ) (pen : Pen) where
   -- the twelve pixels of the character at an even address
-  abbrev glyphAt : ℕ → List ℕ
-  glyphAt a = character font (pen .plain) (pen .hidden) (placeAt ram pen a)
+  abbrev characterAt : ℕ → List ℕ
+  characterAt a = character font (pen .plain) (pen .hidden) (placeAt ram pen a)
 
   -- a column of them
   shown-is : (a c : ℕ) → even a ≡ a → c < 12
-      → getD (glyphAt a) c 0
+      → getD (characterAt a) c 0
       ≡ characterPixel (rowOf pen a) (pairAt ram a .low) (sliceBits ram font (pairAt ram a .high) (pen .slice .0)) c
   unfolding character
   shown-is a c p h =
@@ -107,9 +108,9 @@ module _ (ram font : List ℕ) (pen : Pen) where
       by true e = ended-pixel 0 c room a l p e
       by false e =
           ap (λ (r : List ℕ). getD r (12 * 0 + c) 0) (room-on ram font pen room a p (omega arith) e .0)
-          ∙ List·getD-append (take room (glyphAt a)) _ 0 (12 * 0 + c) (simp (length-take, character-length) (omega arith))
-          ∙ getD-take room (glyphAt a) (12 * 0 + c) 0 l
-          ∙ ap (λ (i : ℕ). getD (glyphAt a) i 0) (omega arith)
+          ∙ List·getD-append (take room (characterAt a)) _ 0 (12 * 0 + c) (simp (length-take, character-length) (omega arith))
+          ∙ getD-take room (characterAt a) (12 * 0 + c) 0 l
+          ∙ ap (λ (i : ℕ). getD (characterAt a) i 0) (omega arith)
           ∙ shown-is a c p h
           ∙ sym (row-first ram font (rowOf pen a) c (rw p e))
   room-pixel (suc k) c room a h l p = by (endsLine (getD ram (a + 1) 0)) refl (room-pixel k c (room - 12) (next a) h (omega arith) (omega arith))
@@ -119,9 +120,9 @@ module _ (ram font : List ℕ) (pen : Pen) where
           → getD (roomOf ram font pen room a) (12 * suc k + c) 0 ≡ rowPixel ram font (rowOf pen a) (suc k) c
       by true e ih = ended-pixel (suc k) c room a l p e
       by false e ih =
-          let twelve : length (take room (glyphAt a)) ≡ 12 = simp (length-take, character-length) (omega arith) in
-          let past : 12 * suc k + c ≡ length (take room (glyphAt a)) + (12 * k + c) = omega (arith, twelve) in
+          let twelve : length (take room (characterAt a)) ≡ 12 = simp (length-take, character-length) (omega arith) in
+          let past : 12 * suc k + c ≡ length (take room (characterAt a)) + (12 * k + c) = omega (arith, twelve) in
           ap₂ (λ (r : List ℕ) (i : ℕ). getD r i 0) (room-on ram font pen room a p (omega arith) e .0) past
-          ∙ getD-append-add (take room (glyphAt a)) (roomOf ram font pen (room - 12) (next a)) (12 * k + c) 0
+          ∙ getD-append-add (take room (characterAt a)) (roomOf ram font pen (room - 12) (next a)) (12 * k + c) 0
           ∙ ih
           ∙ sym (row-later ram font (rowOf pen a) k c (rw p e))

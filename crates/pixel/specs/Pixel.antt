@@ -1,7 +1,7 @@
 -- Request K5: the pixel at column x of line y of a frame, both counted from 0, while RAM, registers and font stay put. Document 01 read once
 -- more, as plainly as it can be and in its order: neither the scan nor the painting of a line (crate line) is used. Shared with them are small
--- rules alone: settings and P, what the bytes of a descriptor and of a code say, the slice of a line and where its bytes lie, the colours of a
--- low byte, the first pixel and the hidden time.
+-- rules alone: settings and P, even addresses and the next, the bits of a descriptor and a strip's lines, the slice of a line and where its
+-- bytes lie, the end of line, the plain pixel and the colours of a low byte, the first pixel and the hidden time.
 -- Assumes nothing.
 use Prim.Native.Nat.{ℕ, zero, suc, _+_, _-_, _*_, _/_, _%_, _^_}
 use mathlib.Core.Bool.{Bool, not, cond, _&&_, _||_}

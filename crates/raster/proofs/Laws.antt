@@ -75,6 +75,10 @@ pub height-pos : (j : ScanLine) (ch : ℕ) (zoom : Bool) → InStrip j ch zoom �
 height-pos j ch true h = omega (arith, h .to, h .from)
 height-pos j ch false h = omega (arith, h .to, h .from)
 
+-- on a line of a strip the unzoomed line is CH at the most, and CH is not 0
+pub in-strip : (j : ScanLine) (ch : ℕ) (zoom : Bool) → InStrip j ch zoom → (unzoomed zoom (j .0) ≤ ch) × (0 < ch)
+in-strip j ch zoom h = (unzoomed-bound j ch zoom h, height-pos j ch zoom h)
+
 -- another character has room to start exactly while its first pixel is below W
 pub characters-more : (left : ℕ) → 0 < left → (left + 11) / 12 ≡ suc ((left - 12 + 11) / 12)
 characters-more left h = omega arith

@@ -162,10 +162,7 @@ impl ScanLine {
             left -= step;
             steps += 1;
         }
-        if steps == 0 {
-            return Slice(1);
-        }
-        Slice(steps)
+        Slice(most(1, steps) as u8)
     }
 
     // Does one of the next lines of the strip, so many, show a slice? The lines that show a slice are neighbours, so the first that

@@ -6,13 +6,14 @@ use mathlib.Core.Bool.{Bool, true, false, cond}
 use mathlib.Core.List.{List, [], _∷_, _++_, append-nil, flatten}
 use native.Mathlib.Decide.{ℕ-discrete}
 use native.Mathlib.Omega.{arith}
-use borrow.Author.Tests.{eq-eqb, ne-eqb, eqb-true, le-ltb, le-leb}
+use borrow.Author.Tests.{ne-eqb, eqb-true, le-ltb, le-leb}
 use lib.Dec.{eqb}
 use lib.ListN.{length, drop, replicate, length-append, length-take, length-drop, length-replicate}
 use lib.Seq.{take-append-seam}
 use Rattle.line.proofs.Laws.{paint-length}
 use Rattle.device.specs.declared.Device.{Device}
-use Rattle.device.specs.Device.{StartOutcome, DrawOutcome, lineWidth, pixelsOf, lineOn, lineDrawn, drawVerdict, drawBy, drawLine}
+use Rattle.device.specs.Device.{StartOutcome, DrawOutcome, lineWidth, pixelsOf, lineOn, lineDrawn}
+use Rattle.device.proofs.Laws.{draw-passed}
 use Rattle.report.specs.Report.{ramPart, fontPart, benchStart, refusalText, headingText, lineText, TextOutcome, writeText, LineOutcome, nextDraw, linesText, benchText}
 use Rattle.report.specs.Parts.{printed, lineParts, frameParts, benchParts, JoinedParts}
 use Rattle.report.proofs.Texts.{places-few, text-drawn, width-most, refusal-long, heading-long, line-long}

@@ -5,7 +5,7 @@
 //  - the pages, 5,652 bytes each: 1,024 of RAM, sixteen registers, 4,608 of font, the line count, low byte first, the frame number, and how the
 //    page is told: 0 prints each of its lines as asked for, a hexadecimal digit a pixel
 //  - then questions of 18 bytes about the last page: how much RAM and how much font is lent (0: all of it, 1: nothing, 2: one byte less, 3: one byte
-//    more), and lines, frame number, x and y, four bytes each, low byte first
+//    more), and lines, frame number, x and y, four bytes each, low byte first; 400 of them at the most
 //
 // Prints behind each page its lines, W, digests of all pixels as drawn and as asked for, and how many differ; of each question the refusal and
 // the value. The stored output comes from tests/model.py, which was written from documents 01 and 02 and not from this code
@@ -14,6 +14,7 @@ ghost use Prim.Native.Nat.{_+_, _*_, _<_, _≤_};
 ghost use mathlib.Core.Path.{_≡_};
 ghost use lib.ListN.{length};
 use device::Device;
+use pixel::PixelAnswer;
 use registers::Registers;
 use test_script::Numbers;
 
@@ -27,6 +28,13 @@ const COUNT: usize = 5648;
 const PAGE: usize = 5652;
 
 const QUESTION: usize = 18;
+
+const QUESTIONS: usize = 400;
+
+// What stands where no pixel was drawn, and where none was answered: two numbers, so that a refusal by either way shows.
+const NOT_DRAWN: u8 = 170;
+
+const NOT_ANSWERED: u8 = 171;
 
 const DIGEST: Numbers = Numbers {
     factor: 16777619,
@@ -146,8 +154,8 @@ fn show_lines<'a>(ram: &'a [u8], font: &'a [u8], begun: Device, lines: u32, numb
     };
     let mut y = 0;
     while y < lines {
-        let mut line = [0u8; 768];
-        let mut asked = [0u8; 768];
+        let mut line = [NOT_DRAWN; 768];
+        let mut asked = [NOT_ANSWERED; 768];
         let done = device.draw_line(ram, font, &mut line);
         device = done.device;
         ask_line(ram, font, device, lines, number, y, &mut asked);
@@ -158,7 +166,7 @@ fn show_lines<'a>(ram: &'a [u8], font: &'a [u8], begun: Device, lines: u32, numb
     tell(lines, w, sums);
 }
 
-// Each pixel of a line, as it is asked for; 0 past the line.
+// Each pixel of a line, as it is asked for.
 fn ask_line<'a>(
     ram: &'a [u8],
     font: &'a [u8],
@@ -170,8 +178,15 @@ fn ask_line<'a>(
 ) {
     for x in 0..768 {
         let answer = pixel::ask(device, ram, font, lines, number as u32, x, y);
-        asked[x as usize] = answer.value();
+        asked[x as usize] = answered(answer);
     }
+}
+
+fn answered(answer: PixelAnswer) -> u8 {
+    if answer.refusal() == 0 {
+        return answer.value();
+    }
+    NOT_ANSWERED
 }
 
 // The first W pixels of both.
@@ -225,7 +240,7 @@ fn ask_all(page: &[u8], input: &[u8], first: usize)
     }
     let device = device_of(page);
     let mut i = 0;
-    while i < 400 {
+    while i < QUESTIONS {
         ask_one(page, device, part(input, first + i * QUESTION, QUESTION));
         i += 1;
     }
