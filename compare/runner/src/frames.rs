@@ -1,15 +1,11 @@
 //! Frames on the proved library during which nothing is stored: a pixel that is asked for is the one that is drawn, on any record.
 
-use crate::library::Place;
+use crate::library::{Place, FRAME_NUMBER, REGISTERS};
 use crate::linked;
 use crate::pages::{random_page, FONT, RAM};
 use crate::random::Random;
 use osd_model::{Device, DEVICE_LEN};
 use std::process::exit;
-
-/// Places in a device's record.
-const REGISTERS: usize = 4;
-const FRAME_NUMBER: usize = 21;
 
 /// How many lines of a frame are asked for, pixel by pixel.
 const LINES_ASKED: u32 = 24;
@@ -20,14 +16,14 @@ const NO_PIXEL: u8 = 0xEE;
 fn record(random: &mut Random, p: u8) -> [u8; DEVICE_LEN] {
     let mut record = [0; DEVICE_LEN];
     random.fill(&mut record);
-    let [ld, dd, ch, control] = [0, 1, 2, 3].map(|number| record[REGISTERS + number]);
+    let [ld, dd, ch, control] = [0, 1, 2, 3].map(|number| record[REGISTERS][number]);
     let settings = [
         random.pick(&[63, 0xC4, ld]),
         random.pick(&[0, 4, 5, 7, 8, dd]),
         random.pick(&[0, 1, 2, 12, 18, 37, 63, ch]),
         control & 0x78 | p | random.pick(&[0x80, 0x80, 0x80, 0]),
     ];
-    record[REGISTERS..REGISTERS + 4].copy_from_slice(&settings);
+    record[REGISTERS][..4].copy_from_slice(&settings);
     if random.one_in(2) {
         record = Device::from_bytes(&record).to_bytes();
     }

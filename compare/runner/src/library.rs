@@ -2,11 +2,16 @@
 
 use crate::lent::Lent;
 use crate::linked;
+use std::ops::Range;
 
 /// The interface's own refusal.
 pub const NOT_TAKEN: u32 = 255 << 16;
 /// The most bytes of a chunk.
 pub const CHUNK_MAX: usize = 65_534;
+
+/// Where a device's record holds its registers and the frame number.
+pub const REGISTERS: Range<usize> = 4..20;
+pub const FRAME_NUMBER: usize = 21;
 
 /// Which pixel is asked for: column x of line y, in a frame of these lines and this number.
 #[derive(Clone, Copy, Debug)]

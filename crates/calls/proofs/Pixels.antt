@@ -1,7 +1,7 @@
 -- The proof that the pixel asked for is the one that is drawn (specs/Pixels.antt): while RAM and registers stay put, each accepted draw brings
 -- the walk one line on, and no other call moves it.
 -- Assumes nothing.
-use Prim.Native.Nat.{ℕ, suc, _+_, _-_, _%_, _≤_, _<_}
+use Prim.Native.Nat.{ℕ, suc, _+_, _-_, _%_, _<_}
 use mathlib.Core.Path.{_≡_, refl, sym, ap, _∙_, subst}
 use mathlib.Core.Bool.{cond}
 use mathlib.Core.List.{List, [], _∷_, map}
@@ -9,7 +9,7 @@ use native.Mathlib.Nat.{zero-add, add-zero, add-assoc}
 use native.Mathlib.Omega.{arith}
 use lib.Dec.{eqb}
 use lib.ListN.{length, getD}
-use Rattle.runs.specs.Runs.{log, end, AsMade}
+use Rattle.runs.specs.Runs.{log, end, total, AsMade}
 use Rattle.runs.proofs.Laws.{kept-by-each}
 use Rattle.cells.specs.Reading.{value}
 use Rattle.refusals.specs.Refusals.{accepted}
@@ -18,32 +18,25 @@ use Rattle.registers.specs.declared.Registers.{Registers}
 use Rattle.registers.specs.Registers.{settingsOf, pageOf}
 use Rattle.raster.specs.Raster.{widthOf}
 use Rattle.bus.specs.declared.Event.{Event}
-use Rattle.bus.specs.Bus.{BusOutcome, busEvent, taken}
-use Rattle.bus.proofs.Laws.{by-event}
 use Rattle.walk.specs.Walk.{walkFrom}
 use Rattle.glyph.specs.Glyph.{glyphOf}
 use Rattle.line.specs.Line.{Scanned, scan, paint}
 use Rattle.line.proofs.Strips.{scan-value}
-use Rattle.device.specs.declared.Device.{Device}
 use Rattle.device.specs.declared.Frame.{Frame}
-use Rattle.device.specs.Device.{hearEvent, StartOutcome, inFrame, startFrame, DrawOutcome, pixelsOf, lineOn, lineDrawn, lineWidth, drawLine}
+use Rattle.device.specs.Device.{hearEvent, StartOutcome, inFrame, DrawOutcome, pixelsOf, lineOn, lineDrawn, lineWidth, drawLine}
 use Rattle.device.proofs.Laws.{start-passed, by-draw, draw-same, draw-passed, line-at}
 use Rattle.capture.specs.Capture.{Logged, fedEvents}
 use Rattle.pixel.specs.Pixel.{pixelAt}
 use Rattle.pixel.proofs.Laws.{ask-passed}
 use Rattle.pixel.proofs.Lines.{walkAfter, one-more, pixel-is}
-use Rattle.calls.specs.OnePage.{Call, draw, ask, event, feed, anew, pixel, State, chipOf, answer, after, calls, fedCall, fedCalls, effectOf}
+use Rattle.calls.specs.OnePage.{Call, draw, ask, event, feed, anew, pixel, State, chipOf, answer, after, calls, fedCall, fedCalls}
 use Rattle.calls.specs.Pixels.{started, StayPut, StayingPut, drew, linesDrawn, PixelsAgree}
 use Rattle.calls.proofs.Fed.{fed-after}
-use Rattle.calls.proofs.Quiet.{unstored, taken-refused}
+use Rattle.calls.proofs.Quiet.{outcome, Same, same-unstored, same-refused}
 
 -- ---- calls that leave RAM and registers as they are
 
--- what is left of both
-Same : State → BusOutcome → Type 0
-Same s o = (o .ram ≡ s .ram) × (o .registers ≡ s .device .registers)
-
-event-put : (font : List ℕ) (s : State) (e : Event) → Same s (busEvent (s .device .bus) (s .device .registers) (s .ram) e) → StayPut font s (event e)
+event-put : (font : List ℕ) (s : State) (e : Event) → Same s (outcome s e) → StayPut font s (event e)
 unfolding Same after hearEvent
 event-put font s e h = record { ram = h .0; registers = h .1 }
 
@@ -59,21 +52,15 @@ feed-put font s chunk out h =
     }
 
 pub staying-put : StayingPut
-unfolding after Same taken hearEvent
+unfolding after
 staying-put =
     record {
       draws = λ font s line. record { ram = refl; registers = draw-same (s .device) (s .ram) font line };
       cells = λ font s cell. record { ram = refl; registers = refl };
       pixels = λ font s lines frame x y. record { ram = refl; registers = refl };
       renewals = λ font s. record { ram = refl; registers = refl };
-      events = λ font s e n.
-          event-put font s e
-          (by-event (Same s) (s .device .bus) (s .device .registers) (s .ram) e (refl, refl) (unstored (s .ram) (s .device .registers) (effectOf s e) n));
-      refused = λ font s e.
-          λ n.
-          event-put font s e
-          (by-event (λ (o : BusOutcome). (o .reply .refusal ≡ 0 → ⊥) → Same s o) (s .device .bus) (s .device .registers) (s .ram) e
-          (λ k. (refl, refl)) (λ k. unstored (s .ram) (s .device .registers) (effectOf s e) (taken-refused s e (effectOf s e) k)) n);
+      events = λ font s e n. event-put font s e (same-unstored s e n);
+      refused = λ font s e n. event-put font s e (same-refused s e (unfold hearEvent in n));
       feeds = feed-put;
     }
 
@@ -140,7 +127,7 @@ module _ (font : List ℕ) (r : Registers) (mem : List ℕ) (f lines : ℕ) wher
   -- all calls of a run
   all-calls : (cs : List Call) (n : ℕ) (u : State) → At n u → AsMade (StayPut font) (calls font) u cs
       → At (n + linesDrawn (log (calls font) u cs)) (end (calls font) u cs)
-  unfolding log end linesDrawn AsMade
+  unfolding log end total AsMade
   all-calls [] n u i p = subst (λ (m : ℕ). At m u) (sym (add-zero n)) i
   all-calls (c ∷ cs) n u i p =
       subst (λ (m : ℕ). At m (end (calls font) (after font u c) cs)) (add-assoc n (drew (answer font u c)) (linesDrawn (log (calls font) (after font u c) cs)))

@@ -57,47 +57,55 @@ quiet-as : (s : State) (e : Event) (f : Effect) → effectOf s e ≡ f
     → Harmless (s .ram) (s .device .registers) (cellsLeft (s .device) (s .ram)) f → Quiet s e
 quiet-as s e f q h = quiet-by s e (subst (Harmless (s .ram) (s .device .registers) (cellsLeft (s .device) (s .ram))) (sym q) h)
 
--- an effect that stores nothing changes nothing
-pub unstored : (ram : List ℕ) (r : Registers) (f : Effect) → (Stores f → ⊥) → (ramWith f ram ≡ ram) × (registersWith f r ≡ r)
+-- ---- events that leave RAM and registers as they are
+
+-- what an event comes to
+abbrev pub outcome : State → Event → BusOutcome
+outcome s e = busEvent (s .device .bus) (s .device .registers) (s .ram) e
+
+unfoldable pub Same : State → BusOutcome → Type 0
+Same s o = (o .ram ≡ s .ram) × (o .registers ≡ s .device .registers)
+
+-- its effect stores nothing
+unstored : (s : State) (f : Effect) → (Stores f → ⊥) → (ramWith f (s .ram) ≡ s .ram) × (registersWith f (s .device .registers) ≡ s .device .registers)
 unfolding Stores ramWith registersWith
-unstored ram r Acknowledge n = (refl, refl)
-unstored ram r Ignore n = (refl, refl)
-unstored ram r (Store a x) n = absurd (n tt)
-unstored ram r (Load a) n = (refl, refl)
+unstored s Acknowledge n = (refl, refl)
+unstored s Ignore n = (refl, refl)
+unstored s (Store a x) n = absurd (n tt)
+unstored s (Load a) n = (refl, refl)
 
-nothing-stored : (ram : List ℕ) (r : Registers) (cs : List ℕ) (f : Effect) → (Stores f → ⊥) → Harmless ram r cs f
-nothing-stored ram r cs f n = let u = unstored ram r f n in record { keeps = same-ram cs ram (u .0); same = ap settingsOf (u .1) }
+pub same-unstored : (s : State) (e : Event) → (Stores (effectOf s e) → ⊥) → Same s (outcome s e)
+unfolding Same taken
+same-unstored s e n = by-event (Same s) (s .device .bus) (s .device .registers) (s .ram) e (refl, refl) (unstored s (effectOf s e) n)
 
--- a refused event, for whatever reason
-pub taken-refused : (s : State) (e : Event) (f : Effect) → (busReply (answerTo f (s .device .registers) (s .ram)) .refusal ≡ 0 → ⊥) → Stores f → ⊥
+-- it is refused, for whatever reason
+taken-refused : (s : State) (f : Effect) → (busReply (answerTo f (s .device .registers) (s .ram)) .refusal ≡ 0 → ⊥) → Stores f → ⊥
 unfolding answerTo Stores
-taken-refused s e Acknowledge h t = t
-taken-refused s e Ignore h t = t
-taken-refused s e (Store a x) h t = h refl
-taken-refused s e (Load a) h t = t
+taken-refused s Acknowledge h t = t
+taken-refused s Ignore h t = t
+taken-refused s (Store a x) h t = h refl
+taken-refused s (Load a) h t = t
 
-quiet-refused : (s : State) (e : Event) → (hearEvent (s .device) (s .ram) e .reply .refusal ≡ 0 → ⊥) → Quiet s e
-unfolding Leaves hearEvent taken
-quiet-refused s e =
-    λ h.
-    let p : Leaves s (busEvent (s .device .bus) (s .device .registers) (s .ram) e) =
-    by-event (λ (o : BusOutcome). (o .reply .refusal ≡ 0 → ⊥) → Leaves s o) (s .device .bus) (s .device .registers) (s .ram) e
-    (λ _. (same-ram (cellsLeft (s .device) (s .ram)) (s .ram) refl, refl))
-    (λ k.
-    let n = nothing-stored (s .ram) (s .device .registers) (cellsLeft (s .device) (s .ram)) (effectOf s e) (taken-refused s e (effectOf s e) k) in
-    (n .keeps, n .same)) h
-    in
-    record { cells = p .0; settings = p .1 }
+pub same-refused : (s : State) (e : Event) → (outcome s e .reply .refusal ≡ 0 → ⊥) → Same s (outcome s e)
+unfolding Same taken
+same-refused s e =
+    by-event (λ (o : BusOutcome). (o .reply .refusal ≡ 0 → ⊥) → Same s o) (s .device .bus) (s .device .registers) (s .ram) e
+    (λ _. (refl, refl)) (λ k. unstored s (effectOf s e) (taken-refused s (effectOf s e) k))
+
+-- such events are quiet
+quiet-same : (s : State) (e : Event) → Same s (outcome s e) → Quiet s e
+unfolding Same hearEvent
+quiet-same s e h = record { cells = same-ram (cellsLeft (s .device) (s .ram)) (s .ram) (h .0); settings = ap settingsOf (h .1) }
 
 -- an event is quiet if it is so wherever it is a write
 pub quiet-if-write : (s : State) (e : Event) → (Stores (effectOf s e) → Quiet s e) → Quiet s e
 quiet-if-write s e w = by (effectOf s e) refl
   where
     by : (f : Effect) → effectOf s e ≡ f → Quiet s e
-    by Acknowledge p = quiet-as s e Acknowledge p (nothing-stored _ _ _ Acknowledge (unfold Stores in λ t. t))
-    by Ignore p = quiet-as s e Ignore p (nothing-stored _ _ _ Ignore (unfold Stores in λ t. t))
+    by Acknowledge p = quiet-same s e (same-unstored s e (unfold Stores in λ t. subst Stores p t))
+    by Ignore p = quiet-same s e (same-unstored s e (unfold Stores in λ t. subst Stores p t))
     by (Store a x) p = w (subst Stores (sym p) (unfold Stores in tt))
-    by (Load a) p = quiet-as s e (Load a) p (nothing-stored _ _ _ (Load a) (unfold Stores in λ t. t))
+    by (Load a) p = quiet-same s e (same-unstored s e (unfold Stores in λ t. subst Stores p t))
 
 -- ---- the kinds of events
 
@@ -162,10 +170,10 @@ pub quiet-events : QuietEvents
 quiet-events =
     record {
       asked-no = λ s x w q. answered s x w (unfold askCell in says-no _ _ _ q);
-      refused = quiet-refused;
+      refused = λ s e h. quiet-same s e (same-refused s e (unfold hearEvent in h));
       same-delay = λ s e x q g. quiet-as s e (Store 0x3FF1 x) q (register-kept _ _ _ 0x3FF1 x (omega arith) (keeps-dd (s .device .registers) x g));
       same-height = λ s e x q g. quiet-as s e (Store 0x3FF2 x) q (register-kept _ _ _ 0x3FF2 x (omega arith) (keeps-ch (s .device .registers) x g));
-      no-store = λ s e n. quiet-by s e (nothing-stored _ _ _ (effectOf s e) n);
+      no-store = λ s e n. quiet-same s e (same-unstored s e n);
       same-byte = λ s e a x q h g. quiet-as s e (Store a x) q (same-cell _ _ _ a x h g);
       empty = λ s e a x q h l. quiet-as s e (Store a x) q (empty-address _ _ _ a x h l);
       other-register = λ s e a x q h l. quiet-as s e (Store a x) q (register-kept _ _ _ a x (omega arith) (keeps-others _ (a - 0x3FF0) x (omega arith)));

@@ -2,14 +2,14 @@
 -- and font stay put through the frame.
 -- It is stated for every device record and feed, made-up ones too, and every RAM and font of their lengths.
 -- Assumes nothing.
-use Prim.Native.Nat.{ℕ, _+_, _%_, _≤_, _<_}
+use Prim.Native.Nat.{ℕ, _%_, _≤_, _<_}
 use mathlib.Core.Path.{_≡_}
 use mathlib.Core.Bool.{cond}
-use mathlib.Core.List.{List, [], _∷_}
+use mathlib.Core.List.{List}
 use lib.Dec.{eqb}
 use lib.ListN.{length, getD}
 use Rattle.limits.specs.Limits.{ramLength, fontLength, frameLines}
-use Rattle.runs.specs.Runs.{Entry, log, end, AsMade}
+use Rattle.runs.specs.Runs.{Entry, log, end, total, AsMade}
 use Rattle.refusals.specs.Refusals.{accepted}
 use Rattle.bus.specs.declared.Event.{Event}
 use Rattle.device.specs.Device.{hearEvent, startFrame, drawLine, lineWidth}
@@ -45,9 +45,8 @@ drew (fed reply out) = 0
 drew renewed = 0
 drew (shown reply) = 0
 
-unfoldable pub linesDrawn : List (Entry Call Answer) → ℕ
-linesDrawn [] = 0
-linesDrawn (x ∷ more) = drew (x .answer) + linesDrawn more
+abbrev pub linesDrawn : List (Entry Call Answer) → ℕ
+linesDrawn = total drew
 
 -- the next draw is accepted, and writes at x the pixel that is asked for
 pub record SamePixel (font : List ℕ) (s u : State) (lines frame x y : ℕ) (line : List ℕ) : Type 0 where

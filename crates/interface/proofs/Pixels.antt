@@ -9,7 +9,7 @@ use native.Mathlib.Nat.{zero-add}
 use native.Mathlib.Omega.{arith}
 use borrow.Author.Tests.{eqb-false}
 use lib.ListN.{length, getD}
-use Rattle.runs.specs.Runs.{log, end, AsMade}
+use Rattle.runs.specs.Runs.{log, end, total, AsMade}
 use Rattle.refusals.specs.Refusals.{numberOf}
 use Rattle.refusals.proofs.Laws.{not-zero}
 use Rattle.line.proofs.Counts.{line-most}
@@ -84,7 +84,7 @@ module _ (font : List ℕ) (n k : ℕ) where
   -- one call more
   module _ (s : State) (c : Call) (cs : List Call) (ds : List device.Call) (ih : AsTaken (after font s c) cs ds) where
     call-taken : takenAt s c ≡ true → AsTaken s (c ∷ cs) (made c ∷ ds)
-    unfolding log end AsMade linesDrawn pixels.linesDrawn
+    unfolding log end AsMade total
     call-taken t =
         let one = carried font s c t in
         record {
@@ -98,7 +98,7 @@ module _ (font : List ℕ) (n k : ℕ) where
         }
 
     call-not : takenAt s c ≡ false → AsTaken s (c ∷ cs) ds
-    unfolding log end AsMade linesDrawn
+    unfolding log end AsMade total
     call-not t =
         let none = untouched font s c t in
         record {
@@ -113,7 +113,7 @@ module _ (font : List ℕ) (n k : ℕ) where
 
   run-taken : (cs : List Call) (s : State) → length (s .device) ≡ n → length (s .feed) ≡ k → AsTaken s cs (takenCalls cs)
   unfolding takenCalls
-  run-taken [] s e f = unfold log end AsMade linesDrawn pixels.linesDrawn in record { long = e; state = refl; lines = refl; put = λ p. tt }
+  run-taken [] s e f = unfold log end AsMade total in record { long = e; state = refl; lines = refl; put = λ p. tt }
   run-taken (c ∷ cs) s e f =
       let l = same-length font s c in
       by (taken n k c) (ap₂ (λ (i j : ℕ). taken i j c) e f) (run-taken cs (after font s c) (l .0 ∙ e) (l .1 ∙ f))

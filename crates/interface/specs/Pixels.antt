@@ -2,14 +2,14 @@
 -- record).
 -- It is stated for every device buffer of 32 bytes, whatever they are, every feed buffer, and every RAM and font of their lengths.
 -- Assumes nothing.
-use Prim.Native.Nat.{ℕ, _+_, _%_, _≤_, _<_}
+use Prim.Native.Nat.{ℕ, _%_, _≤_, _<_}
 use mathlib.Core.Path.{_≡_}
 use mathlib.Core.Bool.{cond}
-use mathlib.Core.List.{List, [], _∷_}
+use mathlib.Core.List.{List}
 use lib.Dec.{ltb}
 use lib.ListN.{length, getD}
 use Rattle.limits.specs.Limits.{ramLength, fontLength, frameLines}
-use Rattle.runs.specs.Runs.{Entry, log, end, AsMade}
+use Rattle.runs.specs.Runs.{Entry, log, end, total, AsMade}
 use Rattle.device.specs.Device.{lineWidth}
 use Rattle.layout.specs.Layout.{registersAt, registersLength, recordLength, part, deviceIn}
 use Rattle.interface.specs.Interface.{startOn, drawOn, pixelOn}
@@ -33,9 +33,8 @@ drew (fed number out) = 0
 drew (renewed number) = 0
 drew (shown number) = 0
 
-unfoldable pub linesDrawn : List (Entry Call Answer) → ℕ
-linesDrawn [] = 0
-linesDrawn (x ∷ more) = drew (x .answer) + linesDrawn more
+abbrev pub linesDrawn : List (Entry Call Answer) → ℕ
+linesDrawn = total drew
 
 -- the next osd_draw has refusal 0, and writes at line[x] what osd_pixel answers
 pub record SamePixel (font : List ℕ) (s u : State) (lines frame x y : ℕ) (line : List ℕ) : Type 0 where

@@ -14,7 +14,8 @@ use Rattle.refusals.specs.Refusals.{accepted}
 use Rattle.registers.specs.declared.Registers.{Registers}
 use Rattle.registers.specs.Registers.{settingsOf}
 use Rattle.raster.specs.declared.Slice.{Slice}
-use Rattle.raster.specs.Raster.{InStrip, beforeFirst, linesAfter, stripLines, widthOf}
+use Rattle.raster.specs.Raster.{InStrip, beforeFirst, stripLines, widthOf}
+use Rattle.raster.proofs.Laws.{all-after}
 use Rattle.walk.specs.declared.Strip.the-variants.{Spacing, Characters}
 use Rattle.walk.specs.Walk.{even, next, atLeastOne, isSpacing, enabledBy, zoomedBy, codesAt, showsCodes, stripOf, linesLeft}
 use Rattle.walk.proofs.Laws.{stripOf-some}
@@ -32,7 +33,7 @@ use Rattle.pixel.specs.Ask.{pixelVerdict, pixelBy, askPixel}
 
 -- as the walk counts them
 pub lines-left : (ch : ℕ) (d : Pair) → linesOf ch d ≡ linesLeft (stripOf ch (d .low) (d .high))
-unfolding stripOf linesLeft linesAfter beforeFirst
+unfolding stripOf linesLeft
 lines-left ch d = by (isSpacing (d .high))
   where
     by : (t : Bool)
@@ -42,12 +43,16 @@ lines-left ch d = by (isSpacing (d .high))
         (Spacing (atLeastOne (d .low)))
         (Characters (codesAt (d .low) (d .high)) (atLeastOne ch) (zoomedBy (d .high)) (enabledBy (d .high)) beforeFirst))
     by true = refl
-    by false = omega arith
+    by false = sym (all-after (atLeastOne ch) (zoomedBy (d .high)))
 
 pub lines-some : (ch : ℕ) (d : Pair) → 1 ≤ linesOf ch d
 lines-some ch d = omega (arith, lines-left ch d, stripOf-some ch (d .low) (d .high))
 
 -- ---- strip by strip
+
+-- an address stands for its even one
+pub pair-same : (ram : List ℕ) (a b : ℕ) → even a ≡ even b → pairAt ram a ≡ pairAt ram b
+pair-same ram a b e = ap (λ (i : ℕ). record { low = getD ram i 0; high = getD ram (i + 1) 0 }) e
 
 module _ (ram : List ℕ) (ch : ℕ) where
   -- in the strip at the address, however many may be passed

@@ -32,7 +32,7 @@ use Rattle.line.proofs.Strips.{paint-none, hasRow, no-row, still-row, scan-valu
 use Rattle.pixel.specs.declared.Pair.{Pair}
 use Rattle.pixel.specs.declared.StripLine.{StripLine}
 use Rattle.pixel.specs.Pixel.{pairAt, linesOf, fallsIn, rowPixel, charactersPixel, pixelAt}
-use Rattle.pixel.proofs.Laws.{lines-left, lines-some, falls-here, falls-later}
+use Rattle.pixel.proofs.Laws.{lines-left, lines-some, pair-same, falls-here, falls-later}
 use Rattle.pixel.proofs.Rows.{rowOf, room-pixel}
 
 -- ---- the walk, line by line
@@ -87,11 +87,10 @@ module _ (ram : List ℕ) (ch : ℕ) where
 
   falls-first : (y a : ℕ) (w : Walk) → y < linesOf ch (pairAt ram a) → Falls y a w
   falls-first y a w h o e =
-      let long : linesOf ch (pairAt ram (w .descriptor)) ≡ linesOf ch (pairAt ram a) =
-      ap (λ (i : ℕ). linesOf ch (record { low = getD ram i 0; high = getD ram (i + 1) 0 })) e in
+      let same : pairAt ram (w .descriptor) ≡ pairAt ram a = pair-same ram (w .descriptor) a e in
       let from-one : suc y ≡ y + 1 = omega arith in
-      ap (λ (v : Walk). v .strip) (next-strip (suc y) w o (omega arith) (omega (arith, long, lines-left ch (pairAt ram (w .descriptor)))))
-      ∙ ap₂ (λ (k i : ℕ). advancedBy k (stripOf ch (getD ram i 0) (getD ram (i + 1) 0))) from-one e
+      ap (λ (v : Walk). v .strip) (next-strip (suc y) w o (omega arith) (omega (arith, ap (linesOf ch) same, lines-left ch (pairAt ram (w .descriptor)))))
+      ∙ ap₂ (λ (k : ℕ) (d : Pair). advancedBy k (stripOf ch (d .low) (d .high))) from-one same
       ∙ ap shownStrip (sym (falls-here ram ch y a y h))
 
   falls-past : (y a : ℕ) (w : Walk) → linesOf ch (pairAt ram a) ≤ y
@@ -99,7 +98,7 @@ module _ (ram : List ℕ) (ch : ℕ) where
   falls-past y a w h ih o e =
       let lines : ℕ = linesOf ch (pairAt ram a) in
       let left : linesLeft (stripAt (w .descriptor)) ≡ lines =
-      sym (lines-left ch (pairAt ram (w .descriptor))) ∙ ap (λ (i : ℕ). linesOf ch (record { low = getD ram i 0; high = getD ram (i + 1) 0 })) e in
+      sym (lines-left ch (pairAt ram (w .descriptor))) ∙ ap (linesOf ch) (pair-same ram (w .descriptor) a e) in
       let passed : walkAfter lines w ≡ record { descriptor = next (even (w .descriptor)); strip = advancedBy lines (stripAt (w .descriptor)) } =
       next-strip lines w o (lines-some ch (pairAt ram a)) (omega (arith, left)) in
       let then : suc y ≡ lines + suc (y - lines) = omega arith in

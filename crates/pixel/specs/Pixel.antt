@@ -70,7 +70,7 @@ sliceBits ram font high slice =
 abbrev pub isForeground : Bool → ℕ → ℕ → ℕ → Bool
 isForeground hidden low bits c = not (hidden && flashes low) && eqb (bits / 2 ^ (11 - c) % 2) 1
 
--- its pixel. A shadow falls where the pixel to the left in the same character is (drawn as) foreground; to the left of column 0 is none
+-- its pixel. Background is in shadow beside foreground to its left in the same character: never in column 0, and never where it is hidden
 abbrev pub characterPixel : Row → ℕ → ℕ → ℕ → ℕ
 characterPixel row low bits c =
     cond (isForeground (row .hidden) low bits c)

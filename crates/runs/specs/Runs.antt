@@ -1,5 +1,6 @@
 -- Runs of a list of calls, each on the state that the call before it left; and the run that makes the list's events last.
 -- Assumes nothing.
+use Prim.Native.Nat.{ℕ, _+_}
 use mathlib.Core.Path.{_≡_}
 use mathlib.Core.Bool.{Bool, not, cond}
 use mathlib.Core.List.{List, [], _∷_}
@@ -24,6 +25,11 @@ log m s (c ∷ cs) = (record { call = c; answer = m .answer s c }) ∷ log m (m 
 unfoldable pub end : {S C A : Type 0} → Machine S C A → S → List C → S
 end m s [] = s
 end m s (c ∷ cs) = end m (m .after s c) cs
+
+-- a number of each answer of a run, added up
+unfoldable pub total : {C A : Type 0} → (A → ℕ) → List (Entry C A) → ℕ
+total f [] = 0
+total f (x ∷ xs) = f (x .answer) + total f xs
 
 -- P holds of each call as it is made
 unfoldable pub AsMade : {S C A : Type 0} → (S → C → Type 0) → Machine S C A → S → List C → Type 0

@@ -2,13 +2,9 @@
 
 use super::{packed, Session};
 use crate::lent::Lent;
-use crate::library::{Library, Place, NOT_TAKEN};
+use crate::library::{Library, Place, FRAME_NUMBER, NOT_TAKEN, REGISTERS};
 use crate::pages::{random_page, FONT, RAM};
 use osd_model::DEVICE_LEN;
-
-/// Places in a device's record.
-const REGISTERS: std::ops::Range<usize> = 4..20;
-const FRAME_NUMBER: usize = 21;
 
 impl<L: Library> Session<'_, L> {
     /// A pixel of any frame, in mid-frame too, mostly with the buffers that it needs.
