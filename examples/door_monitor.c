@@ -1,6 +1,7 @@
 /*
  * Firmware in small: a host sends a page over the two-wire bus and the monitor shows it. During the frame the host writes a second
  * page to cells that the frame does not read, and changes to it; the frame goes on as it was, and the next one shows the new page.
+ * At the end the host is out of step in every way, and each refusal says what to look for.
  *
  *     cc -Iinclude examples/door_monitor.c target/staticlib/libosd.a
  */
@@ -48,6 +49,28 @@ static void letter(int number, const uint16_t *slices)
 static void show(const char *what, uint32_t answer)
 {
     printf("%s: refusal %u, value %u\n", what, (unsigned)OSD_REFUSAL(answer), (unsigned)OSD_VALUE(answer));
+}
+
+/* What a fitter should look for when an event is not acknowledged. */
+static const char *look_for(uint32_t answer)
+{
+    switch (OSD_REFUSAL(answer)) {
+    case OSD_IDLE:
+        return "a start that was lost";
+    case OSD_NOT_ADDRESSED:
+        return "a slave address other than BA and BB";
+    case OSD_READING:
+        return "a host that sends after BB";
+    case OSD_WRITING:
+        return "a host that fetches before BB";
+    default:
+        return "another cause";
+    }
+}
+
+static void not_heard(const char *what, uint32_t answer)
+{
+    printf("%s: refusal %u, value %u: look for %s\n", what, (unsigned)OSD_REFUSAL(answer), (unsigned)OSD_VALUE(answer), look_for(answer));
 }
 
 /* The next line, a character of text for each pixel: foreground, background, or the camera. */
@@ -114,9 +137,23 @@ int main(void)
     for (int i = 0; i < LINES; i++)
         draw();
 
+    not_heard("a byte while idle", event(OSD_BYTE, 0x00));
+    not_heard("a fetch while idle", event(OSD_FETCH, 0));
     event(OSD_START, 0);
-    show("unknown slave address", event(OSD_BYTE, 0x42));
-    show("a byte to a deaf device", event(OSD_BYTE, 0x00));
+    not_heard("a fetch before the slave address", event(OSD_FETCH, 0));
+    not_heard("an unknown slave address", event(OSD_BYTE, 0x42));
+    not_heard("a byte to a deaf device", event(OSD_BYTE, OSD_SLAVE_WRITE));
+    not_heard("a fetch from a deaf device", event(OSD_FETCH, 0));
+    event(OSD_START, 0);
+    event(OSD_BYTE, OSD_SLAVE_READ);
+    not_heard("a byte while reading", event(OSD_BYTE, 0x00));
+    event(OSD_START, 0);
+    event(OSD_BYTE, OSD_SLAVE_WRITE);
+    not_heard("a fetch before the internal address", event(OSD_FETCH, 0));
+    event(OSD_BYTE, 0x02);
+    event(OSD_BYTE, 0x00);
+    not_heard("a fetch while writing", event(OSD_FETCH, 0));
+    event(OSD_STOP, 0);
     show("a record of another length", osd_reset(device, sizeof device - 1));
     return 0;
 }

@@ -37,11 +37,12 @@
  * may write: if bus events arrive in an interrupt, keep it out while any call on the same device or RAM runs.
  *
  * Answers. Every function but osd_device_len and osd_feed_len answers one number, refusal * 65,536 + value: OSD_REFUSAL(answer) is 0
- * where the call was accepted, OSD_VALUE(answer) is then its value. With a refusal the value is 0, but 255 with
- * OSD_NOT_ACKNOWLEDGED, and with OSD_FEED_SHUT the number of output bytes that a feed wrote before a bad kind. A refused call
- * changes no byte of any buffer, with two exceptions: a bus event with an unknown slave address leaves the device deaf until the
- * next start or stop; and a feed that meets a bad kind has taken the events before it, and is shut. Where several refusals fit, the
- * one that is named first at the function is given.
+ * where the call was accepted, OSD_VALUE(answer) is then its value. With a refusal the value is 0, but 255 where a bus event is not
+ * acknowledged (OSD_IDLE, OSD_NOT_ADDRESSED, OSD_READING, OSD_WRITING), and with OSD_FEED_SHUT the number of output bytes that a
+ * feed wrote before a bad kind. A refused call changes no byte of any buffer, with two exceptions: a bus event with an unknown slave
+ * address (OSD_NOT_ADDRESSED) leaves the device deaf until the next start or stop: byte 0 of its record becomes 1; and a feed that
+ * meets a bad kind has taken the events before it, and is shut. Where several refusals fit, the one that is named first at the
+ * function is given.
  *
  * Formats. What a host writes over the bus (registers, descriptors, codes, user characters) and the lent font have the formats of
  * the tables below the refusals. They are close to those of the STV9425/26, but not the same: ZY in a descriptor, the low byte of a
@@ -117,18 +118,36 @@ typedef uint64_t osd_len;
 
 /* Refusals. */
 #define OSD_ACCEPTED 0
-#define OSD_RAM_LENGTH 1       /* ram is not OSD_RAM_LEN bytes */
-#define OSD_FONT_LENGTH 2      /* font is not OSD_FONT_LEN bytes */
-#define OSD_LINE_LENGTH 3      /* line is shorter than the line's pixels */
-#define OSD_NO_LINE 4          /* no frame, or all its lines are drawn */
-#define OSD_NOT_ACKNOWLEDGED 5 /* the event is not acknowledged; the value is 255 */
-#define OSD_FRAME_LINES 6      /* lines is 0 or above OSD_FRAME_LINES_MAX */
-#define OSD_BENCH_LENGTH 7     /* the bench program's: no function here gives it */
-#define OSD_CELL_RANGE 8       /* cell is OSD_RAM_LEN or above */
-#define OSD_FEED_SHUT 9        /* the feed is shut already (value 0), or a bad kind shuts it (value: output bytes written) */
-#define OSD_OUTPUT_ROOM 10     /* out has less than two bytes for each event that the chunk would complete */
-#define OSD_PIXEL_RANGE 11     /* x is at the line's width or beyond, or y at lines or beyond */
-#define OSD_NOT_TAKEN 255      /* a record's length is wrong, osd_bus's kind is above OSD_STOP, or chunk is too long */
+#define OSD_RAM_LENGTH 1     /* ram is not OSD_RAM_LEN bytes */
+#define OSD_FONT_LENGTH 2    /* font is not OSD_FONT_LEN bytes */
+#define OSD_LINE_LENGTH 3    /* line is shorter than the line's pixels */
+#define OSD_NO_LINE 4        /* no frame, or all its lines are drawn */
+#define OSD_IDLE 5           /* not acknowledged, as the bus is idle: a byte or a fetch without a start */
+#define OSD_FRAME_LINES 6    /* lines is 0 or above OSD_FRAME_LINES_MAX */
+#define OSD_BENCH_LENGTH 7   /* the bench program's: no function here gives it */
+#define OSD_CELL_RANGE 8     /* cell is OSD_RAM_LEN or above */
+#define OSD_FEED_SHUT 9      /* the feed is shut already (value 0), or a bad kind shuts it (value: output bytes written) */
+#define OSD_OUTPUT_ROOM 10   /* out has less than two bytes for each event that the chunk would complete */
+#define OSD_PIXEL_RANGE 11   /* x is at the line's width or beyond, or y at lines or beyond */
+#define OSD_NOT_ADDRESSED 12 /* not acknowledged: an unknown slave address, or a byte or a fetch while deaf after one */
+#define OSD_READING 13       /* not acknowledged, as the device is read: a byte from the host after OSD_SLAVE_READ */
+#define OSD_WRITING 14       /* not acknowledged, as an address or write data is due: a fetch without OSD_SLAVE_READ before it */
+#define OSD_NOT_TAKEN 255    /* a record's length is wrong, osd_bus's kind is above OSD_STOP, or chunk is too long */
+
+/*
+ * Events that are not acknowledged: what to look for with a logic analyser. The value is 255 with each, as with no other refusal of
+ * osd_bus, so OSD_REFUSAL(answer) != OSD_ACCEPTED && OSD_VALUE(answer) == 255 asks for any of the four. The numbers are told apart
+ * by what the device waits for (byte 0 of its record):
+ *
+ *     number  name               the device waits for                       the event          look for
+ *      5      OSD_IDLE           a start                                    a byte, a fetch    a start that was lost, a stop too many
+ *     12      OSD_NOT_ADDRESSED  the slave address                          a byte, unknown    a slave address other than BA and BB
+ *                                a start or a stop: it is deaf              a byte, a fetch    the slave address before
+ *     13      OSD_READING        fetches                                    a byte             a host that sends after BB; a lost start
+ *     14      OSD_WRITING        an address byte (slave, high, low), data   a fetch            a host that fetches before BB
+ *
+ * A start and a stop are always acknowledged. What osd_feed writes does not tell the four apart.
+ */
 
 /*
  * Formats. Bus addresses, and bytes in the columns kept, reset and high, are hexadecimal; all other numbers are decimal. Bit 7 is the
@@ -246,8 +265,8 @@ uint32_t osd_reset(uint8_t *device, osd_len device_len);
 
 /*
  * One event on the two-wire bus. `byte` is ignored unless kind is OSD_BYTE.
- * Refusals: OSD_NOT_TAKEN, OSD_RAM_LENGTH, OSD_NOT_ACKNOWLEDGED. Value: the byte that a fetch reads; 0 with other events, 255 where
- * the event is not acknowledged.
+ * Refusals: OSD_NOT_TAKEN, OSD_RAM_LENGTH; then OSD_IDLE, OSD_NOT_ADDRESSED, OSD_READING or OSD_WRITING, of which never two fit.
+ * Value: the byte that a fetch reads; 0 with other events, 255 where the event is not acknowledged.
  */
 uint32_t osd_bus(uint8_t *device, osd_len device_len, uint8_t *ram, osd_len ram_len, uint8_t kind, uint8_t byte);
 

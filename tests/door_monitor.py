@@ -6,6 +6,8 @@ import script
 LINES = 20
 O = (0x0F0, 0x198, 0x30C, 0x30C, 0x30C, 0x30C, 0x30C, 0x30C, 0x198, 0x0F0)
 K = (0x30C, 0x318, 0x330, 0x360, 0x3C0, 0x3C0, 0x360, 0x330, 0x318, 0x30C)
+LOOK_FOR = {5: 'a start that was lost', 12: 'a slave address other than BA and BB', 13: 'a host that sends after BB',
+            14: 'a host that fetches before BB'}
 device, ram, font, output = model.Device(), [0] * 1024, [0] * 4608, []
 
 
@@ -22,6 +24,12 @@ def letter(number, slices):
 
 def show(what, refusal, value=0):
     output.append('%s: refusal %d, value %d' % (what, refusal, value))
+
+
+def not_heard(what, kind, x=0):
+    refusal, value = device.event(ram, kind, x)
+    show(what, refusal, value)
+    output[-1] += ': look for ' + LOOK_FOR.get(refusal, 'another cause')
 
 
 def draw(times):
@@ -55,8 +63,22 @@ output.append('events refused: %d' % refused)
 draw(LINES - LINES // 2 + 1)
 show('frame start', device.start(LINES))
 draw(LINES)
+not_heard('a byte while idle', 'byte', 0x00)
+not_heard('a fetch while idle', 'fetch')
 device.event(ram, 'start')
-show('unknown slave address', *device.event(ram, 'byte', 0x42))
-show('a byte to a deaf device', *device.event(ram, 'byte', 0))
+not_heard('a fetch before the slave address', 'fetch')
+not_heard('an unknown slave address', 'byte', 0x42)
+not_heard('a byte to a deaf device', 'byte', 0xBA)
+not_heard('a fetch from a deaf device', 'fetch')
+device.event(ram, 'start')
+device.event(ram, 'byte', 0xBB)
+not_heard('a byte while reading', 'byte', 0x00)
+device.event(ram, 'start')
+device.event(ram, 'byte', 0xBA)
+not_heard('a fetch before the internal address', 'fetch')
+device.event(ram, 'byte', 0x02)
+device.event(ram, 'byte', 0x00)
+not_heard('a fetch while writing', 'fetch')
+device.event(ram, 'stop')
 show('a record of another length', 255)      # the interface's own refusal
 script.store({'examples/door_monitor.stdout': '\n'.join(output) + '\n'})

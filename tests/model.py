@@ -10,7 +10,7 @@ from fractions import Fraction
 
 RESET = [0x3F, 0x08, 0x12, 0x00, 0x22, 0x33, 0x28, 0x0A] + [0] * 8
 KEPT = [0xFF, 0xFF, 0x3F, 0xF7, 0xF7, 0x77, 0xFF, 0x0F] + [0xFF] * 8
-ACKNOWLEDGED, NOT_ACKNOWLEDGED = (0, 0), (5, 255)
+ACKNOWLEDGED, IDLE, NOT_ADDRESSED, READING, WRITING = (0, 0), (5, 255), (12, 255), (13, 255), (14, 255)     # request K6
 SHOWN_BELOW = {1: 32, 2: 16, 3: 48}
 LOGGED = {0: 'start', 1: 'byte', 2: 'fetch', 3: 'stop'}
 
@@ -35,18 +35,22 @@ class Device:
         if kind == 'stop':
             self.mode = 'idle'
             return ACKNOWLEDGED
+        if self.mode == 'idle':
+            return IDLE
+        if self.mode == 'deaf':
+            return NOT_ADDRESSED
         if kind == 'byte':
             return self.host_byte(ram, x)
         if self.mode != 'read':
-            return NOT_ACKNOWLEDGED
+            return WRITING
         return (0, self.load(ram, self.step()))
 
     def host_byte(self, ram, x):
-        if self.mode in ('idle', 'deaf', 'read'):
-            return NOT_ACKNOWLEDGED
+        if self.mode == 'read':
+            return READING
         if self.mode == 'slave':
             self.mode = {0xBA: 'high', 0xBB: 'read'}.get(x, 'deaf')
-            return NOT_ACKNOWLEDGED if self.mode == 'deaf' else ACKNOWLEDGED
+            return NOT_ADDRESSED if self.mode == 'deaf' else ACKNOWLEDGED
         if self.mode == 'high':
             self.high, self.mode = x, 'low'
         elif self.mode == 'low':

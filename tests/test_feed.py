@@ -133,11 +133,11 @@ chunk(0x42)
 for x in wrote(0x0124, 0x43) + fetched(0x0123, 2):
     chunk(x)
 
-# every event that is not acknowledged: 0 and 255, and the feed goes on
+# every event that is not acknowledged: 0 and 255, and the feed goes on; the bus tells them apart, the output does not
 fresh()
-chunk(1, 0xBA, *FETCH, *STOP, *FETCH)
-chunk(*START, *FETCH, 1, 0xBA, *FETCH, 1, 0x02, *FETCH, 1, 0x10, *FETCH, 1, 0x99, *START, 1, 0xBB, 1, 0x12, *FETCH)
-chunk(*START, 1, 0xB8, 1, 0xBA, *FETCH, *START, 1, 0xBB, *FETCH)
+chunk(1, 0xBA, *FETCH, *STOP, *FETCH)                               # 5
+chunk(*START, *FETCH, 1, 0xBA, *FETCH, 1, 0x02, *FETCH, 1, 0x10, *FETCH, 1, 0x99, *START, 1, 0xBB, 1, 0x12, *FETCH)     # 14, then 13
+chunk(*START, 1, 0xB8, 1, 0xBA, *FETCH, *START, 1, 0xBB, *FETCH)    # 12
 chunk(*fetched(0x0210, 1))
 
 # room: one byte short, two short, none; the same chunk again, as nothing was taken; more than it needs

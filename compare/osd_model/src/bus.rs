@@ -57,6 +57,19 @@ pub(crate) enum Bus {
     Deaf,
 }
 
+impl Bus {
+    /// Why a host byte or a fetch is not acknowledged in this state. An
+    /// unknown slave address is refused by the state that it leads to.
+    pub(crate) const fn not_acknowledged(self) -> Refusal {
+        match self {
+            Bus::Idle => Refusal::Idle,
+            Bus::Deaf => Refusal::NotAddressed,
+            Bus::Reading => Refusal::Reading,
+            Bus::SlaveAddress | Bus::HighAddress | Bus::LowAddress { .. } | Bus::Writing => Refusal::Writing,
+        }
+    }
+}
+
 impl Device {
     /// Takes one bus event and answers its byte: what a fetch read, 0 with
     /// any other acknowledged event. Every event needs the RAM lent.
@@ -72,7 +85,7 @@ impl Device {
                 self.advance_counter();
                 return Ok(byte);
             }
-            Event::Fetch => return Err(Refusal::NotAcknowledged),
+            Event::Fetch => return Err(self.bus.not_acknowledged()),
         }
         Ok(0)
     }
@@ -89,7 +102,7 @@ impl Device {
                 READ_ADDRESS => self.bus = Bus::Reading,
                 _ => {
                     self.bus = Bus::Deaf;
-                    return Err(Refusal::NotAcknowledged);
+                    return Err(self.bus.not_acknowledged());
                 }
             },
             Bus::HighAddress => self.bus = Bus::LowAddress { high: byte },
@@ -97,7 +110,7 @@ impl Device {
                 self.counter = u16::from_be_bytes([high & HIGH_MASK, byte]);
                 self.bus = Bus::Writing;
             }
-            Bus::Idle | Bus::Reading | Bus::Deaf => return Err(Refusal::NotAcknowledged),
+            Bus::Idle | Bus::Reading | Bus::Deaf => return Err(self.bus.not_acknowledged()),
         }
         Ok(())
     }

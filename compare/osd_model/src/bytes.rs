@@ -20,7 +20,7 @@
 use crate::bus::{Bus, COUNTER_MASK, FIRST_REGISTER, HIGH_MASK, READ_ADDRESS, WRITE_ADDRESS};
 use crate::frame::{Characters, Frame, Strip};
 use crate::registers::Registers;
-use crate::{Device, Refusal, FRAME_NUMBERS, MAX_LINES, RAM_LEN, RAM_WORDS};
+use crate::{Device, Event, Refusal, FRAME_NUMBERS, MAX_LINES, RAM_LEN, RAM_WORDS};
 
 /// Bytes of a device record.
 pub const DEVICE_LEN: usize = 32;
@@ -139,42 +139,45 @@ fn strip_from_bytes(flags: u8, lines: u8, row: u16, drawn: u16) -> Strip {
 
 /// Takes a bus event on a device record in place: `kind` 0 start, 1 host
 /// `byte`, 2 fetch, 3 stop. Answers the refusal's number times 65,536 plus
-/// the bus byte. Any other kind is not acknowledged.
+/// the bus byte. Any other kind is no event, and answers 255 times 65,536,
+/// the interface's own refusal, before all others.
 ///
 /// Only the bus bytes, the counter and an addressed register are touched.
 // In place at every caller: a jump to it costs a tenth of an event.
 #[inline(always)]
 pub fn bus_bytes(device: &mut [u8; DEVICE_LEN], ram: &mut [u8], kind: u8, byte: u8) -> u32 {
-    const NOT_ACKNOWLEDGED: u32 = refused(Refusal::NotAcknowledged);
+    let Some(event) = Event::of_kind(kind, byte) else {
+        return 255 << 16;
+    };
     let Ok(ram) = <&mut [u8; RAM_LEN]>::try_from(ram) else {
         return refused(Refusal::RamLength);
     };
-    match (kind, device[0]) {
-        (1, WRITING) => {
+    match (event, device[0]) {
+        (Event::Byte(byte), WRITING) => {
             let counter = take_counter(device);
             store(device, ram, counter, byte);
             0
         }
-        (2, READING) => {
+        (Event::Fetch, READING) => {
             let counter = take_counter(device);
             u32::from(load(device, ram, counter))
         }
-        (0, _) => expect(device, SLAVE_ADDRESS, 0),
-        (3, _) => expect(device, IDLE, 0),
-        (1, SLAVE_ADDRESS) => match byte {
+        (Event::Start, _) => expect(device, SLAVE_ADDRESS, 0),
+        (Event::Stop, _) => expect(device, IDLE, 0),
+        (Event::Byte(byte), SLAVE_ADDRESS) => match byte {
             WRITE_ADDRESS => expect(device, HIGH_ADDRESS, 0),
             READ_ADDRESS => expect(device, READING, 0),
             _ => {
                 expect(device, DEAF, 0);
-                NOT_ACKNOWLEDGED
+                not_acknowledged(device)
             }
         },
-        (1, HIGH_ADDRESS) => expect(device, LOW_ADDRESS, byte),
-        (1, LOW_ADDRESS) => {
+        (Event::Byte(byte), HIGH_ADDRESS) => expect(device, LOW_ADDRESS, byte),
+        (Event::Byte(byte), LOW_ADDRESS) => {
             [device[2], device[3]] = [byte, device[1] & HIGH_MASK];
             expect(device, WRITING, 0)
         }
-        _ => NOT_ACKNOWLEDGED,
+        (Event::Byte(_) | Event::Fetch, _) => not_acknowledged(device),
     }
 }
 
@@ -183,6 +186,12 @@ pub fn bus_bytes(device: &mut [u8; DEVICE_LEN], ram: &mut [u8], kind: u8, byte: 
 fn expect(device: &mut [u8; DEVICE_LEN], state: u8, held: u8) -> u32 {
     [device[0], device[1]] = [state, held];
     0
+}
+
+/// The answer to a host byte or a fetch that has no place in the bus state.
+#[inline]
+fn not_acknowledged(device: &[u8; DEVICE_LEN]) -> u32 {
+    refused(bus_from_bytes(device[0], device[1]).not_acknowledged())
 }
 
 /// The counter, which goes up behind it.

@@ -60,8 +60,8 @@ pub enum Refusal {
     LineBuffer = 3,
     /// No frame runs, or all its lines are drawn.
     NoLineLeft = 4,
-    /// The bus event is not acknowledged.
-    NotAcknowledged = 5,
+    /// A host byte or a fetch while the bus is idle.
+    Idle = 5,
     /// A frame cannot have this number of lines.
     FrameLines = 6,
     /// The cell asked about is outside RAM.
@@ -72,6 +72,12 @@ pub enum Refusal {
     OutputRoom = 10,
     /// The pixel asked for is outside the frame.
     NoSuchPixel = 11,
+    /// An unknown slave address, or any host byte or fetch while deaf.
+    NotAddressed = 12,
+    /// A host byte while reading.
+    Reading = 13,
+    /// A fetch while an address or write data is due.
+    Writing = 14,
 }
 
 impl Refusal {
@@ -86,7 +92,7 @@ impl Refusal {
     #[must_use]
     pub const fn bus_byte(self) -> u8 {
         match self {
-            Refusal::NotAcknowledged => 255,
+            Refusal::Idle | Refusal::NotAddressed | Refusal::Reading | Refusal::Writing => 255,
             _ => 0,
         }
     }

@@ -365,19 +365,36 @@ fn addresses_cut_short_and_deafness() {
     ram[0x10] = 77;
     assert_eq!(device.bus(&mut ram, Byte(0xBB)), Ok(0));
     let before = device;
-    let no = Err(Refusal::NotAcknowledged);
-    assert_eq!(device.bus(&mut ram, Byte(1)), no);
+    assert_eq!(device.bus(&mut ram, Byte(1)), Err(Refusal::Reading));
     assert_eq!(device, before);
     assert_eq!(device.bus(&mut ram, Fetch), Ok(77));
-    for event in [Start, Byte(0xBC)] {
-        let _ = device.bus(&mut ram, event);
-    }
-    for event in [Byte(0xBA), Fetch] {
-        assert_eq!(device.bus(&mut ram, event), no);
+    assert_eq!(device.bus(&mut ram, Start), Ok(0));
+    for event in [Byte(0xBC), Byte(0xBA), Fetch] {
+        assert_eq!(device.bus(&mut ram, event), Err(Refusal::NotAddressed));
     }
     assert_eq!(device.bus(&mut ram, Stop), Ok(0));
-    assert_eq!(device.bus(&mut ram, Byte(0xBA)), no);
-    assert_eq!(Refusal::NotAcknowledged.bus_byte(), 255);
+    assert_eq!(device.bus(&mut ram, Byte(0xBA)), Err(Refusal::Idle));
+}
+
+#[test]
+fn numbers_and_bus_bytes_of_refusals() {
+    for (refusal, number, byte) in [
+        (Refusal::RamLength, 1, 0),
+        (Refusal::FontLength, 2, 0),
+        (Refusal::LineBuffer, 3, 0),
+        (Refusal::NoLineLeft, 4, 0),
+        (Refusal::Idle, 5, 255),
+        (Refusal::FrameLines, 6, 0),
+        (Refusal::NoSuchCell, 8, 0),
+        (Refusal::FeedShut, 9, 0),
+        (Refusal::OutputRoom, 10, 0),
+        (Refusal::NoSuchPixel, 11, 0),
+        (Refusal::NotAddressed, 12, 255),
+        (Refusal::Reading, 13, 255),
+        (Refusal::Writing, 14, 255),
+    ] {
+        assert_eq!((refusal.number(), refusal.bus_byte()), (number, byte));
+    }
 }
 
 #[test]
@@ -504,7 +521,7 @@ impl Slow {
             (Byte(0xBB), 1) => self.bus = 5,
             (Byte(_), 1) => {
                 self.bus = 6;
-                return (5, 255);
+                return (12, 255);
             }
             (Byte(byte), 2) => (self.bus, self.held) = (3, byte),
             (Byte(byte), 3) => {
@@ -530,6 +547,9 @@ impl Slow {
                     _ => (0, 0),
                 };
             }
+            (Byte(_) | Fetch, 6) => return (12, 255),
+            (Byte(_), 5) => return (13, 255),
+            (Fetch, 1..=4) => return (14, 255),
             _ => return (5, 255),
         }
         (0, 0)
@@ -737,8 +757,6 @@ fn any_bytes_make_a_device() {
     }
     let short = bus_bytes(&mut [0; DEVICE_LEN], &mut [], 1, 0);
     assert_eq!(short, 65_536);
-    let unknown = bus_bytes(&mut [0; DEVICE_LEN], &mut [0; RAM_LEN], 4, 0);
-    assert_eq!(unknown, 5 * 65_536 + 255);
 }
 
 /// Feed, device and RAM, and the same as records: every chunk goes to both.
@@ -924,6 +942,12 @@ fn an_event_that_is_not_acknowledged() {
     let expected = vec![0, 255, 0, 255, 1, 0, 0, 255, 0, 255, 0, 255, 1, 0];
     assert_eq!(fed.feed(&logged(&events), 14), (0, expected));
     assert_eq!(fed.feed, Feed::Open);
+    // A fetch before each byte of a transfer; then reads, and a byte between them.
+    let events = [Start, Fetch, Byte(0xBA), Fetch, Byte(0), Fetch, Byte(9), Fetch, Byte(7), Fetch];
+    assert_eq!(fed.feed(&logged(&events), 20), (0, [1, 0, 0, 255].repeat(5)));
+    let events = [Start, Byte(0xBB), Fetch, Byte(0xBB), Byte(0xBA), Fetch];
+    assert_eq!(fed.feed(&logged(&events), 12), (0, vec![1, 0, 1, 0, 1, 0, 0, 255, 0, 255, 1, 0]));
+    assert_eq!((fed.ram[9], &fed.record[..4]), (7, &[6, 0, 12, 0][..]));
 }
 
 #[test]
@@ -1261,5 +1285,179 @@ fn pixels_as_drawn_over_noise() {
         let device = Device::from_bytes(&record);
         let lines = [1, 7, 64, 700, 2048][noise.below(5) as usize];
         asked_as_drawn(&device, &ram, &font, lines, noise.next() as u32, 1 + lines / 8);
+    }
+}
+
+/// Request K6. Bus states, as a record has them.
+const IDLE: u8 = 0;
+const DEAF: u8 = 1;
+const SLAVE_ADDRESS: u8 = 2;
+const HIGH_BYTE: u8 = 3;
+const LOW_BYTE: u8 = 4;
+const WRITING: u8 = 5;
+const READING: u8 = 6;
+
+/// For each state: refusal number and next state with the host bytes BA and BB,
+/// with any other host byte, and with a fetch.
+const HEARD: [(u8, [(u8, u8); 4]); 7] = [
+    (IDLE, [(5, IDLE), (5, IDLE), (5, IDLE), (5, IDLE)]),
+    (DEAF, [(12, DEAF), (12, DEAF), (12, DEAF), (12, DEAF)]),
+    (SLAVE_ADDRESS, [(0, HIGH_BYTE), (0, READING), (12, DEAF), (14, SLAVE_ADDRESS)]),
+    (HIGH_BYTE, [(0, LOW_BYTE), (0, LOW_BYTE), (0, LOW_BYTE), (14, HIGH_BYTE)]),
+    (LOW_BYTE, [(0, WRITING), (0, WRITING), (0, WRITING), (14, LOW_BYTE)]),
+    (WRITING, [(0, WRITING), (0, WRITING), (0, WRITING), (14, WRITING)]),
+    (READING, [(13, READING), (13, READING), (13, READING), (0, READING)]),
+];
+
+/// The high byte that the state before the low byte holds; its upper bits do
+/// not count.
+const HELD: u8 = 0xC2;
+
+/// A device in mid-frame and RAM, led to a bus state over the bus with the
+/// counter at an address.
+fn led_to(state: u8, address: u16) -> Fed {
+    let (mut device, mut ram, font, mut line) = example();
+    for (cell, byte) in (0..).zip(&mut ram[8..]) {
+        *byte = cell as u8 ^ 0x5A;
+    }
+    poke(&mut device, &mut ram, 0x3FF8, &[1, 2, 3, 4, 5, 6, 7, 8]);
+    device.frame_start(9).unwrap();
+    device.draw(&ram, &font, &mut line).unwrap();
+    poke(&mut device, &mut ram, address, &[]);
+    let [high, low] = address.to_be_bytes();
+    let events: &[Event] = match state {
+        IDLE => &[],
+        DEAF => &[Start, Byte(0x42)],
+        SLAVE_ADDRESS => &[Start],
+        HIGH_BYTE => &[Start, Byte(0xBA)],
+        LOW_BYTE => &[Start, Byte(0xBA), Byte(HELD)],
+        WRITING => &[Start, Byte(0xBA), Byte(high), Byte(low)],
+        _ => &[Start, Byte(0xBB)],
+    };
+    for &event in events {
+        let _ = device.bus(&mut ram, event);
+    }
+    let record = device.to_bytes();
+    assert_eq!((record[0], &record[2..4]), (state, &[low, high][..]));
+    Fed { device, ram, record, ..Fed::fresh() }
+}
+
+/// The number by the table; byte, record and RAM by the rules for what is
+/// acknowledged, and as before for what is not.
+fn heard(before: &Fed, event: Event) -> (u8, u8, [u8; DEVICE_LEN], Vec<u8>) {
+    let (mut record, mut ram) = (before.record, before.ram.clone());
+    let (state, places) = HEARD[usize::from(record[0])];
+    assert_eq!(state, record[0]);
+    let (number, next) = match event {
+        Start => (0, SLAVE_ADDRESS),
+        Stop => (0, IDLE),
+        Byte(0xBA) => places[0],
+        Byte(0xBB) => places[1],
+        Byte(_) => places[2],
+        Fetch => places[3],
+    };
+    record[0] = next;
+    if next != LOW_BYTE {
+        record[1] = 0;
+    }
+    if number > 0 {
+        return (number, 255, record, ram);
+    }
+    let at = usize::from(record[3]) * 256 + usize::from(record[2]);
+    let up = ((at as u16 + 1) % 0x4000).to_le_bytes();
+    let mut answer = 0;
+    match (state, event) {
+        (HIGH_BYTE, Byte(byte)) => record[1] = byte,
+        (LOW_BYTE, Byte(byte)) => (record[2], record[3]) = (byte, HELD % 64),
+        (WRITING, Byte(byte)) => {
+            match at {
+                0..0x400 => ram[at] = byte,
+                0x3FF0.. => record[4 + at % 16] = byte & Registers::KEPT[at % 16],
+                _ => {}
+            }
+            record[2..4].copy_from_slice(&up);
+        }
+        (READING, Fetch) => {
+            answer = match at {
+                0..0x400 => ram[at],
+                0x3FF0.. => record[4 + at % 16],
+                _ => 0,
+            };
+            record[2..4].copy_from_slice(&up);
+        }
+        _ => {}
+    }
+    (0, answer, record, ram)
+}
+
+/// Start, all host bytes, fetch and stop.
+fn every_event() -> impl Iterator<Item = Event> {
+    (0..=255).map(Byte).chain([Start, Fetch, Stop])
+}
+
+#[test]
+fn every_event_in_every_state() {
+    for address in [0x0000, 0x0123, 0x03FF, 0x0400, 0x3FEF, 0x3FF3, 0x3FF8, 0x3FFF] {
+        for (state, _) in HEARD {
+            let before = led_to(state, address);
+            for event in every_event() {
+                let (number, byte, record, ram) = heard(&before, event);
+                let what = std::format!("{event:?} in state {state}, counter {address:04X}");
+
+                let mut left = before.clone();
+                let answer = left.device.bus(&mut left.ram, event).map_err(|no| (no.number(), no.bus_byte()));
+                assert_eq!(answer, if number == 0 { Ok(byte) } else { Err((number, 255)) }, "{what}");
+                assert_eq!((left.device.to_bytes(), &left.ram), (record, &ram), "{what}");
+
+                let mut left = before.clone();
+                let capture = logged(&[event]);
+                let answer = bus_bytes(&mut left.record, &mut left.ram, capture[0], capture[1]);
+                assert_eq!(answer, u32::from(number) * 65_536 + u32::from(byte), "{what}");
+                assert_eq!((left.record, &left.ram), (record, &ram), "{what}");
+
+                // A logger sees no number.
+                let mut left = before.clone();
+                let output = if number == 0 { vec![1, byte] } else { vec![0, 255] };
+                assert_eq!(left.feed(&capture, 2), (0, output), "{what}");
+                assert_eq!((left.record, &left.ram), (record, &ram), "{what}");
+            }
+        }
+    }
+}
+
+#[test]
+fn refusals_of_a_bus_event_and_their_order() {
+    for (state, _) in HEARD {
+        let before = led_to(state, 0x0123);
+        for event in every_event() {
+            let capture = logged(&[event]);
+            for ram_len in [0, RAM_LEN - 1, RAM_LEN + 1, 2 * RAM_LEN] {
+                let mut left = Fed { ram: vec![7; ram_len], ..before.clone() };
+                assert_eq!(left.device.bus(&mut left.ram, event), Err(Refusal::RamLength));
+                assert_eq!(bus_bytes(&mut left.record, &mut left.ram, capture[0], capture[1]), 65_536);
+                assert_eq!(left, Fed { ram: vec![7; ram_len], ..before.clone() });
+            }
+        }
+        // No event, so none of the bus's refusals, nor 1.
+        for kind in 4..=255 {
+            for ram_len in [RAM_LEN, RAM_LEN - 1] {
+                let mut left = before.clone();
+                assert_eq!(bus_bytes(&mut left.record, &mut left.ram[..ram_len], kind, 0xBA), 255 * 65_536);
+                assert_eq!(left, before);
+            }
+        }
+    }
+}
+
+#[test]
+fn any_other_state_of_a_record_is_idle() {
+    for state in 7..=255 {
+        let mut record = [0xFF; DEVICE_LEN];
+        record[0] = state;
+        for (kind, byte) in [(1, 0xBA), (1, 0xBB), (1, 0), (2, 0)] {
+            let before = record;
+            assert_eq!(bus_bytes(&mut record, &mut [0; RAM_LEN], kind, byte), 5 * 65_536 + 255);
+            assert_eq!(record, before);
+        }
     }
 }

@@ -45,8 +45,6 @@ const FUNCTIONS: [(&str, &str); 11] = [
     ("osd_pixel", "rrrnnnn"),
 ];
 
-const LAST_KIND: u8 = 3;
-
 /// What a buffer is for. Each use has its slots, so that a second buffer does not displace the first.
 #[derive(Clone, Copy)]
 enum Use {
@@ -233,8 +231,8 @@ impl<W: Write> Library for Recorder<W> {
             return 0;
         }
         let answer = match <&mut [u8; DEVICE_LEN]>::try_from(device.get_mut()) {
-            Ok(record) if kind <= LAST_KIND => bus_bytes(record, ram.get_mut(), kind, byte),
-            _ => NOT_TAKEN,
+            Ok(record) => bus_bytes(record, ram.get_mut(), kind, byte),
+            Err(_) => NOT_TAKEN,
         };
         self.answered(answer, [(slot, device), (ram_slot, ram)])
     }

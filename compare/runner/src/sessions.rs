@@ -147,6 +147,38 @@ impl<L: Library> Session<'_, L> {
         self.event(kind, byte);
     }
 
+    /// Each sort of event in each state of the bus: with a kind and with a RAM that are refused before it, and then heard or not; and
+    /// the same once more as a capture.
+    fn each_state(&mut self) {
+        // 254 seeds in a row have every byte but the slave addresses.
+        let unknown = 0xBC_u8.wrapping_add((self.seed % 254) as u8);
+        let mut other_ram = self.ram_of_another_length();
+        let before = other_ram.get().to_vec();
+        let mut events = vec![];
+        for state in traffic::to_each_state(&mut self.random, unknown) {
+            for (kind, byte) in traffic::each_event(&mut self.random, unknown) {
+                for &(kind, byte) in &state {
+                    self.event(kind, byte);
+                }
+                let bad = 4 + self.random.below(252) as u8;
+                let answer = self.library.bus(&mut self.device, &mut other_ram, bad, byte);
+                self.check("kind above 3", answer, NOT_TAKEN);
+                let answer = self.library.bus(&mut self.device, &mut other_ram, kind, byte);
+                self.check("bus event, RAM length", answer, 1 << 16);
+                self.event(kind, byte);
+                events.extend(&state);
+                events.push((kind, byte));
+            }
+        }
+        self.same("refused: RAM", other_ram.get(), &before[..]);
+        self.same("bytes around the RAM", other_ram.guards_hold(), true);
+        self.feed_anew();
+        self.arrived = traffic::bytes(&events);
+        while !self.arrived.is_empty() {
+            self.feed();
+        }
+    }
+
     fn frame_start(&mut self) {
         let lines = match self.random.below(6) {
             0 => self.random.pick(&[0, 1, 2048, 2049, 65_536, 65_537, u32::MAX]),
@@ -283,14 +315,18 @@ impl<L: Library> Session<'_, L> {
             self.feed = Lent::copy_of(&mut self.random, &bytes);
             self.model_feed = bytes;
         } else {
-            let ours = self.library.feed_fresh(&mut self.feed);
-            self.model_feed = Feed::fresh().to_bytes();
-            self.check("feed made anew", ours, 0);
+            self.feed_anew();
         }
         // The rest of the capture stays now and then: its bytes may be taken for the wrong halves of events.
         if !self.random.one_in(4) {
             self.arrived.clear();
         }
+    }
+
+    fn feed_anew(&mut self) {
+        let ours = self.library.feed_fresh(&mut self.feed);
+        self.model_feed = Feed::fresh().to_bytes();
+        self.check("feed made anew", ours, 0);
     }
 
     /// Calls that the interface itself refuses, or for the RAM's length: nothing changes.
@@ -379,6 +415,7 @@ impl<L: Library> Session<'_, L> {
         self.tall_letters();
         self.refused_pixels();
         self.still_frame();
+        self.each_state();
     }
 }
 

@@ -6,13 +6,18 @@ use crate::random::Random;
 /// Kind and byte of an event.
 pub type Logged = (u8, u8);
 
-/// A store or a read of some bytes, as a host makes it.
-pub fn transfer(random: &mut Random) -> Vec<Logged> {
-    let address = match random.below(4) {
+/// An address on the bus, mostly of a register or of RAM.
+fn address(random: &mut Random) -> u64 {
+    match random.below(4) {
         0 => 0x3FF0 + random.below(16),
         1 => random.below(0x4000),
         _ => random.below(RAM as u64 + 4),
-    };
+    }
+}
+
+/// A store or a read of some bytes, as a host makes it.
+pub fn transfer(random: &mut Random) -> Vec<Logged> {
+    let address = address(random);
     // The two highest bits of an address do not count, nor does the byte of a start or stop.
     let spare = random.byte();
     let mut events = vec![(0, 0), (1, 0xBA), (1, (address >> 8) as u8 | spare & 0xC0), (1, address as u8)];
@@ -30,6 +35,27 @@ pub fn transfer(random: &mut Random) -> Vec<Logged> {
 pub fn any_event(random: &mut Random) -> Logged {
     let kind = random.below(4) as u8;
     (kind, if random.one_in(2) { random.pick(&[0xBA, 0xBB]) } else { random.byte() })
+}
+
+/// What leads to each state of the bus from any other: idle, deaf, slave address next, high byte next, low byte next, writing, reading.
+pub fn to_each_state(random: &mut Random, unknown: u8) -> [Vec<Logged>; 7] {
+    let address = address(random);
+    let (high, low) = ((address >> 8) as u8, address as u8);
+    [
+        vec![(3, 0)],
+        vec![(0, 0), (1, unknown)],
+        vec![(0, 0)],
+        vec![(0, 0), (1, 0xBA)],
+        vec![(0, 0), (1, 0xBA), (1, high)],
+        vec![(0, 0), (1, 0xBA), (1, high), (1, low)],
+        vec![(0, 0), (1, 0xBB)],
+    ]
+}
+
+/// An event of each sort, with both slave addresses and another byte.
+pub fn each_event(random: &mut Random, other: u8) -> [Logged; 6] {
+    let spare = random.byte();
+    [(0, spare), (1, 0xBA), (1, 0xBB), (1, other), (2, spare), (3, spare)]
 }
 
 /// One to three transfers in a logger's bytes; now and then with an event that has no place there, or with a bad kind.

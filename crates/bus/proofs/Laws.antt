@@ -23,14 +23,14 @@ use Rattle.bus.specs.Bus.{BusOutcome, busEvent, step, byteAt, fetchAt, r
 with-length : (f : Effect) (ram : List ℕ) → length (ramWith f ram) ≡ length ram
 unfolding ramWith
 with-length Acknowledge ram = refl
-with-length Ignore ram = refl
+with-length (Ignore why) ram = refl
 with-length (Store a x) ram = either (λ (l : List ℕ). length l ≡ length ram) (isRam a) _ ram (length-set ram a x) refl
 with-length (Load a) ram = refl
 
 pub with-sixteen : (f : Effect) (r : Registers) → length (registersWith f r .bytes) ≡ length (r .bytes)
 unfolding registersWith
 with-sixteen Acknowledge r = refl
-with-sixteen Ignore r = refl
+with-sixteen (Ignore why) r = refl
 with-sixteen (Store a x) r = either (λ (s : Registers). length (s .bytes) ≡ length (r .bytes)) (isRegister a) _ r (length-set (r .bytes) _ _) refl
 with-sixteen (Load a) r = refl
 
@@ -54,7 +54,7 @@ answer-byte : (f : Effect) (r : Registers) (ram : List ℕ) → ((i : ℕ) → g
     → busReply (answerTo f r ram) .value < 256
 unfolding answerTo
 answer-byte Acknowledge r ram h k = omega arith
-answer-byte Ignore r ram h k = omega arith
+answer-byte (Ignore why) r ram h k = omega arith
 answer-byte (Store a x) r ram h k = omega arith
 answer-byte (Load a) r ram h k =
     either (λ (n : ℕ). n < 256) (isRam a) _ _ (k a) (either (λ (n : ℕ). n < 256) (isRegister a) _ _ (h ((a - 0x3FF0) % 16)) (omega arith))

@@ -1,1 +1,3 @@
+pub mod Claims
 pub mod Laws
+pub mod Unheard

@@ -1,4 +1,4 @@
--- Document 01, "Bus": events, the address counter, stores and fetches.
+-- Document 01, "Bus": events, the address counter, stores and fetches; and document 02, K6: why an event is not acknowledged.
 -- Assumes nothing.
 use Prim.Native.Nat.{ℕ, _+_, _-_, _*_, _%_}
 use mathlib.Core.Bool.{Bool, not, cond}
@@ -6,6 +6,8 @@ use mathlib.Core.List.{List}
 use lib.Dec.{eqb, leb, ltb}
 use lib.ListN.{length, getD, set, replicate}
 use Rattle.limits.specs.Limits.{ramLength}
+use Rattle.refusals.specs.declared.Unheard.{Unheard}
+use Rattle.refusals.specs.declared.Unheard.the-variants as unheard
 use Rattle.refusals.specs.declared.Refusal.the-variants.{RamLength, NotAcknowledged}
 use Rattle.refusals.specs.Refusals.{Reply, accepted, refused}
 use Rattle.registers.specs.declared.Registers.{Registers}
@@ -52,34 +54,35 @@ steps b e = record { bus = record { state = b .state; counter = (address b + 1) 
 abbrev pub setsCounter : ℕ → ℕ → Step
 setsCounter high low = record { bus = record { state = Write; counter = high % 64 * 256 + low }; effect = Acknowledge }
 
--- nothing changes, and the event is not acknowledged
-abbrev pub ignores : Bus → Step
-ignores b = goes b (b .state) Ignore
+-- nothing changes, and the event is not acknowledged, for this reason
+abbrev pub ignores : Bus → Unheard → Step
+ignores b why = goes b (b .state) (Ignore why)
 
--- a slave address: BA writes, BB reads; any other is not acknowledged, and the device is deaf until start or stop
+-- a slave address: BA writes, BB reads; any other is not acknowledged (12), and the device is deaf until start or stop
 abbrev pub slave : Bus → ℕ → Step
-slave b x = cond (eqb x 0xBA) (goes b High Acknowledge) (cond (eqb x 0xBB) (goes b Read Acknowledge) (goes b Deaf Ignore))
+slave b x = cond (eqb x 0xBA) (goes b High Acknowledge) (cond (eqb x 0xBB) (goes b Read Acknowledge) (goes b Deaf (Ignore unheard.NotAddressed)))
 
--- a byte from the host
+-- a byte from the host: not acknowledged while idle (5), deaf (12) or reading (13)
 abbrev pub byteAt : BusState → Bus → ℕ → Step
-byteAt Idle b x = ignores b
-byteAt Deaf b x = ignores b
+byteAt Idle b x = ignores b unheard.Idle
+byteAt Deaf b x = ignores b unheard.NotAddressed
 byteAt Slave b x = slave b x
 -- next the high then the low byte of the internal address (H)
 byteAt High b x = goes b (Low x) Acknowledge
 byteAt (Low high) b x = setsCounter high x
 -- then each host byte is stored at the counter and acknowledged
 byteAt Write b x = steps b (Store (address b) x)
-byteAt Read b x = ignores b
+byteAt Read b x = ignores b unheard.Reading
 
--- each fetch answers the byte at the counter, and the counter goes up likewise; a fetch while not reading changes nothing
+-- each fetch answers the byte at the counter, and the counter goes up likewise; a fetch while not reading changes nothing: while idle (5),
+-- while deaf (12), or while the device waits for an address or for write data (14)
 abbrev pub fetchAt : BusState → Bus → Step
-fetchAt Idle b = ignores b
-fetchAt Deaf b = ignores b
-fetchAt Slave b = ignores b
-fetchAt High b = ignores b
-fetchAt (Low high) b = ignores b
-fetchAt Write b = ignores b
+fetchAt Idle b = ignores b unheard.Idle
+fetchAt Deaf b = ignores b unheard.NotAddressed
+fetchAt Slave b = ignores b unheard.Writing
+fetchAt High b = ignores b unheard.Writing
+fetchAt (Low high) b = ignores b unheard.Writing
+fetchAt Write b = ignores b unheard.Writing
 fetchAt Read b = steps b (Load (address b))
 
 -- start, in any state: the next host byte is the slave address. Stop: idle
@@ -100,13 +103,13 @@ isRegister a = leb 0x3FF0 a
 -- elsewhere (H) a store is acknowledged and dropped
 unfoldable pub ramWith : Effect → List ℕ → List ℕ
 ramWith Acknowledge ram = ram
-ramWith Ignore ram = ram
+ramWith (Ignore why) ram = ram
 ramWith (Store a x) ram = cond (isRam a) (set ram a x) ram
 ramWith (Load a) ram = ram
 
 unfoldable pub registersWith : Effect → Registers → Registers
 registersWith Acknowledge r = r
-registersWith Ignore r = r
+registersWith (Ignore why) r = r
 registersWith (Store a x) r = cond (isRegister a) (stored r (a - 0x3FF0) x) r
 registersWith (Load a) r = r
 
@@ -117,7 +120,7 @@ byteIn a r ram = cond (isRam a) (getD ram a 0) (cond (isRegister a) (fetched r (
 -- the byte given with every acknowledged event but a fetch is 0
 unfoldable pub answerTo : Effect → Registers → List ℕ → BusAnswer
 answerTo Acknowledge r ram = Acknowledged 0
-answerTo Ignore r ram = Refused NotAcknowledged
+answerTo (Ignore why) r ram = Refused (NotAcknowledged why)
 answerTo (Store a x) r ram = Acknowledged 0
 answerTo (Load a) r ram = Acknowledged (byteIn a r ram)
 
@@ -144,7 +147,7 @@ taken s r ram =
       reply = busReply (answerTo (s .effect) r ram);
     }
 
--- order of refusals: 1, 5
+-- order of refusals: 1; then 5, 12, 13 or 14, of which at most one applies (specs/Unheard.antt)
 unfoldable pub busEvent : Bus → Registers → List ℕ → Event → BusOutcome
 busEvent b r ram e =
     cond (not (eqb (length ram) ramLength))

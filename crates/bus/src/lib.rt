@@ -2,8 +2,9 @@
 ghost use mathlib.Core.Path.{_≡_};
 ghost use lib.ListN.{length};
 ghost use Rattle.limits.specs.Limits.{ramLength};
-ghost use Rattle.bus.specs.Bus.{freshBus, freshRam, eventOf, goes, steps, slave, byteAt, fetchAt, step, registersWith, ramWith, byteIn, busEvent, outcomeOf, busReply};
+ghost use Rattle.bus.specs.Bus.{freshBus, freshRam, eventOf, goes, ignores, steps, slave, byteAt, fetchAt, step, registersWith, ramWith, byteIn, busEvent, outcomeOf, busReply};
 use refusals::Refusal;
+use refusals::Unheard;
 use registers::Registers;
 
 pub enum Event {
@@ -40,8 +41,8 @@ pub struct Bus {
 pub enum Effect {
     // acknowledged, and no cell is asked for
     Acknowledge,
-    // not acknowledged
-    Ignore,
+    // not acknowledged, and why
+    Ignore(Unheard),
     // a byte goes to an address
     Store(u16, u8),
     // the byte at an address is the answer
@@ -119,6 +120,13 @@ impl Bus {
         }
     }
 
+    fn ignores(self, why: Unheard) -> Step
+        ensures { λ r. ⌜ r ≡ ignores self why ⌝ }
+    {
+        let state = self.state;
+        self.goes_to(state, Effect::Ignore(why))
+    }
+
     fn steps_on(self, effect: Effect) -> Step
         ensures { λ r. ⌜ r ≡ steps self effect ⌝ }
     {
@@ -137,8 +145,8 @@ impl Bus {
     {
         let state = self.state;
         match state {
-            BusState::Idle => self.goes_to(state, Effect::Ignore),
-            BusState::Deaf => self.goes_to(state, Effect::Ignore),
+            BusState::Idle => self.ignores(Unheard::Idle),
+            BusState::Deaf => self.ignores(Unheard::NotAddressed),
             BusState::Slave => self.take_slave(x),
             BusState::High => self.goes_to(BusState::Low(x), Effect::Acknowledge),
             BusState::Low(high) => Step {
@@ -149,7 +157,7 @@ impl Bus {
                 effect: Effect::Acknowledge,
             },
             BusState::Write => self.steps_on(Effect::Store(self.counter % 0x4000, x)),
-            BusState::Read => self.goes_to(state, Effect::Ignore),
+            BusState::Read => self.ignores(Unheard::Reading),
         }
     }
 
@@ -162,7 +170,7 @@ impl Bus {
         if x == 0xBB {
             return self.goes_to(BusState::Read, Effect::Acknowledge);
         }
-        self.goes_to(BusState::Deaf, Effect::Ignore)
+        self.goes_to(BusState::Deaf, Effect::Ignore(Unheard::NotAddressed))
     }
 
     fn take_fetch(self) -> Step
@@ -170,18 +178,18 @@ impl Bus {
     {
         let state = self.state;
         match state {
-            BusState::Idle => self.goes_to(state, Effect::Ignore),
-            BusState::Deaf => self.goes_to(state, Effect::Ignore),
-            BusState::Slave => self.goes_to(state, Effect::Ignore),
-            BusState::High => self.goes_to(state, Effect::Ignore),
-            BusState::Low(_) => self.goes_to(state, Effect::Ignore),
-            BusState::Write => self.goes_to(state, Effect::Ignore),
+            BusState::Idle => self.ignores(Unheard::Idle),
+            BusState::Deaf => self.ignores(Unheard::NotAddressed),
+            BusState::Slave => self.ignores(Unheard::Writing),
+            BusState::High => self.ignores(Unheard::Writing),
+            BusState::Low(_) => self.ignores(Unheard::Writing),
+            BusState::Write => self.ignores(Unheard::Writing),
             BusState::Read => self.steps_on(Effect::Load(self.counter % 0x4000)),
         }
     }
 }
 
-// One bus event, on the whole of what it can touch. Refusals in the order 1, 5.
+// One bus event, on the whole of what it can touch. Refusals in the order 1; then 5, 12, 13 or 14.
 pub fn hear(bus: Bus, registers: Registers, ram: &mut [u8], event: Event) -> Heard
     ensures { λ r. ⌜ outcomeOf r (now (ram .exit)) ≡ busEvent bus registers (now (ram .entry)) event ⌝ }
 {
@@ -201,10 +209,10 @@ pub fn hear(bus: Bus, registers: Registers, ram: &mut [u8], event: Event) -> Hea
             registers: registers,
             answer: BusAnswer::Acknowledged(0),
         },
-        Effect::Ignore => Heard {
+        Effect::Ignore(why) => Heard {
             bus: next,
             registers: registers,
-            answer: BusAnswer::Refused(Refusal::NotAcknowledged),
+            answer: BusAnswer::Refused(Refusal::NotAcknowledged(why)),
         },
         Effect::Store(a, x) => {
             let kept = store(registers, ram, a, x);

@@ -9,8 +9,11 @@ use borrow.Author.Tests.{eq-eqb, ne-eqb, le-leb, lt-leb}
 use lib.Dec.{eqb}
 use lib.Bits.{bitAnd}
 use lib.ListN.{length, getD, set}
+use Rattle.refusals.specs.declared.Unheard.{Unheard}
+use Rattle.refusals.specs.declared.Unheard.the-variants as unheard
 use Rattle.refusals.specs.declared.Refusal.the-variants.{RamLength, NotAcknowledged}
 use Rattle.refusals.specs.Refusals.{refused}
+use Rattle.refusals.proofs.Laws.{not-zero}
 use Rattle.registers.specs.Registers.{kept, stored}
 use Rattle.bus.specs.declared.BusState.{BusState}
 use Rattle.bus.specs.declared.BusState.the-variants.{Idle, Deaf, Slave, High, Low, Write, Read}
@@ -72,7 +75,7 @@ module _ (a x : ℕ) where
 
 -- ---- what the bus asks of the cells
 
-slave-in-space : (b : Bus) (p q : Bool) → InSpace (cond p (goes b High Acknowledge) (cond q (goes b Read Acknowledge) (goes b Deaf Ignore)) .effect)
+slave-in-space : (b : Bus) (p q : Bool) → InSpace (cond p (goes b High Acknowledge) (cond q (goes b Read Acknowledge) (goes b Deaf (Ignore unheard.NotAddressed))) .effect)
 slave-in-space b true q = tt
 slave-in-space b false true = tt
 slave-in-space b false false = tt
@@ -125,10 +128,11 @@ module _ (xs ram ys : List ℕ) (s : Step) (e : ys ≡ put busAt (busBytes (s .b
       let z : byte ≡ 0 + byteIn a (deviceIn xs .registers) ram = omega (arith, p) in
       rw q (λ i. record { device = stay i; ram = ram; answer = z i })
 
-pub applied-ignore : (xs ram ys : List ℕ) (s : Step) (a : ℕ) → s .effect ≡ Ignore → ys ≡ ignoredOn (s .bus .state) xs → a ≡ answerOf (refused NotAcknowledged)
+pub applied-ignore : (xs ram ys : List ℕ) (s : Step) (why : Unheard) (a : ℕ) → s .effect ≡ Ignore why → ys ≡ ignoredOn (s .bus .state) xs
+    → a ≡ answerOf (refused (NotAcknowledged why))
     → _≡_ {A = face.BusDone} (record { device = ys; ram = ram; answer = a }) (stepOn xs ram s)
 unfolding heardOn taken registersWith ramWith answerTo
-applied-ignore xs ram ys s a q e p = rw q (λ i. record { device = e i; ram = ram; answer = p i })
+applied-ignore xs ram ys s why a q e p = rw (q, not-zero (NotAcknowledged why)) (λ i. record { device = e i; ram = ram; answer = p i })
 
 -- a start and a stop: the counter stays
 module _ (xs ram ys : List ℕ) where
@@ -173,27 +177,6 @@ module _ (xs ram ys : List ℕ) (n : ℕ) (p : n ≡ deviceIn xs .bus .counter) 
     where
       by : step (deviceIn xs .bus) Fetch ≡ record { bus = up Read (deviceIn xs .bus .counter); effect = Load (deviceIn xs .bus .counter % 0x4000) }
       by = rw (state-byte xs, six)
-
--- a fetch while not reading
-ignored-fetch : (b : Bus) → (b .state ≡ Read → ⊥) → step b Fetch ≡ ignores b
-unfolding step
-ignored-fetch b = by (b .state) refl
-  where
-    by : (s : BusState) → b .state ≡ s → (s ≡ Read → ⊥) → fetchAt s b ≡ ignores b
-    by Idle p n = refl
-    by Deaf p n = refl
-    by Slave p n = refl
-    by High p n = refl
-    by (Low high) p n = refl
-    by Write p n = refl
-    by Read p n = absurd (n refl)
-
-pub not-fetched : (xs ram : List ℕ) (a : ℕ) → (getD xs busAt 0 ≡ 6 → ⊥) → a ≡ answerOf (refused NotAcknowledged)
-    → _≡_ {A = face.BusDone} (record { device = xs; ram = ram; answer = a }) (eventOn xs ram Fetch)
-not-fetched xs ram a n p =
-    applied-ignore xs ram xs (ignores (deviceIn xs .bus)) a refl (sym (ignored-same xs)) p
-    ∙ ap (stepOn xs ram)
-    (sym (ignored-fetch (deviceIn xs .bus) (λ r. n (sym (state-byte xs) ∙ numbered _ _ 6 (ap stateNumber r) (omega arith)))))
 
 -- ---- bus event
 

@@ -14,7 +14,7 @@ use Rattle.interface.specs.Interface.{BusDone, heardOn}
 -- an address that a step of the bus asks for is at most 3FFF
 abbrev pub InSpace : Effect → Type 0
 InSpace Acknowledge = Unit
-InSpace Ignore = Unit
+InSpace (Ignore why) = Unit
 InSpace (Store a x) = a < 0x4000
 InSpace (Load a) = a < 0x4000
 

@@ -100,10 +100,10 @@ fn apply(device: &mut [u8], ram: &mut [u8], step: Step) -> u32
             layout::write_bus(device, next);
             0
         }
-        Effect::Ignore => {
+        Effect::Ignore(why) => {
             let state = next.state;
             ignore(device, state);
-            refuse(Refusal::NotAcknowledged)
+            refuse(Refusal::NotAcknowledged(why))
         }
         Effect::Store(address, x) => {
             layout::write_bus(device, next);

@@ -70,7 +70,7 @@ Same s o = (o .ram ≡ s .ram) × (o .registers ≡ s .device .registers)
 unstored : (s : State) (f : Effect) → (Stores f → ⊥) → (ramWith f (s .ram) ≡ s .ram) × (registersWith f (s .device .registers) ≡ s .device .registers)
 unfolding Stores ramWith registersWith
 unstored s Acknowledge n = (refl, refl)
-unstored s Ignore n = (refl, refl)
+unstored s (Ignore why) n = (refl, refl)
 unstored s (Store a x) n = absurd (n tt)
 unstored s (Load a) n = (refl, refl)
 
@@ -82,7 +82,7 @@ same-unstored s e n = by-event (Same s) (s .device .bus) (s .device .registers) 
 taken-refused : (s : State) (f : Effect) → (busReply (answerTo f (s .device .registers) (s .ram)) .refusal ≡ 0 → ⊥) → Stores f → ⊥
 unfolding answerTo Stores
 taken-refused s Acknowledge h t = t
-taken-refused s Ignore h t = t
+taken-refused s (Ignore why) h t = t
 taken-refused s (Store a x) h t = h refl
 taken-refused s (Load a) h t = t
 
@@ -103,7 +103,7 @@ quiet-if-write s e w = by (effectOf s e) refl
   where
     by : (f : Effect) → effectOf s e ≡ f → Quiet s e
     by Acknowledge p = quiet-same s e (same-unstored s e (unfold Stores in λ t. subst Stores p t))
-    by Ignore p = quiet-same s e (same-unstored s e (unfold Stores in λ t. subst Stores p t))
+    by (Ignore why) p = quiet-same s e (same-unstored s e (unfold Stores in λ t. subst Stores p t))
     by (Store a x) p = w (subst Stores (sym p) (unfold Stores in tt))
     by (Load a) p = quiet-same s e (same-unstored s e (unfold Stores in λ t. subst Stores p t))
 

@@ -39,7 +39,7 @@ fresh-whole = record { masked = fresh-masked; sixteen = refl }
 with-masked : (f : Effect) (r : Registers) → Masked r → Masked (registersWith f r)
 unfolding registersWith
 with-masked Acknowledge r h = h
-with-masked Ignore r h = h
+with-masked (Ignore why) r h = h
 with-masked (Store a x) r h = either Masked (isRegister a) _ _ (stored-masked r (a - 0x3FF0) x h) h
 with-masked (Load a) r h = h
 

@@ -96,7 +96,7 @@ effectOf s e = step (s .device .bus) e .effect
 -- a bus write: the event stores a byte
 unfoldable pub Stores : Effect → Type 0
 Stores Acknowledge = ⊥
-Stores Ignore = ⊥
+Stores (Ignore why) = ⊥
 Stores (Store a x) = Unit
 Stores (Load a) = ⊥
 

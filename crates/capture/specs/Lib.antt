@@ -1,3 +1,4 @@
 pub mod Capture
 pub mod Cuts
+pub mod Outputs
 pub mod Places

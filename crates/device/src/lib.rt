@@ -82,7 +82,7 @@ impl Device {
         Device::fresh()
     }
 
-    // Refusals 1, then 5.
+    // Refusals 1; then 5, 12, 13 or 14.
     pub fn hear(self, ram: &mut [u8], event: Event) -> EventDone
         ensures { λ r. ⌜ eventOutcome r (now (ram .exit)) ≡ hearEvent self (now (ram .entry)) event ⌝ }
     {

@@ -14,6 +14,8 @@ use Rattle.runs.specs.Runs.{end, AsMade}
 use Rattle.runs.proofs.Laws.{kept-by-each, end-read, log-read}
 use Rattle.cells.specs.Reading.{value}
 use Rattle.refusals.specs.Refusals.{numberOf, refused, Verdict, passed, failed}
+use Rattle.refusals.specs.declared.Unheard.{Unheard}
+use Rattle.refusals.specs.declared.Unheard.the-variants as unheard
 use Rattle.refusals.specs.declared.Refusal.{Refusal}
 use Rattle.refusals.specs.declared.Refusal.the-variants.{RamLength, NotAcknowledged}
 use Rattle.refusals.proofs.Laws.{not-zero}
@@ -27,7 +29,10 @@ use Rattle.bus.specs.declared.Event.{Event}
 use Rattle.bus.specs.declared.Event.the-variants.{Start, Byte, Fetch, Stop}
 use Rattle.bus.specs.declared.Effect.{Effect}
 use Rattle.bus.specs.declared.Effect.the-variants.{Acknowledge, Ignore, Store, Load}
-use Rattle.bus.specs.Bus.{eventOf, goes, byteAt, fetchAt, step, registersWith, ramWith, answerTo, BusOutcome, taken, busEvent}
+use Rattle.bus.specs.Unheard.{Applies, byte-idle, fetch-idle, unknown-slave, byte-deaf, fetch-deaf, byte-reading, fetch-slave, fetch-high, fetch-low, fetch-write, stateAfter}
+use Rattle.bus.specs.Bus.{eventOf, step, registersWith, ramWith, answerTo, BusOutcome, taken, busEvent}
+use Rattle.bus.proofs.Claims.{reasons}
+use Rattle.bus.proofs.Unheard.{bus, ignored, Because, because, at-least-five}
 use Rattle.bus.proofs.Laws.{by-event, busEvent-length, with-sixteen, busEvent-sixteen}
 use Rattle.line.proofs.Laws.{paint-length}
 use Rattle.device.specs.declared.Device.{Device}
@@ -41,60 +46,16 @@ use Rattle.pixel.specs.Ask.{askPixel}
 use Rattle.layout.specs.Layout.{busAt, registersAt, registersLength, nextAt, frameAt, recordLength, part, put, stateNumber, busBytes, nextBytes, frameBytes, registersIn, deviceIn}
 use Rattle.layout.specs.FeedLayout.{feedLength, feedIn}
 use Rattle.layout.proofs.Laws.{withBus, withRegisters, read-back, event-back, deaf-back, draw-back, start-back, feed-back}
-use Rattle.interface.specs.Interface.{answerOf, notTaken, isRecord, Done, freshOn, BusDone, ignoredOn, heardOn, busOn, startedOn, startOn, DrawDone, drawnOn, drawOn, pixelOn, isFeed, chunkMax, FeedMade, feedFreshOn, ChipBytes, busCalls, FeedDone, chunkFedOn, fedOnBy, verdictOn, rightLengths, feedOn, notFedOn, Crossing}
+use Rattle.interface.specs.Interface.{answerOf, notTaken, isRecord, Done, freshOn, BusDone, ignoredOn, heardOn, recordAfter, busOn, startedOn, startOn, DrawDone, drawnOn, drawOn, pixelOn, isFeed, chunkMax, FeedMade, feedFreshOn, ChipBytes, busCalls, FeedDone, chunkFedOn, fedOnBy, verdictOn, rightLengths, feedOn, notFedOn, Crossing}
 use Rattle.interface.proofs.Laws.{if-taken, ignored-same, fresh-not, bus-is, bus-not-record, bus-not-kind, start-not, draw-not, cell-not, pixel-not, feed-fresh-not, feed-not, cell-is, pixel-is, feed-tests, feed-is}
 
 -- ---- an event that is not acknowledged
-
-abbrev isIgnore : Effect → Bool
-isIgnore Acknowledge = false
-isIgnore Ignore = true
-isIgnore (Store a x) = false
-isIgnore (Load a) = false
 
 abbrev isByte : Event → Bool
 isByte Start = false
 isByte (Byte x) = true
 isByte Fetch = false
 isByte Stop = false
-
--- how a bus that does not acknowledge goes on
-data Ignored (b : Bus) (e : Event) (next : Bus) : Type 0 where
-  stays : next ≡ b → Ignored b e next
-  deafens : T (isByte e) → b .state ≡ Slave → next ≡ record { state = Deaf; counter = b .counter } → Ignored b e next
-
-how-byte : (s : BusState) (c x : ℕ) → let b : Bus = record { state = s; counter = c } in T (isIgnore (byteAt s b x .effect)) → Ignored b (Byte x) (byteAt s b x .bus)
-how-byte Idle c x t = stays refl
-how-byte Deaf c x t = stays refl
-how-byte Slave c x t = by (eqb x 0xBA) (eqb x 0xBB) t
-  where
-    b : Bus
-    b = record { state = Slave; counter = c }
-
-    by : (p q : Bool) → let s : Step = cond p (goes b High Acknowledge) (cond q (goes b Read Acknowledge) (goes b Deaf Ignore)) in T (isIgnore (s .effect)) → Ignored b (Byte x) (s .bus)
-    by true q t = absurd t
-    by false true t = absurd t
-    by false false t = deafens tt refl refl
-how-byte High c x t = absurd t
-how-byte (Low high) c x t = absurd t
-how-byte Write c x t = absurd t
-how-byte Read c x t = stays refl
-
-how-fetch : (s : BusState) (c : ℕ) → let b : Bus = record { state = s; counter = c } in T (isIgnore (fetchAt s b .effect)) → Ignored b Fetch (fetchAt s b .bus)
-how-fetch Idle c t = stays refl
-how-fetch Deaf c t = stays refl
-how-fetch Slave c t = stays refl
-how-fetch High c t = stays refl
-how-fetch (Low high) c t = stays refl
-how-fetch Write c t = stays refl
-how-fetch Read c t = absurd t
-
-how : (b : Bus) (e : Event) → T (isIgnore (step b e .effect)) → Ignored b e (step b e .bus)
-unfolding step
-how b Start t = absurd t
-how b (Byte x) t = how-byte (b .state) (b .counter) x t
-how b Fetch t = how-fetch (b .state) (b .counter) t
-how b Stop t = absurd t
 
 byte-kind : (kind byte : ℕ) → T (isByte (eventOf kind byte)) → kind ≡ 1
 byte-kind kind byte = by (eqb kind 0) (eqb kind 1) (eqb kind 2) refl
@@ -118,20 +79,32 @@ sixteen xs h = simp (length-take, length-drop) (omega arith)
 pub heard-sixteen : (xs ram : List ℕ) (e : Event) → length xs ≡ recordLength → length (busEvent (deviceIn xs .bus) (deviceIn xs .registers) ram e .registers .bytes) ≡ registersLength
 heard-sixteen xs ram e h = busEvent-sixteen (deviceIn xs .bus) (deviceIn xs .registers) ram e ∙ sixteen xs h
 
-ignored-back : (xs : List ℕ) (e : Event) (next : Bus) → length xs ≡ recordLength → Ignored (deviceIn xs .bus) e next
-    → deviceIn (ignoredOn (next .state) xs) ≡ After xs next (deviceIn xs .registers)
-ignored-back xs e next h (stays p) = rw p (ap deviceIn (ignored-same xs))
-ignored-back xs e next h (deafens t q p) = rw p (deaf-back xs h)
+-- not acknowledged, for a reason
+module _ (xs : List ℕ) where
+  abbrev state : BusState
+  state = deviceIn xs .bus .state
+
+  ignored-is : (why : Unheard) → ignoredOn (stateAfter why state) xs ≡ recordAfter why xs
+  ignored-is unheard.Idle = ignored-same xs
+  ignored-is unheard.NotAddressed = refl
+  ignored-is unheard.Reading = ignored-same xs
+  ignored-is unheard.Writing = ignored-same xs
+
+  unheard-back : (why : Unheard) → length xs ≡ recordLength → deviceIn (recordAfter why xs) ≡ withBus (bus (stateAfter why state) (deviceIn xs .bus .counter)) (deviceIn xs)
+  unheard-back unheard.Idle h = refl
+  unheard-back unheard.NotAddressed h = deaf-back xs h
+  unheard-back unheard.Reading h = refl
+  unheard-back unheard.Writing h = refl
 
 -- by what the step asks of the cells
-heard-back : (xs ram : List ℕ) (next : Bus) (f : Effect) → length xs ≡ recordLength
-    → (T (isIgnore f) → deviceIn (ignoredOn (next .state) xs) ≡ After xs next (deviceIn xs .registers))
+heard-back : (xs ram : List ℕ) (e : Event) (next : Bus) (f : Effect) → length xs ≡ recordLength → Because (deviceIn xs .bus) e next f
     → deviceIn (heardOn xs (taken (record { bus = next; effect = f }) (deviceIn xs .registers) ram) .device) ≡ After xs next (registersWith f (deviceIn xs .registers))
-unfolding heardOn taken registersWith answerTo
-heard-back xs ram next Acknowledge h i = event-back next (deviceIn xs .registers) xs (sixteen xs h) h
-heard-back xs ram next Ignore h i = i tt
-heard-back xs ram next (Store a x) h i = event-back next (registersWith (Store a x) (deviceIn xs .registers)) xs (with-sixteen (Store a x) (deviceIn xs .registers) ∙ sixteen xs h) h
-heard-back xs ram next (Load a) h i = event-back next (deviceIn xs .registers) xs (sixteen xs h) h
+unfolding heardOn taken registersWith answerTo Because
+heard-back xs ram e next Acknowledge h k = event-back next (deviceIn xs .registers) xs (sixteen xs h) h
+heard-back xs ram e next (Ignore why) h k =
+    rw (not-zero (NotAcknowledged why), k .1) (ap deviceIn (ignored-is xs why) ∙ unheard-back xs why h)
+heard-back xs ram e next (Store a x) h k = event-back next (registersWith (Store a x) (deviceIn xs .registers)) xs (with-sixteen (Store a x) (deviceIn xs .registers) ∙ sixteen xs h) h
+heard-back xs ram e next (Load a) h k = event-back next (deviceIn xs .registers) xs (sixteen xs h) h
 
 cross-bus : (xs ram : List ℕ) (kind byte : ℕ) → length xs ≡ recordLength → kind ≤ 3
     → deviceIn (busOn xs ram kind byte .device) ≡ hearEvent (deviceIn xs) ram (eventOf kind byte) .device
@@ -142,7 +115,7 @@ cross-bus xs ram kind byte h k =
     ap (λ (r : BusDone). deviceIn (r .device)) (sym (bus-is xs ram kind byte h k))
     ∙ by-event (λ (o : BusOutcome). deviceIn (heardOn xs o .device) ≡ After xs (o .bus) (o .registers)) (deviceIn xs .bus) (deviceIn xs .registers) ram e
     (ap deviceIn (ignored-same xs))
-    (heard-back xs ram (s .bus) (s .effect) h (λ t. ignored-back xs e (s .bus) h (how (deviceIn xs .bus) e t)))
+    (heard-back xs ram e (s .bus) (s .effect) h (because (deviceIn xs .bus) e))
 
 -- ---- the record after a frame start and a draw
 
@@ -197,19 +170,28 @@ draw-cases xs ram font line h =
 
 -- ---- a refused event
 
-silent-by : (xs ram : List ℕ) (next : Bus) (f : Effect) → (T (isIgnore f) → ignoredOn (next .state) xs ≡ xs)
+-- for whatever reason but an unknown slave address no byte changes
+unheard-still : (xs : List ℕ) {why : Unheard} {s : BusState} {e : Event} → Applies why s e → deviceIn xs .bus .state ≡ s → (T (isByte e) → s ≡ Slave → ⊥)
+    → recordAfter why xs ≡ xs
+unheard-still xs (byte-idle x) p u = refl
+unheard-still xs fetch-idle p u = refl
+unheard-still xs (unknown-slave x m n) p u = absurd (u tt refl)
+unheard-still xs (byte-deaf x) p u = ap (λ (s : BusState). ignoredOn s xs) (sym p) ∙ ignored-same xs
+unheard-still xs fetch-deaf p u = ap (λ (s : BusState). ignoredOn s xs) (sym p) ∙ ignored-same xs
+unheard-still xs (byte-reading x) p u = refl
+unheard-still xs fetch-slave p u = refl
+unheard-still xs fetch-high p u = refl
+unheard-still xs (fetch-low high) p u = refl
+unheard-still xs fetch-write p u = refl
+
+silent-by : (xs ram : List ℕ) (e : Event) (next : Bus) (f : Effect) → (T (isByte e) → deviceIn xs .bus .state ≡ Slave → ⊥) → Because (deviceIn xs .bus) e next f
     → (taken (record { bus = next; effect = f }) (deviceIn xs .registers) ram .reply .refusal ≡ 0 → ⊥)
     → heardOn xs (taken (record { bus = next; effect = f }) (deviceIn xs .registers) ram) .device ≡ xs
-unfolding heardOn taken answerTo
-silent-by xs ram next Acknowledge i n = absurd (n refl)
-silent-by xs ram next Ignore i n = i tt
-silent-by xs ram next (Store a x) i n = absurd (n refl)
-silent-by xs ram next (Load a) i n = absurd (n refl)
-
-ignored-silent : (xs : List ℕ) (e : Event) (next : Bus) → (T (isByte e) → deviceIn xs .bus .state ≡ Slave → ⊥) → Ignored (deviceIn xs .bus) e next
-    → ignoredOn (next .state) xs ≡ xs
-ignored-silent xs e next u (stays p) = rw p (ignored-same xs)
-ignored-silent xs e next u (deafens t q p) = absurd (u t q)
+unfolding heardOn taken answerTo Because
+silent-by xs ram e next Acknowledge u k n = absurd (n refl)
+silent-by xs ram e next (Ignore why) u k n = rw (not-zero (NotAcknowledged why), k .1) (ignored-is xs why ∙ unheard-still xs (k .0) refl u)
+silent-by xs ram e next (Store a x) u k n = absurd (n refl)
+silent-by xs ram e next (Load a) u k n = absurd (n refl)
 
 silence : (xs ram : List ℕ) (kind byte : ℕ) → (kind ≡ 1 → deviceIn xs .bus .state ≡ Slave → length ram ≡ 1024 → ⊥)
     → (hearEvent (deviceIn xs) ram (eventOf kind byte) .reply .refusal ≡ 0 → ⊥) → busOn xs ram kind byte .device ≡ xs
@@ -231,8 +213,7 @@ silence xs ram kind byte u = by (eqb (length xs) recordLength && not (ltb 3 kind
     by false t q n = refl
     by true true q n = ignored-same xs
     by true false q n =
-        silent-by xs ram (s .bus) (s .effect)
-        (λ t. ignored-silent xs e (s .bus) (λ c d. u (byte-kind kind byte c) d (eqb-true _ _ (not-false _ q))) (how (deviceIn xs .bus) e t)) n
+        silent-by xs ram e (s .bus) (s .effect) (λ c d. u (byte-kind kind byte c) d (eqb-true _ _ (not-false _ q))) (because (deviceIn xs .bus) e) n
 
 start-silence : (xs : List ℕ) (lines : ℕ) → (startFrame (deviceIn xs) lines .reply .refusal ≡ 0 → ⊥) → startOn xs lines .device ≡ xs
 unfolding startOn
@@ -244,9 +225,24 @@ draw-silence xs ram font line n =
     if-taken (λ (r : DrawDone). r .device ≡ xs) (isRecord xs) _ _ (λ e. draw-cases xs ram font line (eqb-true _ _ e) .1 n) refl
 
 deafness : (xs ram : List ℕ) (byte : ℕ) → length xs ≡ recordLength → length ram ≡ 1024 → deviceIn xs .bus .state ≡ Slave → (byte ≡ 0xBA → ⊥) → (byte ≡ 0xBB → ⊥)
-    → busOn xs ram 1 byte ≡ record { device = set xs busAt 1; ram = ram; answer = answerOf (refused NotAcknowledged) }
+    → busOn xs ram 1 byte ≡ record { device = set xs busAt 1; ram = ram; answer = answerOf (refused (NotAcknowledged unheard.NotAddressed)) }
 unfolding busOn heardOn hearEvent busEvent taken step ramWith answerTo
 deafness xs ram byte h k s a b = rw (eq-eqb _ _ h, eq-eqb _ _ k, s, ne-eqb _ _ a, ne-eqb _ _ b)
+
+unheard-by : (xs ram : List ℕ) (kind byte : ℕ) (why : Unheard) → length xs ≡ recordLength → kind ≤ 3
+    → hearEvent (deviceIn xs) ram (eventOf kind byte) .reply .refusal ≡ numberOf (NotAcknowledged why)
+    → busOn xs ram kind byte ≡ record { device = recordAfter why xs; ram = ram; answer = answerOf (refused (NotAcknowledged why)) }
+unfolding heardOn hearEvent taken registersWith ramWith answerTo
+unheard-by xs ram kind byte why h k p =
+    let b : Bus = deviceIn xs .bus in
+    let r : Registers = deviceIn xs .registers in
+    let e : Event = eventOf kind byte in
+    sym (bus-is xs ram kind byte h k)
+    ∙ by-event (λ (o : BusOutcome). o .reply .refusal ≡ numberOf (NotAcknowledged why) → heardOn xs o ≡ record { device = recordAfter why xs; ram = ram; answer = answerOf (refused (NotAcknowledged why)) })
+    b r ram e
+    (λ q. absurd (omega (arith, at-least-five why, q)))
+    (rw (ignored (b .counter) (reasons .only why b r ram e p)) (λ q. rw (not-zero (NotAcknowledged why), ignored-is xs why)))
+    p
 
 -- ---- lengths
 
@@ -496,4 +492,5 @@ crossing =
       silent-bus = silence;
       silent-feed = feed-silence;
       deaf = deafness;
+      unheard = unheard-by;
     }

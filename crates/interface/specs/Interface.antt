@@ -9,12 +9,15 @@ use lib.Dec.{eqb, ltb}
 use lib.ListN.{length, set, drop}
 use Rattle.limits.specs.Limits.{ramLength}
 use Rattle.runs.specs.Runs.{Machine, end}
+use Rattle.refusals.specs.declared.Unheard.{Unheard}
+use Rattle.refusals.specs.declared.Unheard.the-variants as unheard
 use Rattle.refusals.specs.declared.Refusal.{Refusal}
 use Rattle.refusals.specs.declared.Refusal.the-variants.{NotAcknowledged}
-use Rattle.refusals.specs.Refusals.{Reply, refused, Verdict, passed, failed}
+use Rattle.refusals.specs.Refusals.{numberOf, Reply, refused, Verdict, passed, failed}
 use Rattle.bus.specs.declared.BusState.{BusState}
 use Rattle.bus.specs.declared.BusState.the-variants.{Slave}
 use Rattle.bus.specs.Bus.{eventOf, BusOutcome}
+use Rattle.bus.specs.Unheard.{deafens}
 use Rattle.device.specs.Device.{freshDevice, EventOutcome, hearEvent, StartOutcome, startFrame, DrawOutcome, drawLine, askCell}
 use Rattle.pixel.specs.Ask.{askPixel}
 use Rattle.capture.specs.declared.Feed.{Feed}
@@ -199,6 +202,12 @@ feedOn xs fs ram chunk out =
 unfoldable pub fedEventsOn : List ℕ → List ℕ → List ℕ → List ℕ → List ℕ → List Logged
 fedEventsOn xs fs ram chunk out = cond (rightLengths xs fs chunk) (eventsBy (verdictOn fs ram chunk out) (feedIn fs) chunk) []
 
+-- ---- the record after an event that is not acknowledged (document 02, K6)
+
+-- by the reason: byte 0 is 1, deaf, after 12; else every byte stays
+abbrev pub recordAfter : Unheard → List ℕ → List ℕ
+recordAfter why xs = cond (deafens why) (set xs busAt 1) xs
+
 -- ---- the claim: each function does on the bytes exactly what the device's function does on the record that they are read as
 
 pub record Crossing : Type 0 where
@@ -257,7 +266,11 @@ pub record Crossing : Type 0 where
       → (hearEvent (deviceIn xs) ram (eventOf kind byte) .reply .refusal ≡ 0 → ⊥) → busOn xs ram kind byte .device ≡ xs
   -- .. except deaf after an unknown slave address: byte 0 alone
   pub deaf : (xs ram : List ℕ) (byte : ℕ) → length xs ≡ recordLength → length ram ≡ ramLength → deviceIn xs .bus .state ≡ Slave → (byte ≡ 0xBA → ⊥) → (byte ≡ 0xBB → ⊥)
-      → busOn xs ram 1 byte ≡ record { device = set xs busAt 1; ram = ram; answer = answerOf (refused NotAcknowledged) }
+      → busOn xs ram 1 byte ≡ record { device = set xs busAt 1; ram = ram; answer = answerOf (refused (NotAcknowledged unheard.NotAddressed)) }
+  -- by the refusal's number: 5, 13 and 14 write no byte; 12 sets byte 0 to 1, and no other (in a deaf device it is 1 already: silent-bus)
+  pub unheard : (xs ram : List ℕ) (kind byte : ℕ) (why : Unheard) → length xs ≡ recordLength → kind ≤ 3
+      → hearEvent (deviceIn xs) ram (eventOf kind byte) .reply .refusal ≡ numberOf (NotAcknowledged why)
+      → busOn xs ram kind byte ≡ record { device = recordAfter why xs; ram = ram; answer = answerOf (refused (NotAcknowledged why)) }
   -- a feed that its tests refuse, before any event, writes no byte of any buffer
   pub silent-feed : (xs fs ram chunk out : List ℕ) (r : Refusal) → length xs ≡ recordLength → length fs ≡ feedLength → length chunk ≤ chunkMax
       → verdictOn fs ram chunk out ≡ failed r → feedOn xs fs ram chunk out ≡ notFedOn xs fs ram out (answerOf (refused r))

@@ -64,7 +64,6 @@ pub extern "C" fn osd_bus(device: &mut [u8], ram: &mut [u8], kind: u8, byte: u8)
         if state == bus_bytes::READING {
             return bus_bytes::read_next(device, ram);
         }
-        return bus_bytes::refuse(Refusal::NotAcknowledged);
     }
     if kind == bus_bytes::HOST_BYTE {
         if state == bus_bytes::WRITING {

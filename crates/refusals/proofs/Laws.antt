@@ -3,6 +3,7 @@
 use mathlib.Core.Path.{_≡_, refl, subst}
 use mathlib.Core.Bool.{false}
 use lib.Dec.{eqb}
+use Rattle.refusals.specs.declared.Unheard.the-variants.{Idle, NotAddressed, Reading, Writing}
 use Rattle.refusals.specs.declared.Refusal.{Refusal}
 use Rattle.refusals.specs.declared.Refusal.the-variants.{RamLength, FontLength, LineLength, NoLine, NotAcknowledged, FrameLines, BenchLength, CellRange, FeedShut, OutputRoom, PixelRange}
 use Rattle.refusals.specs.Refusals.{numberOf, Verdict, passed, failed}
@@ -21,7 +22,10 @@ not-zero RamLength = refl
 not-zero FontLength = refl
 not-zero LineLength = refl
 not-zero NoLine = refl
-not-zero NotAcknowledged = refl
+not-zero (NotAcknowledged Idle) = refl
+not-zero (NotAcknowledged NotAddressed) = refl
+not-zero (NotAcknowledged Reading) = refl
+not-zero (NotAcknowledged Writing) = refl
 not-zero FrameLines = refl
 not-zero BenchLength = refl
 not-zero CellRange = refl

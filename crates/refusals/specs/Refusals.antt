@@ -3,6 +3,7 @@
 -- Assumes nothing.
 use Prim.Native.Nat.{ℕ}
 use mathlib.Core.Bool.{Bool, cond}
+use Rattle.refusals.specs.declared.Unheard.the-variants.{Idle, NotAddressed, Reading, Writing}
 use Rattle.refusals.specs.declared.Refusal.{Refusal}
 use Rattle.refusals.specs.declared.Refusal.the-variants.{RamLength, FontLength, LineLength, NoLine, NotAcknowledged, FrameLines, BenchLength, CellRange, FeedShut, OutputRoom, PixelRange}
 
@@ -11,13 +12,16 @@ numberOf RamLength = 1
 numberOf FontLength = 2
 numberOf LineLength = 3
 numberOf NoLine = 4
-numberOf NotAcknowledged = 5
+numberOf (NotAcknowledged Idle) = 5
 numberOf FrameLines = 6
 numberOf BenchLength = 7
 numberOf CellRange = 8
 numberOf FeedShut = 9
 numberOf OutputRoom = 10
 numberOf PixelRange = 11
+numberOf (NotAcknowledged NotAddressed) = 12
+numberOf (NotAcknowledged Reading) = 13
+numberOf (NotAcknowledged Writing) = 14
 
 -- an answer as the paper has it: the refusal's number, 0 where the call is accepted, and the answer's own number
 pub record Reply : Type 0 where
@@ -27,13 +31,14 @@ pub record Reply : Type 0 where
 abbrev pub accepted : ℕ → Reply
 accepted v = record { refusal = 0; value = v }
 
--- the number beside a refusal, unless the call gives one of its own (9 for a bad kind does): 0, or 255 for the byte of 5
+-- the number beside a refusal, unless the call gives one of its own (9 for a bad kind does): 0, or 255 for the byte of an event that is
+-- not acknowledged
 abbrev pub valueIn : Refusal → ℕ
 valueIn RamLength = 0
 valueIn FontLength = 0
 valueIn LineLength = 0
 valueIn NoLine = 0
-valueIn NotAcknowledged = 255
+valueIn (NotAcknowledged why) = 255
 valueIn FrameLines = 0
 valueIn BenchLength = 0
 valueIn CellRange = 0

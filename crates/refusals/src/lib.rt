@@ -1,6 +1,19 @@
 // The refusals of document 01's table and of document 02's requests, each with its number.
 ghost use mathlib.Core.Path.{_≡_};
+ghost use Rattle.refusals.specs.declared.Refusal.the-variants.{NotAcknowledged};
 ghost use Rattle.refusals.specs.Refusals.{numberOf, valueIn};
+
+// Why an event is not acknowledged.
+pub enum Unheard {
+    // 5: a host byte or a fetch while idle
+    Idle,
+    // 12: an unknown slave address, or any byte or fetch while deaf
+    NotAddressed,
+    // 13: a host byte while reading
+    Reading,
+    // 14: a fetch while the device waits for an address or for write data
+    Writing,
+}
 
 pub enum Refusal {
     // 1: the lent RAM is not 1,024 bytes
@@ -11,8 +24,8 @@ pub enum Refusal {
     LineLength,
     // 4: no frame, or all its lines drawn
     NoLine,
-    // 5: the event is not acknowledged
-    NotAcknowledged,
+    // 5, 12, 13, 14: the event is not acknowledged
+    NotAcknowledged(Unheard),
     // 6: frame lines 0 or above 2,048
     FrameLines,
     // 7: bench input not 5,650 bytes
@@ -27,6 +40,19 @@ pub enum Refusal {
     PixelRange,
 }
 
+impl Unheard {
+    fn number(self) -> u8
+        ensures { λ r. ⌜ r ≡ numberOf (NotAcknowledged self) ⌝ }
+    {
+        match self {
+            Unheard::Idle => 5,
+            Unheard::NotAddressed => 12,
+            Unheard::Reading => 13,
+            Unheard::Writing => 14,
+        }
+    }
+}
+
 impl Refusal {
     pub fn number(self) -> u8
         ensures { λ r. ⌜ r ≡ numberOf self ⌝ }
@@ -36,7 +62,7 @@ impl Refusal {
             Refusal::FontLength => 2,
             Refusal::LineLength => 3,
             Refusal::NoLine => 4,
-            Refusal::NotAcknowledged => 5,
+            Refusal::NotAcknowledged(why) => why.number(),
             Refusal::FrameLines => 6,
             Refusal::BenchLength => 7,
             Refusal::CellRange => 8,
@@ -46,7 +72,7 @@ impl Refusal {
         }
     }
 
-    // The number beside a refusal that has none of its own: 255 for the byte of 5, else 0.
+    // The number beside a refusal that has none of its own: 255 for an event that is not acknowledged, else 0.
     pub fn value(self) -> u8
         ensures { λ r. ⌜ r ≡ valueIn self ⌝ }
     {
@@ -55,7 +81,7 @@ impl Refusal {
             Refusal::FontLength => 0,
             Refusal::LineLength => 0,
             Refusal::NoLine => 0,
-            Refusal::NotAcknowledged => 255,
+            Refusal::NotAcknowledged(_) => 255,
             Refusal::FrameLines => 0,
             Refusal::BenchLength => 0,
             Refusal::CellRange => 0,

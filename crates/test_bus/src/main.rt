@@ -52,7 +52,7 @@ fn heard(device: Device, ram: &mut [u8], kind: u8, byte: u8) -> Device {
 fn show(kind: u8, byte: u8, refusal: u8, answer: u16) {
     show_event(kind, byte);
     io::write_all(1, b": ");
-    test_script::print_hex(refusal as u64, 1, b' ');
+    test_script::print_decimal(refusal as u64, b' ');
     test_script::print_hex(answer as u64, 2, b'\n');
 }
 

@@ -9,6 +9,10 @@
 use runner::library::Linked;
 use runner::sessions::{corrupted, play, DEFAULT_SEED, DEFAULT_SESSIONS};
 use runner::{captures, frames, linked, pages};
+use std::process::exit;
+
+/// Refusals of a bus event that is not acknowledged: idle, not addressed, reading, writing. Every session meets each of them.
+const NOT_ACKNOWLEDGED: [usize; 4] = [5, 12, 13, 14];
 
 fn main() {
     let mut words = std::env::args().skip(1);
@@ -42,6 +46,10 @@ fn main() {
     println!("seeds {seed} to {}: {sessions} sessions", seed + sessions - 1);
     for (refusal, count) in counts.iter().enumerate().filter(|(_, &count)| count > 0) {
         println!("  refusal {refusal:3}: {count:8} answers");
+    }
+    if let Some(refusal) = NOT_ACKNOWLEDGED.into_iter().find(|&refusal| counts[refusal] == 0) {
+        println!("no call was refused with {refusal}");
+        exit(1);
     }
     println!("{} calls compared, 0 differences; {made_up} calls on corrupted records, 0 faults", counts.iter().sum::<u64>());
     println!(

@@ -21,8 +21,8 @@ returns-2 c =
 returns-3 : tie.Need-returns-3
 unfolding taken registersWith ramWith answerTo
 returns-3 c =
-    busEvent-heard _ _ _ _ (c .before .before .before .before .if1 .left)
-    (c .before .before .before .take .result) (c .before .before .before .take .ensures) (c .enum-told2 .given .1)
+    let t = c .before .before .before .before in
+    busEvent-heard _ _ _ _ (t .before .if1 .left) (t .take .result) (t .take .ensures) (c .before .effect .given .1)
 
 returns-4 : tie.Need-returns-4
 unfolding taken answerTo
@@ -31,7 +31,7 @@ returns-4 c =
     let e = c .before .before .store .ensures in
     (λ i. record { bus = t .take .result .bus; registers = e .0 i; ram = e .1 i; reply = accepted 0 })
     ∙ busEvent-heard _ _ _ _ (t .before .if1 .left) (t .take .result) (t .take .ensures)
-    (c .before .before .before .before .before .effect .given .1)
+    (c .before .before .before .before .before .effect2 .given .1)
 
 returns-5 : tie.Need-returns-5
 unfolding taken registersWith ramWith answerTo
@@ -39,7 +39,7 @@ returns-5 c =
     let t = c .before .before .before .before .before .before in
     let a = t .before .before .before .args in
     (λ i. record { bus = t .take .result .bus; registers = a .registers; ram = now (a .ram); reply = accepted (c .load .ensures i) })
-    ∙ busEvent-heard _ _ _ _ (t .before .if1 .left) (t .take .result) (t .take .ensures) (c .before .before .before .effect2 .given .1)
+    ∙ busEvent-heard _ _ _ _ (t .before .if1 .left) (t .take .result) (t .take .ensures) (c .before .before .before .effect3 .given .1)
 
 pub hear-spec : {M : Type 1} → statement M
 hear-spec =

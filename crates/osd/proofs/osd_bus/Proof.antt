@@ -4,7 +4,7 @@ use Prim.Native.Nat.{ℕ}
 use mathlib.Core.Path.{sym, ap}
 use borrow.Author.Needs.{needs}
 use Rattle.interface.proofs.Laws.{bus-not-record, bus-not-kind}
-use Rattle.bus_bytes.proofs.Events.{bus-refused, bus-heard, not-fetched}
+use Rattle.bus_bytes.proofs.Events.{bus-refused, bus-heard}
 use Rattle.bus.specs.declared.Event.the-variants.{Byte, Fetch}
 use Rattle.bus.specs.Bus.{eventOf}
 use Rattle.osd.proofs.osd_bus.Statement.{statement}
@@ -30,14 +30,6 @@ returns-4 c =
 
 returns-5 : tie.Need-returns-5
 returns-5 c =
-    let t = c .before .before in
-    let l = t .before .before in
-    let b = (l .before .before .before .before .before .args .byte) in
-    bus-heard _ _ _ b (l .before .before .if1 .left) (l .before .if2 .left) Fetch _
-    (l .if3 .left) (ap (λ (n : ℕ). eventOf n b) (sym (t .if4 .taken))) (not-fetched _ _ _ (c .before .if5 .left) (c .refuse2 .ensures))
-
-returns-6 : tie.Need-returns-6
-returns-6 c =
     let k = c .before .before .before .before in
     let t = k .before .before .before .before in
     let l = t .before .before .before in
@@ -45,8 +37,8 @@ returns-6 c =
     bus-heard _ _ _ b (l .before .before .if1 .left) (l .before .if2 .left) (Byte b) _
     (l .if3 .left) (ap (λ (n : ℕ). eventOf n b) (sym (t .if6 .taken))) (k .write-next .ensures)
 
-returns-7 : tie.Need-returns-7
-returns-7 c = c .before .before .before .before .hear .ensures
+returns-6 : tie.Need-returns-6
+returns-6 c = c .before .before .before .before .hear .ensures
 
 pub osd-bus-spec : {M : Type 1} → statement M
 osd-bus-spec =
@@ -62,12 +54,10 @@ osd-bus-spec =
     (λ c. search needs)
     returns-4
     (λ c κs. search needs)
+    (λ c. search needs)
+    (λ c. search needs)
     returns-5
     (λ c κs. search needs)
     (λ c. search needs)
     (λ c. search needs)
-    returns-6
-    (λ c κs. search needs)
-    (λ c. search needs)
-    (λ c. search needs)
-    returns-7)
+    returns-6)

@@ -7,16 +7,16 @@ use Rattle.bus.proofs.Bus.take_byte.Statement.{statement}
 use Rattle.bus.proofs.Bus.take_byte.Tie as tie
 
 returns : tie.Need-returns
-returns c = c .goes-to .ensures ∙ byte-at _ _ (c .before .enum-told .given .1)
+returns c = c .ignores .ensures ∙ byte-at _ _ (c .before .enum-told .given .1)
 
 returns-2 : tie.Need-returns-2
-returns-2 c = c .goes-to2 .ensures ∙ byte-at _ _ (c .before .enum-told2 .given .1)
+returns-2 c = c .ignores2 .ensures ∙ byte-at _ _ (c .before .enum-told2 .given .1)
 
 returns-3 : tie.Need-returns-3
 returns-3 c = c .take-slave .ensures ∙ byte-at _ _ (c .before .enum-told3 .given .1)
 
 returns-4 : tie.Need-returns-4
-returns-4 c = c .goes-to3 .ensures ∙ byte-at _ _ (c .before .enum-told4 .given .1)
+returns-4 c = c .goes-to .ensures ∙ byte-at _ _ (c .before .enum-told4 .given .1)
 
 returns-5 : tie.Need-returns-5
 returns-5 c = byte-at _ _ (c .before .state .given .1)
@@ -25,7 +25,7 @@ returns-6 : tie.Need-returns-6
 returns-6 c = c .steps-on .ensures ∙ byte-at _ _ (c .before .before .enum-told5 .given .1)
 
 returns-7 : tie.Need-returns-7
-returns-7 c = c .goes-to4 .ensures ∙ byte-at _ _ (c .before .enum-told6 .given .1)
+returns-7 c = c .ignores3 .ensures ∙ byte-at _ _ (c .before .enum-told6 .given .1)
 
 pub take-byte-spec : {M : Type 1} → statement M
 take-byte-spec =

@@ -1,0 +1,212 @@
+-- Why an event is not acknowledged: by what the bus's step asks of the cells.
+-- Assumes nothing.
+use Prim.Native.Nat.{ℕ, _≤_}
+use mathlib.Core.Path.{_≡_, refl, sym, ap, subst, _∙_}
+use mathlib.Core.Bool.{Bool, true, false, cond}
+use mathlib.Core.List.{List}
+use native.Mathlib.Omega.{arith}
+use borrow.Author.Tests.{eq-eqb, ne-eqb, eqb-true, eqb-false}
+use lib.Dec.{eqb}
+use lib.ListN.{length}
+use Rattle.refusals.specs.declared.Unheard.{Unheard}
+use Rattle.refusals.specs.declared.Unheard.the-variants as unheard
+use Rattle.refusals.specs.declared.Refusal.the-variants.{NotAcknowledged}
+use Rattle.refusals.specs.Refusals.{numberOf, refused}
+use Rattle.registers.specs.declared.Registers.{Registers}
+use Rattle.bus.specs.declared.Event.{Event}
+use Rattle.bus.specs.declared.Event.the-variants.{Start, Byte, Fetch, Stop}
+use Rattle.bus.specs.declared.BusState.{BusState}
+use Rattle.bus.specs.declared.BusState.the-variants.{Idle, Deaf, Slave, High, Low, Write, Read}
+use Rattle.bus.specs.declared.Bus.{Bus}
+use Rattle.bus.specs.declared.Effect.{Effect}
+use Rattle.bus.specs.declared.Effect.the-variants.{Acknowledge, Ignore, Store, Load}
+use Rattle.bus.specs.declared.Step.{Step}
+use Rattle.bus.specs.Bus.{BusOutcome, goes, step, ramWith, registersWith, answerTo, busReply, taken, busEvent}
+use Rattle.bus.specs.Unheard.{Applies, byte-idle, fetch-idle, unknown-slave, byte-deaf, fetch-deaf, byte-reading, fetch-slave, fetch-high, fetch-low, fetch-write, stateAfter, Unacknowledged, other-slave, byte-while-idle, byte-while-deaf, byte-while-reading, fetch-while-not-reading, Reasons}
+use Rattle.bus.proofs.Laws.{by-event, busEvent-heard}
+
+abbrev pub bus : BusState → ℕ → Bus
+bus s c = record { state = s; counter = c }
+
+-- where a reason applies, the step is to ignore the event for it
+pub ignored : {why : Unheard} {s : BusState} {e : Event} (c : ℕ) → Applies why s e
+    → step (bus s c) e ≡ goes (bus s c) (stateAfter why s) (Ignore why)
+unfolding step
+ignored c (byte-idle x) = refl
+ignored c fetch-idle = refl
+ignored c (unknown-slave x p q) = rw (ne-eqb _ _ p, ne-eqb _ _ q)
+ignored c (byte-deaf x) = refl
+ignored c fetch-deaf = refl
+ignored c (byte-reading x) = refl
+ignored c fetch-slave = refl
+ignored c fetch-high = refl
+ignored c (fetch-low high) = refl
+ignored c fetch-write = refl
+
+-- and the other way round: a step that ignores an event does so for a reason that applies, and leaves the bus as that reason says
+unfoldable pub Because : Bus → Event → Bus → Effect → Type 0
+Because b e next Acknowledge = Unit
+Because b e next (Ignore why) = Applies why (b .state) e × (next ≡ bus (stateAfter why (b .state)) (b .counter))
+Because b e next (Store a x) = Unit
+Because b e next (Load a) = Unit
+
+because-at : (s : BusState) (c : ℕ) (e : Event) → Because (bus s c) e (step (bus s c) e .bus) (step (bus s c) e .effect)
+unfolding step Because
+because-at s c Start = tt
+because-at Idle c (Byte x) = (byte-idle x, refl)
+because-at Deaf c (Byte x) = (byte-deaf x, refl)
+because-at Slave c (Byte x) = by (eqb x 0xBA) (eqb x 0xBB) refl refl
+  where
+    b : Bus
+    b = bus Slave c
+
+    by : (p q : Bool) → eqb x 0xBA ≡ p → eqb x 0xBB ≡ q
+        → let s : Step = cond p (goes b High Acknowledge) (cond q (goes b Read Acknowledge) (goes b Deaf (Ignore unheard.NotAddressed))) in
+        Because b (Byte x) (s .bus) (s .effect)
+    by true q h k = tt
+    by false true h k = tt
+    by false false h k = (unknown-slave x (eqb-false _ _ h) (eqb-false _ _ k), refl)
+because-at High c (Byte x) = tt
+because-at (Low high) c (Byte x) = tt
+because-at Write c (Byte x) = tt
+because-at Read c (Byte x) = (byte-reading x, refl)
+because-at Idle c Fetch = (fetch-idle, refl)
+because-at Deaf c Fetch = (fetch-deaf, refl)
+because-at Slave c Fetch = (fetch-slave, refl)
+because-at High c Fetch = (fetch-high, refl)
+because-at (Low high) c Fetch = (fetch-low high, refl)
+because-at Write c Fetch = (fetch-write, refl)
+because-at Read c Fetch = tt
+because-at s c Stop = tt
+
+pub because : (b : Bus) (e : Event) → Because b e (step b e .bus) (step b e .effect)
+because b e = because-at (b .state) (b .counter) e
+
+-- ---- reasons by their numbers
+
+pub at-least-five : (why : Unheard) → 5 ≤ numberOf (NotAcknowledged why)
+at-least-five unheard.Idle = omega arith
+at-least-five unheard.NotAddressed = omega arith
+at-least-five unheard.Reading = omega arith
+at-least-five unheard.Writing = omega arith
+
+whyOf : ℕ → Unheard
+whyOf n = cond (eqb n 5) unheard.Idle (cond (eqb n 12) unheard.NotAddressed (cond (eqb n 13) unheard.Reading unheard.Writing))
+
+why-of : (why : Unheard) → whyOf (numberOf (NotAcknowledged why)) ≡ why
+unfolding whyOf
+why-of unheard.Idle = refl
+why-of unheard.NotAddressed = refl
+why-of unheard.Reading = refl
+why-of unheard.Writing = refl
+
+-- no two reasons have one number
+same-number : (why other : Unheard) → numberOf (NotAcknowledged why) ≡ numberOf (NotAcknowledged other) → why ≡ other
+same-number why other e = sym (why-of why) ∙ ap whyOf e ∙ why-of other
+
+-- ---- the claim
+
+-- the reason that applies is the answer
+answers : (why : Unheard) (b : Bus) (r : Registers) (ram : List ℕ) (e : Event) → length ram ≡ 1024 → Applies why (b .state) e
+    → busEvent b r ram e ≡ record { bus = bus (stateAfter why (b .state)) (b .counter); registers = r; ram = ram; reply = refused (NotAcknowledged why) }
+unfolding taken registersWith ramWith answerTo
+answers why b r ram e h a = sym (busEvent-heard b r ram e h (goes b (stateAfter why (b .state)) (Ignore why)) (sym (ignored (b .counter) a)) refl)
+
+-- by what the step asks of the cells
+module _ (b : Bus) (r : Registers) (ram : List ℕ) (e : Event) where
+  only-by : (why : Unheard) (next : Bus) (f : Effect) → Because b e next f
+      → busReply (answerTo f r ram) .refusal ≡ numberOf (NotAcknowledged why) → Applies why (b .state) e
+  unfolding answerTo Because
+  only-by why next Acknowledge k p = absurd (omega (arith, at-least-five why, p))
+  only-by why next (Ignore other) k p = subst (λ (w : Unheard). Applies w (b .state) e) (same-number other why p) (k .0)
+  only-by why next (Store a x) k p = absurd (omega (arith, at-least-five why, p))
+  only-by why next (Load a) k p = absurd (omega (arith, at-least-five why, p))
+
+  some-by : (next : Bus) (f : Effect) → Because b e next f → (busReply (answerTo f r ram) .refusal ≡ 0 → ⊥) → (why : Unheard) × Applies why (b .state) e
+  unfolding answerTo Because
+  some-by next Acknowledge k n = absurd (n refl)
+  some-by next (Ignore why) k n = (why, k .0)
+  some-by next (Store a x) k n = absurd (n refl)
+  some-by next (Load a) k n = absurd (n refl)
+
+  why-only : (why : Unheard) → busEvent b r ram e .reply .refusal ≡ numberOf (NotAcknowledged why) → Applies why (b .state) e
+  unfolding taken
+  why-only why =
+      by-event (λ (o : BusOutcome). o .reply .refusal ≡ numberOf (NotAcknowledged why) → Applies why (b .state) e) b r ram e
+      (λ p. absurd (omega (arith, at-least-five why, p)))
+      (only-by why (step b e .bus) (step b e .effect) (because b e))
+
+  why-some : length ram ≡ 1024 → (busEvent b r ram e .reply .refusal ≡ 0 → ⊥) → (why : Unheard) × Applies why (b .state) e
+  unfolding busEvent taken
+  why-some h = rw (eq-eqb _ _ h) (some-by (step b e .bus) (step b e .effect) (because b e))
+
+  why-none : (why : Unheard) → busEvent b r ram e .reply .refusal ≡ 0 → Applies why (b .state) e → ⊥
+  unfolding taken answerTo
+  why-none why p a =
+      by-event (λ (o : BusOutcome). o .reply .refusal ≡ 0 → ⊥) b r ram e
+      (λ q. omega (arith, q)) (rw (ignored (b .counter) a) (λ q. omega (arith, at-least-five why, q))) p
+
+reasonIn : Effect → Unheard
+reasonIn Acknowledge = unheard.Idle
+reasonIn (Ignore why) = why
+reasonIn (Store a x) = unheard.Idle
+reasonIn (Load a) = unheard.Idle
+
+one-reason : (why other : Unheard) (s : BusState) (e : Event) → Applies why s e → Applies other s e → why ≡ other
+unfolding reasonIn
+one-reason why other s e a o = ap (λ (t : Step). reasonIn (t .effect)) (sym (ignored 0 a) ∙ ignored 0 o)
+
+-- ---- document 01's 5
+
+IsRead : BusState → Type 0
+IsRead Idle = ⊥
+IsRead Deaf = ⊥
+IsRead Slave = ⊥
+IsRead High = ⊥
+IsRead (Low high) = ⊥
+IsRead Write = ⊥
+IsRead Read = Unit
+
+is-read : {s : BusState} → s ≡ Read → IsRead s
+unfolding IsRead
+is-read p = subst IsRead (sym p) tt
+
+unheard-fetch : (s : BusState) → (s ≡ Read → ⊥) → (why : Unheard) × Applies why s Fetch
+unheard-fetch Idle n = (unheard.Idle, fetch-idle)
+unheard-fetch Deaf n = (unheard.NotAddressed, fetch-deaf)
+unheard-fetch Slave n = (unheard.Writing, fetch-slave)
+unheard-fetch High n = (unheard.Writing, fetch-high)
+unheard-fetch (Low high) n = (unheard.Writing, fetch-low high)
+unheard-fetch Write n = (unheard.Writing, fetch-write)
+unheard-fetch Read n = absurd (n refl)
+
+has-reason : {s : BusState} {e : Event} → Unacknowledged s e → (why : Unheard) × Applies why s e
+has-reason (other-slave x p q) = (unheard.NotAddressed, unknown-slave x p q)
+has-reason (byte-while-idle x) = (unheard.Idle, byte-idle x)
+has-reason (byte-while-deaf x) = (unheard.NotAddressed, byte-deaf x)
+has-reason (byte-while-reading x) = (unheard.Reading, byte-reading x)
+has-reason (fetch-while-not-reading s n) = unheard-fetch s n
+
+was-five : {why : Unheard} {s : BusState} {e : Event} → Applies why s e → Unacknowledged s e
+unfolding IsRead
+was-five (byte-idle x) = byte-while-idle x
+was-five fetch-idle = fetch-while-not-reading Idle is-read
+was-five (unknown-slave x p q) = other-slave x p q
+was-five (byte-deaf x) = byte-while-deaf x
+was-five fetch-deaf = fetch-while-not-reading Deaf is-read
+was-five (byte-reading x) = byte-while-reading x
+was-five fetch-slave = fetch-while-not-reading Slave is-read
+was-five fetch-high = fetch-while-not-reading High is-read
+was-five (fetch-low high) = fetch-while-not-reading (Low high) is-read
+was-five fetch-write = fetch-while-not-reading Write is-read
+
+pub reasons : Reasons
+reasons =
+    record {
+      answered = answers;
+      only = λ why b r ram e. why-only b r ram e why;
+      some = why-some;
+      one = one-reason;
+      none = λ why b r ram e. why-none b r ram e why;
+      together = λ s e. (has-reason, λ p. was-five (p .1));
+    }
