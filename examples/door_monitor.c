@@ -1,7 +1,7 @@
 /*
  * Firmware in small: a host sends a page over the two-wire bus and the monitor shows it. During the frame the host writes a second
  * page to cells that the frame does not read, and changes to it; the frame goes on as it was, and the next one shows the new page.
- * At the end the host is out of step in every way, and each refusal says what to look for.
+ * At the end the host is out of step in each way that has a number, and the refusal says what to look for.
  *
  *     cc -Iinclude examples/door_monitor.c target/staticlib/libosd.a
  */
@@ -60,9 +60,9 @@ static const char *look_for(uint32_t answer)
     case OSD_NOT_ADDRESSED:
         return "a slave address other than BA and BB";
     case OSD_READING:
-        return "a host that sends after BB";
+        return "BB where BA was meant, or a start that was lost";
     case OSD_WRITING:
-        return "a host that fetches before BB";
+        return "BA where BB was meant, or a start that was lost before BB";
     default:
         return "another cause";
     }
@@ -151,8 +151,9 @@ int main(void)
     event(OSD_BYTE, OSD_SLAVE_WRITE);
     not_heard("a fetch before the internal address", event(OSD_FETCH, 0));
     event(OSD_BYTE, 0x02);
-    event(OSD_BYTE, 0x00);
-    not_heard("a fetch while writing", event(OSD_FETCH, 0));
+    event(OSD_BYTE, 0x10);
+    event(OSD_BYTE, OSD_SLAVE_READ); /* with no start before it: a byte of data, to cell 0210 */
+    not_heard("a fetch after a start was lost", event(OSD_FETCH, 0));
     event(OSD_STOP, 0);
     show("a record of another length", osd_reset(device, sizeof device - 1));
     return 0;

@@ -39,10 +39,10 @@
  * Answers. Every function but osd_device_len and osd_feed_len answers one number, refusal * 65,536 + value: OSD_REFUSAL(answer) is 0
  * where the call was accepted, OSD_VALUE(answer) is then its value. With a refusal the value is 0, but 255 where a bus event is not
  * acknowledged (OSD_IDLE, OSD_NOT_ADDRESSED, OSD_READING, OSD_WRITING), and with OSD_FEED_SHUT the number of output bytes that a
- * feed wrote before a bad kind. A refused call changes no byte of any buffer, with two exceptions: a bus event with an unknown slave
- * address (OSD_NOT_ADDRESSED) leaves the device deaf until the next start or stop: byte 0 of its record becomes 1; and a feed that
- * meets a bad kind has taken the events before it, and is shut. Where several refusals fit, the one that is named first at the
- * function is given.
+ * feed wrote before a bad kind. A refused call changes no byte of any buffer, with two exceptions: an unknown slave address
+ * (OSD_NOT_ADDRESSED) sets byte 0 of the device's record to 1, deaf until the next start or stop, where a device that is deaf already
+ * stays as it is; and a feed that meets a bad kind has taken the events before it, and is shut. Where several refusals fit, the one
+ * that is named first at the function is given.
  *
  * Formats. What a host writes over the bus (registers, descriptors, codes, user characters) and the lent font have the formats of
  * the tables below the refusals. They are close to those of the STV9425/26, but not the same: ZY in a descriptor, the low byte of a
@@ -122,7 +122,7 @@ typedef uint64_t osd_len;
 #define OSD_FONT_LENGTH 2    /* font is not OSD_FONT_LEN bytes */
 #define OSD_LINE_LENGTH 3    /* line is shorter than the line's pixels */
 #define OSD_NO_LINE 4        /* no frame, or all its lines are drawn */
-#define OSD_IDLE 5           /* not acknowledged, as the bus is idle: a byte or a fetch without a start */
+#define OSD_IDLE 5           /* not acknowledged, as the bus is idle: a byte or a fetch */
 #define OSD_FRAME_LINES 6    /* lines is 0 or above OSD_FRAME_LINES_MAX */
 #define OSD_BENCH_LENGTH 7   /* the bench program's: no function here gives it */
 #define OSD_CELL_RANGE 8     /* cell is OSD_RAM_LEN or above */
@@ -131,22 +131,25 @@ typedef uint64_t osd_len;
 #define OSD_PIXEL_RANGE 11   /* x is at the line's width or beyond, or y at lines or beyond */
 #define OSD_NOT_ADDRESSED 12 /* not acknowledged: an unknown slave address, or a byte or a fetch while deaf after one */
 #define OSD_READING 13       /* not acknowledged, as the device is read: a byte from the host after OSD_SLAVE_READ */
-#define OSD_WRITING 14       /* not acknowledged, as an address or write data is due: a fetch without OSD_SLAVE_READ before it */
+#define OSD_WRITING 14       /* not acknowledged, as an address or write data is due: a fetch */
 #define OSD_NOT_TAKEN 255    /* a record's length is wrong, osd_bus's kind is above OSD_STOP, or chunk is too long */
 
 /*
  * Events that are not acknowledged: what to look for with a logic analyser. The value is 255 with each, as with no other refusal of
- * osd_bus, so OSD_REFUSAL(answer) != OSD_ACCEPTED && OSD_VALUE(answer) == 255 asks for any of the four. The numbers are told apart
- * by what the device waits for (byte 0 of its record):
+ * osd_bus, so OSD_REFUSAL(answer) != OSD_ACCEPTED && OSD_VALUE(answer) == 255 asks for any of the four. They are told apart by the
+ * event and by what the device waited for before it (in brackets byte 0 of its record before the call: the names here are refusals,
+ * and no values of that byte).
  *
- *     number  name               the device waits for                       the event          look for
- *      5      OSD_IDLE           a start                                    a byte, a fetch    a start that was lost, a stop too many
- *     12      OSD_NOT_ADDRESSED  the slave address                          a byte, unknown    a slave address other than BA and BB
- *                                a start or a stop: it is deaf              a byte, a fetch    the slave address before
- *     13      OSD_READING        fetches                                    a byte             a host that sends after BB; a lost start
- *     14      OSD_WRITING        an address byte (slave, high, low), data   a fetch            a host that fetches before BB
+ *     refusal                the device waited for               the event        look for
+ *      5  OSD_IDLE           a start (0, or above 6)             a byte, a fetch  a start that was lost, a stop too many, a reset in mid-transfer
+ *     12  OSD_NOT_ADDRESSED  the slave address (2)               another byte     a slave address other than BA and BB (5D in seven bits); a start too many
+ *                            a start or a stop: it is deaf (1)   a byte, a fetch  the first 12 after the last start
+ *     13  OSD_READING        fetches (6)                         a byte           BB where BA was meant; a start that was lost
+ *     14  OSD_WRITING        the slave address, the high or low  a fetch          BA where BB was meant; a start lost before BB, which was then taken for
+ *                            byte, or data (2, 3, 4, 5)                           an address byte or stored; a fetch too early
  *
- * A start and a stop are always acknowledged. What osd_feed writes does not tell the four apart.
+ * A start and a stop are acknowledged in every state. What osd_feed writes does not tell the four apart: play the events by osd_bus to
+ * learn the number.
  */
 
 /*
@@ -158,7 +161,7 @@ typedef uint64_t osd_len;
  * moves the address counter up by 1, after 3FFF to 0000. 0000 to 03FF is RAM, 3FF0 to 3FFF are registers; elsewhere a store is
  * acknowledged and dropped, and a fetch reads 0.
  *
- * Registers. Bits that are not kept read 0.
+ * Registers. Bits that are not kept read 0 (bytes of a record that were corrupted read as they are, until they are stored).
  *
  *     address      kept  reset  bits from 7 down              meaning
  *     3FF0         FF    3F     VSP, HSP, LD[5:0]             a line has W = 12 * (LD + 1) pixels; VSP and HSP are stored only

@@ -6,8 +6,8 @@ import script
 LINES = 20
 O = (0x0F0, 0x198, 0x30C, 0x30C, 0x30C, 0x30C, 0x30C, 0x30C, 0x198, 0x0F0)
 K = (0x30C, 0x318, 0x330, 0x360, 0x3C0, 0x3C0, 0x360, 0x330, 0x318, 0x30C)
-LOOK_FOR = {5: 'a start that was lost', 12: 'a slave address other than BA and BB', 13: 'a host that sends after BB',
-            14: 'a host that fetches before BB'}
+LOOK_FOR = {5: 'a start that was lost', 12: 'a slave address other than BA and BB', 13: 'BB where BA was meant, or a start that was lost',
+            14: 'BA where BB was meant, or a start that was lost before BB'}
 device, ram, font, output = model.Device(), [0] * 1024, [0] * 4608, []
 
 
@@ -77,8 +77,9 @@ device.event(ram, 'start')
 device.event(ram, 'byte', 0xBA)
 not_heard('a fetch before the internal address', 'fetch')
 device.event(ram, 'byte', 0x02)
-device.event(ram, 'byte', 0x00)
-not_heard('a fetch while writing', 'fetch')
+device.event(ram, 'byte', 0x10)
+device.event(ram, 'byte', 0xBB)
+not_heard('a fetch after a start was lost', 'fetch')
 device.event(ram, 'stop')
 show('a record of another length', 255)      # the interface's own refusal
 script.store({'examples/door_monitor.stdout': '\n'.join(output) + '\n'})

@@ -93,6 +93,9 @@ by_hand('start BA 3F fetch/14 start BB fetch=06')                               
 by_hand('start BA fetch/14 02 fetch/14 F9 fetch/14 92 fetch/14 93 fetch/14')        # both, and writing: the transfer goes on
 by_hand('start BB 77/13 fetch=04 BA/13 BB/13 fetch=05 77/13 fetch=06 stop')         # reading
 by_hand('start BA 02 F8 start BB fetch=01 fetch=92 fetch=93 fetch=04 fetch=05 fetch=06 fetch=07 fetch=08 stop')
+# a start lost before BB, which is stored; the slave addresses as address bytes; start and stop where an address is due
+by_hand('start BA 02 10 BB fetch/14 BA fetch/14 stop start BA 02 10 start BB fetch=BB fetch=BA stop')
+by_hand('start start BA BB BA fetch/14 start BA BA BB fetch/14 stop start stop start BA stop fetch/5')
 # nor is a host byte stored with the counter at a register: idle, unknown slave address, deaf, reading
 by_hand('start BA 3F FC 01 02 03 start BA 3F FC stop')
 by_hand('BA/5 start 3A/12 BA/12 start BB fetch=01 77/13 fetch=02 BA/13 fetch=03 stop')

@@ -142,7 +142,10 @@ fn strip_from_bytes(flags: u8, lines: u8, row: u16, drawn: u16) -> Strip {
 /// the bus byte. Any other kind is no event, and answers 255 times 65,536,
 /// the interface's own refusal, before all others.
 ///
-/// Only the bus bytes, the counter and an addressed register are touched.
+/// Of any record, an acknowledged event writes the bus bytes anew, the counter
+/// where it is set or goes up, and a register that is stored, in its own byte.
+/// An unknown slave address writes the bus state alone; no other refused event
+/// writes anything.
 // In place at every caller: a jump to it costs a tenth of an event.
 #[inline(always)]
 pub fn bus_bytes(device: &mut [u8; DEVICE_LEN], ram: &mut [u8], kind: u8, byte: u8) -> u32 {
@@ -168,7 +171,7 @@ pub fn bus_bytes(device: &mut [u8; DEVICE_LEN], ram: &mut [u8], kind: u8, byte: 
             WRITE_ADDRESS => expect(device, HIGH_ADDRESS, 0),
             READ_ADDRESS => expect(device, READING, 0),
             _ => {
-                expect(device, DEAF, 0);
+                device[0] = DEAF;
                 not_acknowledged(device)
             }
         },
@@ -194,11 +197,11 @@ fn not_acknowledged(device: &[u8; DEVICE_LEN]) -> u32 {
     refused(bus_from_bytes(device[0], device[1]).not_acknowledged())
 }
 
-/// The counter, which goes up behind it.
+/// The counter, which goes up behind it, as a store or a fetch takes it.
 #[inline]
 fn take_counter(device: &mut [u8; DEVICE_LEN]) -> u16 {
     let counter = counter(device);
-    set_counter(device, next(counter));
+    leave_counter(device, next(counter));
     counter
 }
 
@@ -207,8 +210,10 @@ pub(crate) fn counter(device: &[u8; DEVICE_LEN]) -> u16 {
     u16::from_le_bytes([device[2], device[3]]) & COUNTER_MASK
 }
 
+/// What a store or a fetch leaves: the counter, and no high address byte held.
 #[inline]
-pub(crate) fn set_counter(device: &mut [u8; DEVICE_LEN], counter: u16) {
+pub(crate) fn leave_counter(device: &mut [u8; DEVICE_LEN], counter: u16) {
+    device[1] = 0;
     [device[2], device[3]] = counter.to_le_bytes();
 }
 
@@ -229,14 +234,15 @@ pub(crate) fn store(device: &mut [u8; DEVICE_LEN], ram: &mut [u8; RAM_LEN], coun
     }
 }
 
-/// The byte at an address.
+/// The byte at an address. A register is read as it stands: unused bits are 0
+/// in every record that calls leave, but a made-up one may have them set.
 #[inline]
 pub(crate) fn load(device: &[u8; DEVICE_LEN], ram: &[u8; RAM_LEN], counter: u16) -> u8 {
     if let Some(&cell) = ram.get(usize::from(counter)) {
         cell
     } else if counter >= FIRST_REGISTER {
         let number = usize::from(counter) % Registers::COUNT;
-        device[REGISTERS + number] & Registers::KEPT[number]
+        device[REGISTERS + number]
     } else {
         0
     }

@@ -8,7 +8,7 @@
 //! | 0 | 0 open, 1 half an event is held; any other: shut (written as 2) |
 //! | 1 | the half that is held in state 1, else 0 |
 
-use crate::bytes::{bus_bytes, counter, load, next, refused, set_counter, store, READING, WRITING};
+use crate::bytes::{bus_bytes, counter, leave_counter, load, next, refused, store, READING, WRITING};
 use crate::{Device, Event, Refusal, DEVICE_LEN, RAM_LEN};
 
 type Record = [u8; DEVICE_LEN];
@@ -210,6 +210,6 @@ fn run(
         at = next(at);
         played += 1;
     }
-    set_counter(device, at);
+    leave_counter(device, at);
     played
 }

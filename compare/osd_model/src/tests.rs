@@ -735,6 +735,7 @@ fn any_bytes_make_a_device() {
         let mut bytes = noise.record(round);
         let mut device = Device::from_bytes(&bytes);
         assert_eq!(Device::from_bytes(&device.to_bytes()), device);
+        bytes[4..20].copy_from_slice(&device.to_bytes()[4..20]); // else a fetch reads unused bits
         let mut ram = noise.ram();
         let mut bytes_ram = ram.clone();
         for cell in 0..8 {
@@ -1003,6 +1004,7 @@ fn same_as_bus_events() {
             all => ([0, noise.byte()], all),
         };
         let device = Device::from_bytes(&record);
+        record[4..20].copy_from_slice(&device.to_bytes()[4..20]); // else a fetch reads unused bits
         let mut fed = Fed { feed: Feed::from_bytes(&feed_record), device, ram: noise.ram(), feed_record, record };
         let mut ram = fed.ram.clone();
 
@@ -1343,11 +1345,12 @@ fn led_to(state: u8, address: u16) -> Fed {
 }
 
 /// The number by the table; byte, record and RAM by the rules for what is
-/// acknowledged, and as before for what is not.
+/// acknowledged, and as before for what is not. The record may have any bytes.
 fn heard(before: &Fed, event: Event) -> (u8, u8, [u8; DEVICE_LEN], Vec<u8>) {
     let (mut record, mut ram) = (before.record, before.ram.clone());
-    let (state, places) = HEARD[usize::from(record[0])];
-    assert_eq!(state, record[0]);
+    let held = record[1];
+    let (state, places) = *HEARD.get(usize::from(record[0])).unwrap_or(&HEARD[0]);
+    assert!(state == record[0] || record[0] > READING && state == IDLE);
     let (number, next) = match event {
         Start => (0, SLAVE_ADDRESS),
         Stop => (0, IDLE),
@@ -1356,19 +1359,19 @@ fn heard(before: &Fed, event: Event) -> (u8, u8, [u8; DEVICE_LEN], Vec<u8>) {
         Byte(_) => places[2],
         Fetch => places[3],
     };
-    record[0] = next;
-    if next != LOW_BYTE {
-        record[1] = 0;
-    }
     if number > 0 {
+        if next != state {
+            record[0] = next;
+        }
         return (number, 255, record, ram);
     }
-    let at = usize::from(record[3]) * 256 + usize::from(record[2]);
+    (record[0], record[1]) = (next, 0);
+    let at = (usize::from(record[3]) * 256 + usize::from(record[2])) % 0x4000;
     let up = ((at as u16 + 1) % 0x4000).to_le_bytes();
     let mut answer = 0;
     match (state, event) {
         (HIGH_BYTE, Byte(byte)) => record[1] = byte,
-        (LOW_BYTE, Byte(byte)) => (record[2], record[3]) = (byte, HELD % 64),
+        (LOW_BYTE, Byte(byte)) => (record[2], record[3]) = (byte, held % 64),
         (WRITING, Byte(byte)) => {
             match at {
                 0..0x400 => ram[at] = byte,
@@ -1458,6 +1461,102 @@ fn any_other_state_of_a_record_is_idle() {
             let before = record;
             assert_eq!(bus_bytes(&mut record, &mut [0; RAM_LEN], kind, byte), 5 * 65_536 + 255);
             assert_eq!(record, before);
+        }
+    }
+}
+
+/// A record in this state with byte 1 not 0; all else is noise.
+fn made_up(noise: &mut Noise, state: u8, address: u16) -> Fed {
+    let mut record = noise.record(1);
+    record[0] = state;
+    record[1] = 1 + noise.below(255) as u8;
+    record[2..4].copy_from_slice(&address.to_le_bytes());
+    Fed { record, ram: noise.ram(), ..Fed::fresh() }
+}
+
+/// Addresses that count modulo 4000, in RAM, at registers and elsewhere.
+const MADE_UP_COUNTERS: [u16; 12] =
+    [0x0000, 0x03FF, 0x0400, 0x3FEF, 0x3FF5, 0x3FFF, 0x4000, 0x7FF3, 0x7FFF, 0x8123, 0xBFF2, 0xFFFF];
+
+/// An event that is refused changes no byte of a made-up record but byte 0, and
+/// that at an unknown slave address alone.
+#[test]
+fn refused_events_on_made_up_records() {
+    let mut noise = Noise(0x0BAD_5EED_0BAD_5EED);
+    let mut met = [0; 256];
+    for state in 0..=255 {
+        for address in MADE_UP_COUNTERS {
+            let before = made_up(&mut noise, state, address);
+            let random = noise.byte();
+            for (kind, byte) in [(1, 0xBA), (1, 0xBB), (1, 0xBC), (1, 0), (1, random), (2, random)] {
+                let known = matches!(byte, 0xBA | 0xBB);
+                let number: u8 = match (state, kind) {
+                    (SLAVE_ADDRESS, 1) if known => continue,
+                    (HIGH_BYTE | LOW_BYTE | WRITING, 1) | (READING, 2) => continue,
+                    (SLAVE_ADDRESS, 1) | (DEAF, _) => 12,
+                    (READING, _) => 13,
+                    (SLAVE_ADDRESS | HIGH_BYTE | LOW_BYTE | WRITING, _) => 14,
+                    _ => 5,
+                };
+                let mut expected = before.record;
+                if (state, kind) == (SLAVE_ADDRESS, 1) {
+                    expected[0] = DEAF;
+                }
+                let what = std::format!("{kind} {byte:02X} in state {state}, counter {address:04X}");
+
+                let mut left = before.clone();
+                let answer = bus_bytes(&mut left.record, &mut left.ram, kind, byte);
+                assert_eq!(answer, u32::from(number) * 65_536 + 255, "{what}");
+                assert_eq!((left.record, &left.ram), (expected, &before.ram), "{what}");
+                met[usize::from(number)] += 1;
+
+                // The same as a chunk, which is taken.
+                let (mut left, mut out) = (before.clone(), [7; 3]);
+                let answer = feed_bytes(&mut left.record, &mut left.feed_record, &mut left.ram, &[kind, byte], &mut out);
+                assert_eq!((answer, left.feed_record, out), (2, [0, 0], [0, 255, 7]), "{what}");
+                assert_eq!((left.record, &left.ram), (expected, &before.ram), "{what}");
+            }
+            // Refused before the bus is looked at: another length of the RAM, and a kind that there is not.
+            let bad = 4 + noise.below(252) as u8;
+            for (kind, ram_len, number) in [(1, RAM_LEN - 1, 1_u8), (2, 0, 1), (bad, RAM_LEN, 255), (bad, 0, 255)] {
+                let mut left = before.clone();
+                assert_eq!(bus_bytes(&mut left.record, &mut left.ram[..ram_len], kind, random), u32::from(number) * 65_536);
+                assert_eq!((left.record, &left.ram), (before.record, &before.ram));
+                met[usize::from(number)] += 1;
+            }
+        }
+    }
+    for number in [1, 5, 12, 13, 14, 255] {
+        assert!(met[number] > 0, "{number}");
+    }
+}
+
+/// What is acknowledged writes bytes 0 and 1 anew, the counter where it is set
+/// or counts, modulo 4000, and a stored register with its kept bits; no other
+/// byte changes, and a fetch reads a register as it stands.
+#[test]
+fn every_event_on_made_up_records() {
+    let mut noise = Noise(0xC0DE_C0DE_0000_0006);
+    for state in 0..=255 {
+        for address in MADE_UP_COUNTERS {
+            let before = made_up(&mut noise, state, address);
+            let others = [Byte(0), Byte(0x3F), Byte(0xFF), Byte(noise.byte())];
+            for event in [Start, Byte(0xBA), Byte(0xBB), Fetch, Stop].into_iter().chain(others) {
+                let (number, byte, record, ram) = heard(&before, event);
+                let what = std::format!("{event:?} in state {state}, counter {address:04X}");
+                let capture = logged(&[event]);
+
+                let mut left = before.clone();
+                let answer = bus_bytes(&mut left.record, &mut left.ram, capture[0], capture[1]);
+                assert_eq!(answer, u32::from(number) * 65_536 + u32::from(byte), "{what}");
+                assert_eq!((left.record, &left.ram), (record, &ram), "{what}");
+
+                let (mut left, mut out) = (before.clone(), [7; 3]);
+                let answer = feed_bytes(&mut left.record, &mut left.feed_record, &mut left.ram, &capture, &mut out);
+                assert_eq!((answer, left.feed_record), (2, [0, 0]), "{what}");
+                assert_eq!(out, [u8::from(number == 0), byte, 7], "{what}");
+                assert_eq!((left.record, &left.ram), (record, &ram), "{what}");
+            }
         }
     }
 }

@@ -5,6 +5,7 @@ pub mod frames;
 pub mod lent;
 pub mod library;
 pub mod linked;
+pub mod model;
 pub mod pages;
 pub mod random;
 pub mod recorder;

@@ -33,8 +33,9 @@ pub trait Library {
     fn feed_fresh(&mut self, feed: &mut Lent) -> u32;
     fn feed(&mut self, device: &mut Lent, feed: &mut Lent, ram: &mut Lent, chunk: &Lent, out: &mut Lent) -> u32;
 
-    /// The calls that follow belong to this seed's session; with made-up records nobody knows what they answer.
-    fn session(&mut self, seed: u64, made_up: bool);
+    /// The calls that follow belong to this seed's session; with `made_up`, nobody says what all of them answer and leave. Answers
+    /// whether they are made, and not only written down.
+    fn session(&mut self, seed: u64, made_up: bool) -> bool;
 }
 
 /// The proved library.
@@ -77,5 +78,7 @@ impl Library for Linked {
         linked::feed(device.get_mut(), feed.get_mut(), ram.get_mut(), chunk.get(), out.get_mut())
     }
 
-    fn session(&mut self, _seed: u64, _made_up: bool) {}
+    fn session(&mut self, _seed: u64, _made_up: bool) -> bool {
+        true
+    }
 }

@@ -21,13 +21,16 @@
 //! | 4 | a call: function; its arguments, a buffer by its slot; the answer (4 bytes); the bytes that it changes |
 //! | 5 | a call on a made-up record: function; its arguments. Nobody says what it answers, or leaves where it may write |
 //!
+//! Bus events and chunks on a made-up record are calls as others (4), as long as no other call has been made on it.
+//!
 //! Changed bytes are a list of: slot, first place (2 bytes), number (2 bytes), the bytes; its end is a slot of 255.
 
 use crate::lent::Lent as Buffer;
-use crate::library::{Library, Place, CHUNK_MAX, NOT_TAKEN};
+use crate::library::{Library, Place, NOT_TAKEN};
+use crate::model;
 use crate::random::Random;
 use crate::sessions::packed;
-use osd_model::{bus_bytes, feed_bytes, pixel_bytes, Device, Feed, DEVICE_LEN, FEED_LEN};
+use osd_model::{pixel_bytes, Device, Feed, DEVICE_LEN, FEED_LEN};
 use std::io::{Result, Write};
 use Argument::{Byte, Lent, Number};
 
@@ -230,10 +233,7 @@ impl<W: Write> Library for Recorder<W> {
         if self.made_up {
             return 0;
         }
-        let answer = match <&mut [u8; DEVICE_LEN]>::try_from(device.get_mut()) {
-            Ok(record) => bus_bytes(record, ram.get_mut(), kind, byte),
-            Err(_) => NOT_TAKEN,
-        };
+        let answer = model::bus(device.get_mut(), ram.get_mut(), kind, byte);
         self.answered(answer, [(slot, device), (ram_slot, ram)])
     }
 
@@ -305,19 +305,14 @@ impl<W: Write> Library for Recorder<W> {
         if self.made_up {
             return 0;
         }
-        let records = (<&mut [u8; DEVICE_LEN]>::try_from(device.get_mut()), <&mut [u8; FEED_LEN]>::try_from(feed.get_mut()));
-        let answer = match records {
-            (Ok(record), Ok(feed)) if chunk.get().len() <= CHUNK_MAX => {
-                feed_bytes(record, feed, ram.get_mut(), chunk.get(), out.get_mut())
-            }
-            _ => NOT_TAKEN,
-        };
+        let answer = model::feed(device.get_mut(), feed.get_mut(), ram.get_mut(), chunk.get(), out.get_mut());
         self.answered(answer, [(slot, device), (feed_slot, feed), (ram_slot, ram), (out_slot, out)])
     }
 
-    fn session(&mut self, seed: u64, made_up: bool) {
+    fn session(&mut self, seed: u64, made_up: bool) -> bool {
         self.put(&[1]);
         self.put(&seed.to_le_bytes());
         self.made_up = made_up;
+        !made_up
     }
 }

@@ -2,10 +2,13 @@
 //!
 //! Every answer, every byte of every buffer (the device's record too) and every byte around the buffers is compared after every call.
 
+mod corrupted;
 mod pixels;
 
+pub use corrupted::{corrupted, Corrupted};
+
 use crate::lent::Lent;
-use crate::library::{Library, Place, NOT_TAKEN};
+use crate::library::{Library, NOT_TAKEN};
 use crate::pages::{random_page, FONT, RAM};
 use crate::random::Random;
 use crate::traffic;
@@ -417,59 +420,6 @@ impl<L: Library> Session<'_, L> {
         self.still_frame();
         self.each_state();
     }
-}
-
-/// Corrupted records: no comparison, only that every call ends and touches no byte outside its buffers, and none of
-/// those that it only reads.
-pub fn corrupted<L: Library>(library: &mut L, seed: u64) -> u64 {
-    library.session(seed, true);
-    let mut random = Random::new(!seed);
-    let mut calls = 0;
-    for _ in 0..40 {
-        let mut device = Lent::new(&mut random, 32);
-        let ram_len = if random.one_in(8) { random.below(2000) as usize } else { RAM };
-        let font_len = if random.one_in(8) { random.below(9000) as usize } else { FONT };
-        let line_len = random.below(900) as usize;
-        let mut ram = Lent::new(&mut random, ram_len);
-        let font = Lent::new(&mut random, font_len);
-        let mut line = Lent::new(&mut random, line_len);
-        let font_before = font.get().to_vec();
-        let capture = traffic::capture(&mut random);
-        let chunk = Lent::copy_of(&mut random, &capture);
-        let room = random.below(100) as usize;
-        let mut out = Lent::new(&mut random, room);
-        for _ in 0..6 {
-            let kind = random.byte() % 5;
-            let byte = random.byte();
-            let number = random.below(1100) as u32;
-            let record_before = device.get().to_vec();
-            library.cell(&device, &ram, number);
-            let ram_before = ram.get().to_vec();
-            let [lines, frame, x, y] = [2100, u64::MAX, 800, 2100].map(|end| random.below(end) as u32);
-            library.pixel(&device, &ram, &font, Place { lines, frame, x, y });
-            let same_record = device.get() == &record_before[..];
-            library.draw(&mut device, &ram, &font, &mut line);
-            calls += 4;
-            if random.one_in(6) {
-                library.frame_start(&mut device, number);
-                calls += 1;
-            }
-            let same_ram = ram.get() == &ram_before[..];
-            library.bus(&mut device, &mut ram, kind, byte);
-            let state = random.byte() % 4;
-            let mut feed = Lent::copy_of(&mut random, &[state, byte]);
-            if random.one_in(2) {
-                library.feed(&mut device, &mut feed, &mut ram, &chunk, &mut out);
-                calls += 1;
-            }
-            let held = [&device, &ram, &font, &line, &feed, &chunk, &out].iter().all(|lent| lent.guards_hold());
-            if !held || !same_record || !same_ram || font.get() != &font_before[..] || chunk.get() != &capture[..] {
-                println!("seed {seed}: a corrupted record changed bytes outside");
-                exit(1);
-            }
-        }
-    }
-    calls
 }
 
 /// Plays a seed's session, and answers how often each refusal was given. Ends the program at the first difference.

@@ -7,7 +7,7 @@ use crate::random::Random;
 pub type Logged = (u8, u8);
 
 /// An address on the bus, mostly of a register or of RAM.
-fn address(random: &mut Random) -> u64 {
+pub fn address(random: &mut Random) -> u64 {
     match random.below(4) {
         0 => 0x3FF0 + random.below(16),
         1 => random.below(0x4000),

@@ -22,13 +22,11 @@ use Rattle.bus.specs.declared.Step.{Step}
 use Rattle.bus.specs.declared.Event.{Event}
 use Rattle.bus.specs.declared.Event.the-variants.{Start, Byte, Fetch, Stop}
 use Rattle.bus.specs.declared.Effect.the-variants.{Acknowledge, Ignore, Store, Load}
-use Rattle.bus.specs.Bus.{eventOf, goes, ignores, byteAt, fetchAt, step, isRegister, registersWith, ramWith, answerTo, taken, busEvent, byteIn}
+use Rattle.bus.specs.Bus.{eventOf, goes, byteAt, fetchAt, step, isRegister, registersWith, ramWith, answerTo, taken, busEvent, byteIn}
 use Rattle.device.specs.declared.Device.{Device}
-use Rattle.device.specs.declared.StartAnswer.the-variants as start
-use Rattle.device.specs.declared.DrawAnswer.the-variants as draw
-use Rattle.layout.specs.Layout.{busAt, busLength, registersAt, registersLength, recordLength, put, stateNumber, busBytes, deviceIn}
+use Rattle.layout.specs.Layout.{busAt, busLength, registersAt, registersLength, recordLength, put, busBytes, deviceIn}
 use Rattle.facts.proofs.Parts.{sets-comm, sets-part, set-part}
-use Rattle.layout.proofs.Laws.{numbered, put-part}
+use Rattle.layout.proofs.Laws.{put-part}
 use Rattle.interface.specs.Interface as face
 use Rattle.interface.specs.Interface.{answerOf, ignoredOn, heardOn, busOn}
 use Rattle.interface.proofs.Laws.{state-byte, ignored-same, bus-is}

@@ -8,7 +8,6 @@ use borrow.Author.Tests.{eqb-false}
 use lib.Dec.{eqb}
 use lib.ListN.{length}
 use Rattle.runs.specs.Runs.{log}
-use Rattle.refusals.specs.declared.Unheard.{Unheard}
 use Rattle.refusals.specs.declared.Unheard.the-variants as unheard
 use Rattle.refusals.specs.declared.Refusal.the-variants.{NotAcknowledged}
 use Rattle.refusals.specs.Refusals.{Reply, refused}

@@ -22,7 +22,7 @@ use Rattle.refusals.proofs.Laws.{not-zero}
 use Rattle.registers.specs.declared.Registers.{Registers}
 use Rattle.registers.specs.Registers.{settingsOf}
 use Rattle.bus.specs.declared.BusState.{BusState}
-use Rattle.bus.specs.declared.BusState.the-variants.{Idle, Deaf, Slave, High, Low, Write, Read}
+use Rattle.bus.specs.declared.BusState.the-variants.{Slave}
 use Rattle.bus.specs.declared.Bus.{Bus}
 use Rattle.bus.specs.declared.Step.{Step}
 use Rattle.bus.specs.declared.Event.{Event}

@@ -1,6 +1,6 @@
 // Feeds scripted bus traffic to a device and prints every answer. Standard input: two bytes a step. Kinds 0 to 3 are start, host
 // byte, fetch and stop; kind 4 says how much RAM is lent from then on (0: 1,024 bytes; 1: none; 2: 1,023; 3: 1,025).
-// The stored output comes from tests/model.py, which was written from document 01 and not from this code
+// The stored output comes from tests/model.py, which was written from documents 01 and 02 and not from this code
 // (tests/test_bus.py has the script).
 use bus::Event;
 use device::Device;
@@ -48,7 +48,7 @@ fn heard(device: Device, ram: &mut [u8], kind: u8, byte: u8) -> Device {
     done.device
 }
 
-// The event, the refusal's number and the byte.
+// The event, the refusal's number in decimal and the byte.
 fn show(kind: u8, byte: u8, refusal: u8, answer: u16) {
     show_event(kind, byte);
     io::write_all(1, b": ");

@@ -14,6 +14,13 @@ use std::process::exit;
 /// Refusals of a bus event that is not acknowledged: idle, not addressed, reading, writing. Every session meets each of them.
 const NOT_ACKNOWLEDGED: [usize; 4] = [5, 12, 13, 14];
 
+/// Adds to the counts of a session's refusals those of another.
+fn add(counts: &mut [u64; 256], others: [u64; 256]) {
+    for (all, some) in counts.iter_mut().zip(others) {
+        *all += some;
+    }
+}
+
 fn main() {
     let mut words = std::env::args().skip(1);
     let page = std::fs::read(words.next().expect("the sample page")).expect("the sample page can be read");
@@ -28,13 +35,14 @@ fn main() {
 
     let mut counts = [0; 256];
     let mut made_up = 0;
+    let mut made_up_counts = [0; 256];
     let mut made_up_fed = 0;
     let mut asked = 0;
     for i in 0..sessions {
-        for (all, some) in counts.iter_mut().zip(play(&mut Linked, seed + i)) {
-            *all += some;
-        }
-        made_up += corrupted(&mut Linked, seed + i);
+        add(&mut counts, play(&mut Linked, seed + i));
+        let on_corrupted = corrupted(&mut Linked, seed + i);
+        made_up += on_corrupted.calls;
+        add(&mut made_up_counts, on_corrupted.compared);
         made_up_fed += captures::made_up(seed + i);
         asked += frames::made_up(seed + i);
     }
@@ -47,11 +55,14 @@ fn main() {
     for (refusal, count) in counts.iter().enumerate().filter(|(_, &count)| count > 0) {
         println!("  refusal {refusal:3}: {count:8} answers");
     }
-    if let Some(refusal) = NOT_ACKNOWLEDGED.into_iter().find(|&refusal| counts[refusal] == 0) {
-        println!("no call was refused with {refusal}");
-        exit(1);
+    for refusal in NOT_ACKNOWLEDGED {
+        if counts[refusal] == 0 || made_up_counts[refusal] == 0 {
+            println!("no call was refused with {refusal}, or none on a corrupted record");
+            exit(1);
+        }
     }
     println!("{} calls compared, 0 differences; {made_up} calls on corrupted records, 0 faults", counts.iter().sum::<u64>());
+    println!("{} bus events and chunks on corrupted records compared in full, 0 differences", made_up_counts.iter().sum::<u64>());
     println!(
         "a capture of {} bytes fed {fed} times, {sessions} others {made_up_fed} times, whole and cut: 0 differences",
         capture.len()
