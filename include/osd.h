@@ -140,13 +140,14 @@ typedef uint64_t osd_len;
  * event and by what the device waited for before it (in brackets byte 0 of its record before the call: the names here are refusals,
  * and no values of that byte).
  *
- *     refusal                the device waited for               the event        look for
- *      5  OSD_IDLE           a start (0, or above 6)             a byte, a fetch  a start that was lost, a stop too many, a reset in mid-transfer
- *     12  OSD_NOT_ADDRESSED  the slave address (2)               another byte     a slave address other than BA and BB (5D in seven bits); a start too many
- *                            a start or a stop: it is deaf (1)   a byte, a fetch  the first 12 after the last start
- *     13  OSD_READING        fetches (6)                         a byte           BB where BA was meant; a start that was lost
- *     14  OSD_WRITING        the slave address, the high or low  a fetch          BA where BB was meant; a start lost before BB, which was then taken for
- *                            byte, or data (2, 3, 4, 5)                           an address byte or stored; a fetch too early
+ *     refusal                the device waited for              the event        look for
+ *      5  OSD_IDLE           a start (0, or above 6)            a byte, a fetch  a start that was lost, a stop too many, a reset
+ *     12  OSD_NOT_ADDRESSED  the slave address (2)              another byte     an address other than BA and BB (5D in seven bits);
+ *                                                                                a start too many
+ *                            a start or stop, as it is deaf (1) a byte, a fetch  the first 12 after the last start
+ *     13  OSD_READING        fetches (6)                        a byte           BB where BA was meant; a start that was lost
+ *     14  OSD_WRITING        the slave address, the high or low a fetch          BA where BB was meant; a start lost before BB, which
+ *                            byte, or data (2, 3, 4, 5)                          was then taken for one of these; a fetch too early
  *
  * A start and a stop are acknowledged in every state. What osd_feed writes does not tell the four apart: play the events by osd_bus to
  * learn the number.
@@ -241,7 +242,9 @@ typedef uint64_t osd_len;
  *     30, 31  characters: scan line of the strip, from 1; spacing: 0
  *
  * Any bytes are some record: another bus state is idle; byte 1 is read in state 4 only, of byte 26 only bits 0 to 2, and bytes 28
- * to 31 (like bits 1 and 2 of byte 26) for characters only.
+ * to 31 (like bits 1 and 2 of byte 26) for characters only. Of any record an acknowledged bus event writes bytes 0 and 1 anew, the
+ * counter where it is set or goes up (it counts modulo 4000 hexadecimal), and a register that is stored, in its own byte; an unknown
+ * slave address writes byte 0 alone, and no other refused event writes any.
  *
  * A feed's record.
  *

@@ -10,7 +10,12 @@ from fractions import Fraction
 
 RESET = [0x3F, 0x08, 0x12, 0x00, 0x22, 0x33, 0x28, 0x0A] + [0] * 8
 KEPT = [0xFF, 0xFF, 0x3F, 0xF7, 0xF7, 0x77, 0xFF, 0x0F] + [0xFF] * 8
-ACKNOWLEDGED, IDLE, NOT_ADDRESSED, READING, WRITING = (0, 0), (5, 255), (12, 255), (13, 255), (14, 255)     # request K6
+ACKNOWLEDGED = (0, 0)
+# not acknowledged, as request K6 has it
+IDLE = (5, 255)
+NOT_ADDRESSED = (12, 255)
+READING = (13, 255)
+WRITING = (14, 255)
 SHOWN_BELOW = {1: 32, 2: 16, 3: 48}
 LOGGED = {0: 'start', 1: 'byte', 2: 'fetch', 3: 'stop'}
 

@@ -50,25 +50,9 @@ def by_hand(words):
 
 
 # every wrong state, from power-up on
-send(0xBA)              # a byte while idle
-fetch()                 # a fetch while idle
-stop()
-send(0xBB)
-start()
-fetch()                 # a fetch while the slave address is due
-send(0xBA)
-fetch()                 # while the high byte is due
-send(0x00)
-fetch()                 # while the low byte is due
-send(0x10)
-fetch()                 # while data is due
-send(0x55)
-start()
-send(0xBB)
-send(0x12)              # a byte while reading
-fetch()
-stop()
-fetch()
+by_hand('BA/5 fetch/5 stop BB/5')                               # a byte while idle, a fetch while idle
+by_hand('start fetch/14 BA fetch/14 00 fetch/14 10 fetch/14')   # a fetch while an address is due: slave, high, low; while data is due
+by_hand('55 start BB 12/13 fetch=00 stop fetch/5')              # a byte while reading
 
 # wrong slave addresses: deaf until start or stop
 for x in (0x00, 0xB8, 0xB9, 0xBC, 0xFF):
@@ -171,7 +155,7 @@ for n in (0, 1023, 1025):
     stop()
     read(0x0123, 1)
 
-# and 1 stands before the other refusals
+# and 1 stands before the other refusals; where a row has no way to its state, the row before leads to it
 for way, refused, onward in (
         ('', 'BA/1 fetch/1', 'BA/5'),                           # idle
         ('start AB/12', 'BA/1 fetch/1', 'BA/12'),               # deaf
@@ -199,5 +183,5 @@ for n, (kind, x) in enumerate(traffic):
     assert answers.get(n, answer) == answer, (n, name, answer, answers[n])
     lines.append('%s: %d %02X\n' % (name, *answer))
 
-assert len(data) <= 8192
+assert len(data) <= 8192     # the program's buffer for the script
 script.store({'crates/test_bus/stdin': data, 'crates/test_bus/stdout': ''.join(lines)})

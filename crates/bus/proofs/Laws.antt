@@ -27,7 +27,7 @@ with-length (Ignore why) ram = refl
 with-length (Store a x) ram = either (λ (l : List ℕ). length l ≡ length ram) (isRam a) _ ram (length-set ram a x) refl
 with-length (Load a) ram = refl
 
-pub with-sixteen : (f : Effect) (r : Registers) → length (registersWith f r .bytes) ≡ length (r .bytes)
+with-sixteen : (f : Effect) (r : Registers) → length (registersWith f r .bytes) ≡ length (r .bytes)
 unfolding registersWith
 with-sixteen Acknowledge r = refl
 with-sixteen (Ignore why) r = refl

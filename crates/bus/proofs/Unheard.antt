@@ -12,6 +12,7 @@ use Rattle.refusals.specs.declared.Unheard.{Unheard}
 use Rattle.refusals.specs.declared.Unheard.the-variants as unheard
 use Rattle.refusals.specs.declared.Refusal.the-variants.{NotAcknowledged}
 use Rattle.refusals.specs.Refusals.{numberOf, refused}
+use Rattle.refusals.proofs.Laws.{at-least-five, same-number}
 use Rattle.registers.specs.declared.Registers.{Registers}
 use Rattle.bus.specs.declared.Event.{Event}
 use Rattle.bus.specs.declared.Event.the-variants.{Start, Byte, Fetch, Stop}
@@ -21,7 +22,7 @@ use Rattle.bus.specs.declared.Bus.{Bus}
 use Rattle.bus.specs.declared.Effect.{Effect}
 use Rattle.bus.specs.declared.Effect.the-variants.{Acknowledge, Ignore, Store, Load}
 use Rattle.bus.specs.declared.Step.{Step}
-use Rattle.bus.specs.Bus.{BusOutcome, goes, step, ramWith, registersWith, answerTo, busReply, taken, busEvent}
+use Rattle.bus.specs.Bus.{BusOutcome, address, goes, step, ramWith, registersWith, answerTo, busReply, taken, busEvent}
 use Rattle.bus.specs.Unheard.{Applies, byte-idle, fetch-idle, unknown-slave, byte-deaf, fetch-deaf, byte-reading, fetch-slave, fetch-high, fetch-low, fetch-write, stateAfter, Unacknowledged, other-slave, byte-while-idle, byte-while-deaf, byte-while-reading, fetch-while-not-reading, Reasons}
 use Rattle.bus.proofs.Laws.{by-event, busEvent-heard}
 
@@ -29,7 +30,7 @@ abbrev pub bus : BusState → ℕ → Bus
 bus s c = record { state = s; counter = c }
 
 -- where a reason applies, the step is to ignore the event for it
-pub ignored : {why : Unheard} {s : BusState} {e : Event} (c : ℕ) → Applies why s e
+ignored : {why : Unheard} {s : BusState} {e : Event} (c : ℕ) → Applies why s e
     → step (bus s c) e ≡ goes (bus s c) (stateAfter why s) (Ignore why)
 unfolding step
 ignored c (byte-idle x) = refl
@@ -43,66 +44,43 @@ ignored c fetch-high = refl
 ignored c (fetch-low high) = refl
 ignored c fetch-write = refl
 
--- and the other way round: a step that ignores an event does so for a reason that applies, and leaves the bus as that reason says
-unfoldable pub Because : Bus → Event → Bus → Effect → Type 0
-Because b e next Acknowledge = Unit
-Because b e next (Ignore why) = Applies why (b .state) e × (next ≡ bus (stateAfter why (b .state)) (b .counter))
-Because b e next (Store a x) = Unit
-Because b e next (Load a) = Unit
+-- and the other way round: what a step asks of the cells. One that ignores an event does so for a reason that applies
+unfoldable pub Asks : Bus → Event → Effect → Type 0
+Asks b e Acknowledge = Unit
+Asks b e (Ignore why) = Applies why (b .state) e
+Asks b e (Store a x) = a ≡ address b
+Asks b e (Load a) = a ≡ address b
 
-because-at : (s : BusState) (c : ℕ) (e : Event) → Because (bus s c) e (step (bus s c) e .bus) (step (bus s c) e .effect)
-unfolding step Because
-because-at s c Start = tt
-because-at Idle c (Byte x) = (byte-idle x, refl)
-because-at Deaf c (Byte x) = (byte-deaf x, refl)
-because-at Slave c (Byte x) = by (eqb x 0xBA) (eqb x 0xBB) refl refl
+asks-at : (s : BusState) (c : ℕ) (e : Event) → Asks (bus s c) e (step (bus s c) e .effect)
+unfolding step Asks
+asks-at s c Start = tt
+asks-at Idle c (Byte x) = byte-idle x
+asks-at Deaf c (Byte x) = byte-deaf x
+asks-at Slave c (Byte x) = by (eqb x 0xBA) (eqb x 0xBB) refl refl
   where
     b : Bus
     b = bus Slave c
 
     by : (p q : Bool) → eqb x 0xBA ≡ p → eqb x 0xBB ≡ q
-        → let s : Step = cond p (goes b High Acknowledge) (cond q (goes b Read Acknowledge) (goes b Deaf (Ignore unheard.NotAddressed))) in
-        Because b (Byte x) (s .bus) (s .effect)
+        → Asks b (Byte x) (cond p (goes b High Acknowledge) (cond q (goes b Read Acknowledge) (goes b Deaf (Ignore unheard.NotAddressed))) .effect)
     by true q h k = tt
     by false true h k = tt
-    by false false h k = (unknown-slave x (eqb-false _ _ h) (eqb-false _ _ k), refl)
-because-at High c (Byte x) = tt
-because-at (Low high) c (Byte x) = tt
-because-at Write c (Byte x) = tt
-because-at Read c (Byte x) = (byte-reading x, refl)
-because-at Idle c Fetch = (fetch-idle, refl)
-because-at Deaf c Fetch = (fetch-deaf, refl)
-because-at Slave c Fetch = (fetch-slave, refl)
-because-at High c Fetch = (fetch-high, refl)
-because-at (Low high) c Fetch = (fetch-low high, refl)
-because-at Write c Fetch = (fetch-write, refl)
-because-at Read c Fetch = tt
-because-at s c Stop = tt
+    by false false h k = unknown-slave x (eqb-false _ _ h) (eqb-false _ _ k)
+asks-at High c (Byte x) = tt
+asks-at (Low high) c (Byte x) = tt
+asks-at Write c (Byte x) = refl
+asks-at Read c (Byte x) = byte-reading x
+asks-at Idle c Fetch = fetch-idle
+asks-at Deaf c Fetch = fetch-deaf
+asks-at Slave c Fetch = fetch-slave
+asks-at High c Fetch = fetch-high
+asks-at (Low high) c Fetch = fetch-low high
+asks-at Write c Fetch = fetch-write
+asks-at Read c Fetch = refl
+asks-at s c Stop = tt
 
-pub because : (b : Bus) (e : Event) → Because b e (step b e .bus) (step b e .effect)
-because b e = because-at (b .state) (b .counter) e
-
--- ---- reasons by their numbers
-
-pub at-least-five : (why : Unheard) → 5 ≤ numberOf (NotAcknowledged why)
-at-least-five unheard.Idle = omega arith
-at-least-five unheard.NotAddressed = omega arith
-at-least-five unheard.Reading = omega arith
-at-least-five unheard.Writing = omega arith
-
-whyOf : ℕ → Unheard
-whyOf n = cond (eqb n 5) unheard.Idle (cond (eqb n 12) unheard.NotAddressed (cond (eqb n 13) unheard.Reading unheard.Writing))
-
-why-of : (why : Unheard) → whyOf (numberOf (NotAcknowledged why)) ≡ why
-unfolding whyOf
-why-of unheard.Idle = refl
-why-of unheard.NotAddressed = refl
-why-of unheard.Reading = refl
-why-of unheard.Writing = refl
-
--- no two reasons have one number
-same-number : (why other : Unheard) → numberOf (NotAcknowledged why) ≡ numberOf (NotAcknowledged other) → why ≡ other
-same-number why other e = sym (why-of why) ∙ ap whyOf e ∙ why-of other
+pub asks : (b : Bus) (e : Event) → Asks b e (step b e .effect)
+asks b e = asks-at (b .state) (b .counter) e
 
 -- ---- the claim
 
@@ -114,31 +92,27 @@ answers why b r ram e h a = sym (busEvent-heard b r ram e h (goes b (stateAfter 
 
 -- by what the step asks of the cells
 module _ (b : Bus) (r : Registers) (ram : List ℕ) (e : Event) where
-  only-by : (why : Unheard) (next : Bus) (f : Effect) → Because b e next f
-      → busReply (answerTo f r ram) .refusal ≡ numberOf (NotAcknowledged why) → Applies why (b .state) e
-  unfolding answerTo Because
-  only-by why next Acknowledge k p = absurd (omega (arith, at-least-five why, p))
-  only-by why next (Ignore other) k p = subst (λ (w : Unheard). Applies w (b .state) e) (same-number other why p) (k .0)
-  only-by why next (Store a x) k p = absurd (omega (arith, at-least-five why, p))
-  only-by why next (Load a) k p = absurd (omega (arith, at-least-five why, p))
-
-  some-by : (next : Bus) (f : Effect) → Because b e next f → (busReply (answerTo f r ram) .refusal ≡ 0 → ⊥) → (why : Unheard) × Applies why (b .state) e
-  unfolding answerTo Because
-  some-by next Acknowledge k n = absurd (n refl)
-  some-by next (Ignore why) k n = (why, k .0)
-  some-by next (Store a x) k n = absurd (n refl)
-  some-by next (Load a) k n = absurd (n refl)
+  -- where the answer is a refusal, it is for a reason that applies
+  refused-by : (f : Effect) → Asks b e f → (busReply (answerTo f r ram) .refusal ≡ 0 → ⊥)
+      → (why : Unheard) × Applies why (b .state) e × (busReply (answerTo f r ram) .refusal ≡ numberOf (NotAcknowledged why))
+  unfolding answerTo Asks
+  refused-by Acknowledge k n = absurd (n refl)
+  refused-by (Ignore why) k n = (why, k, refl)
+  refused-by (Store a x) k n = absurd (n refl)
+  refused-by (Load a) k n = absurd (n refl)
 
   why-only : (why : Unheard) → busEvent b r ram e .reply .refusal ≡ numberOf (NotAcknowledged why) → Applies why (b .state) e
   unfolding taken
   why-only why =
       by-event (λ (o : BusOutcome). o .reply .refusal ≡ numberOf (NotAcknowledged why) → Applies why (b .state) e) b r ram e
       (λ p. absurd (omega (arith, at-least-five why, p)))
-      (only-by why (step b e .bus) (step b e .effect) (because b e))
+      (λ p.
+      let w = refused-by (step b e .effect) (asks b e) (λ z. omega (arith, at-least-five why, p, z)) in
+      subst (λ (v : Unheard). Applies v (b .state) e) (same-number (w .0) why (sym (w .2) ∙ p)) (w .1))
 
   why-some : length ram ≡ 1024 → (busEvent b r ram e .reply .refusal ≡ 0 → ⊥) → (why : Unheard) × Applies why (b .state) e
   unfolding busEvent taken
-  why-some h = rw (eq-eqb _ _ h) (some-by (step b e .bus) (step b e .effect) (because b e))
+  why-some h = rw (eq-eqb _ _ h) (λ n. let w = refused-by (step b e .effect) (asks b e) n in (w .0, w .1))
 
   why-none : (why : Unheard) → busEvent b r ram e .reply .refusal ≡ 0 → Applies why (b .state) e → ⊥
   unfolding taken answerTo

@@ -6,23 +6,23 @@ use mathlib.Core.Bool.{Bool, true, false, cond}
 use mathlib.Core.List.{List, [], _∷_}
 use native.Mathlib.Omega.{arith}
 use borrow.Author.Tests.{eq-eqb, ne-eqb, le-leb, lt-leb}
-use lib.Dec.{eqb}
 use lib.Bits.{bitAnd}
 use lib.ListN.{length, getD, set}
 use Rattle.refusals.specs.declared.Unheard.{Unheard}
-use Rattle.refusals.specs.declared.Unheard.the-variants as unheard
 use Rattle.refusals.specs.declared.Refusal.the-variants.{RamLength, NotAcknowledged}
 use Rattle.refusals.specs.Refusals.{refused}
 use Rattle.refusals.proofs.Laws.{not-zero}
 use Rattle.registers.specs.Registers.{kept, stored}
 use Rattle.bus.specs.declared.BusState.{BusState}
-use Rattle.bus.specs.declared.BusState.the-variants.{Idle, Deaf, Slave, High, Low, Write, Read}
+use Rattle.bus.specs.declared.BusState.the-variants.{Idle, Slave, Write, Read}
 use Rattle.bus.specs.declared.Bus.{Bus}
 use Rattle.bus.specs.declared.Step.{Step}
 use Rattle.bus.specs.declared.Event.{Event}
 use Rattle.bus.specs.declared.Event.the-variants.{Start, Byte, Fetch, Stop}
+use Rattle.bus.specs.declared.Effect.{Effect}
 use Rattle.bus.specs.declared.Effect.the-variants.{Acknowledge, Ignore, Store, Load}
-use Rattle.bus.specs.Bus.{eventOf, goes, byteAt, fetchAt, step, isRegister, registersWith, ramWith, answerTo, taken, busEvent, byteIn}
+use Rattle.bus.specs.Bus.{eventOf, goes, step, isRegister, registersWith, ramWith, answerTo, taken, busEvent, byteIn}
+use Rattle.bus.proofs.Unheard.{Asks, asks}
 use Rattle.device.specs.declared.Device.{Device}
 use Rattle.layout.specs.Layout.{busAt, busLength, registersAt, registersLength, recordLength, put, busBytes, deviceIn}
 use Rattle.facts.proofs.Parts.{sets-comm, sets-part, set-part}
@@ -73,35 +73,15 @@ module _ (a x : ℕ) where
 
 -- ---- what the bus asks of the cells
 
-slave-in-space : (b : Bus) (p q : Bool) → InSpace (cond p (goes b High Acknowledge) (cond q (goes b Read Acknowledge) (goes b Deaf (Ignore unheard.NotAddressed))) .effect)
-slave-in-space b true q = tt
-slave-in-space b false true = tt
-slave-in-space b false false = tt
-
-byte-in-space : (s : BusState) (b : Bus) (x : ℕ) → InSpace (byteAt s b x .effect)
-byte-in-space Idle b x = tt
-byte-in-space Deaf b x = tt
-byte-in-space Slave b x = slave-in-space b (eqb x 0xBA) (eqb x 0xBB)
-byte-in-space High b x = tt
-byte-in-space (Low high) b x = tt
-byte-in-space Write b x = omega arith
-byte-in-space Read b x = tt
-
-fetch-in-space : (s : BusState) (b : Bus) → InSpace (fetchAt s b .effect)
-fetch-in-space Idle b = tt
-fetch-in-space Deaf b = tt
-fetch-in-space Slave b = tt
-fetch-in-space High b = tt
-fetch-in-space (Low high) b = tt
-fetch-in-space Write b = tt
-fetch-in-space Read b = omega arith
+in-space : (b : Bus) (e : Event) (f : Effect) → Asks b e f → InSpace f
+unfolding Asks
+in-space b e Acknowledge k = tt
+in-space b e (Ignore why) k = tt
+in-space b e (Store a x) k = omega (arith, k)
+in-space b e (Load a) k = omega (arith, k)
 
 pub step-in-space : (b : Bus) (e : Event) → InSpace (step b e .effect)
-unfolding step
-step-in-space b Start = tt
-step-in-space b (Byte x) = byte-in-space (b .state) b x
-step-in-space b Fetch = fetch-in-space (b .state) b
-step-in-space b Stop = tt
+step-in-space b e = in-space b e (step b e .effect) (asks b e)
 
 module _ (xs ram ys : List ℕ) (s : Step) (e : ys ≡ put busAt (busBytes (s .bus)) xs) where
   -- registers that stay as they are

@@ -1,11 +1,12 @@
 -- What the bytes hold after a call is read as the record that the device's function leaves.
 -- Assumes nothing.
 use Prim.Native.Nat.{ℕ, _%_, _≤_}
-use mathlib.Core.Path.{_≡_, refl, sym, ap, ap₂, _∙_}
+use mathlib.Core.Path.{_≡_, refl, sym, ap, ap₂, subst, _∙_}
 use mathlib.Core.Bool.{Bool, true, false, not, cond, _&&_}
 use mathlib.Core.List.{List, [], _∷_, _++_}
+use native.Mathlib.Decide.{ℕ-discrete}
 use native.Mathlib.Omega.{arith}
-use borrow.Author.Tests.{eq-eqb, ne-eqb, le-ltb, eqb-true, ltb-false, not-false}
+use borrow.Author.Tests.{eq-eqb, le-ltb, eqb-true, eqb-false, ltb-false}
 use lib.Dec.{T, eqb, ltb}
 use lib.ListN.{length, drop, set, length-append, length-set, length-take, length-drop}
 use lib.Seq.{length-sets}
@@ -17,23 +18,20 @@ use Rattle.refusals.specs.Refusals.{numberOf, refused, Verdict, passed, failed}
 use Rattle.refusals.specs.declared.Unheard.{Unheard}
 use Rattle.refusals.specs.declared.Unheard.the-variants as unheard
 use Rattle.refusals.specs.declared.Refusal.{Refusal}
-use Rattle.refusals.specs.declared.Refusal.the-variants.{RamLength, NotAcknowledged}
-use Rattle.refusals.proofs.Laws.{not-zero}
+use Rattle.refusals.specs.declared.Refusal.the-variants.{NotAcknowledged}
+use Rattle.refusals.proofs.Laws.{not-zero, at-least-five}
 use Rattle.registers.specs.declared.Registers.{Registers}
 use Rattle.registers.specs.Registers.{settingsOf}
 use Rattle.bus.specs.declared.BusState.{BusState}
 use Rattle.bus.specs.declared.BusState.the-variants.{Slave}
 use Rattle.bus.specs.declared.Bus.{Bus}
-use Rattle.bus.specs.declared.Step.{Step}
 use Rattle.bus.specs.declared.Event.{Event}
 use Rattle.bus.specs.declared.Event.the-variants.{Start, Byte, Fetch, Stop}
-use Rattle.bus.specs.declared.Effect.{Effect}
-use Rattle.bus.specs.declared.Effect.the-variants.{Acknowledge, Ignore, Store, Load}
 use Rattle.bus.specs.Unheard.{Applies, byte-idle, fetch-idle, unknown-slave, byte-deaf, fetch-deaf, byte-reading, fetch-slave, fetch-high, fetch-low, fetch-write, stateAfter}
-use Rattle.bus.specs.Bus.{eventOf, step, registersWith, ramWith, answerTo, BusOutcome, taken, busEvent}
+use Rattle.bus.specs.Bus.{eventOf, BusOutcome, busEvent}
 use Rattle.bus.proofs.Claims.{reasons}
-use Rattle.bus.proofs.Unheard.{bus, ignored, Because, because, at-least-five}
-use Rattle.bus.proofs.Laws.{by-event, busEvent-length, with-sixteen, busEvent-sixteen}
+use Rattle.bus.proofs.Unheard.{bus}
+use Rattle.bus.proofs.Laws.{busEvent-refused, busEvent-length, busEvent-sixteen}
 use Rattle.line.proofs.Laws.{paint-length}
 use Rattle.device.specs.declared.Device.{Device}
 use Rattle.device.specs.Device.{freshDevice, EventOutcome, hearEvent, StartOutcome, inFrame, startFrame, DrawOutcome, notDrawn, nextScan, pixelsOf, lineOn, lineWidth, lineDrawn, drawLine}
@@ -96,26 +94,37 @@ module _ (xs : List ℕ) where
   unheard-back unheard.Reading h = refl
   unheard-back unheard.Writing h = refl
 
--- by what the step asks of the cells
-heard-back : (xs ram : List ℕ) (e : Event) (next : Bus) (f : Effect) → length xs ≡ recordLength → Because (deviceIn xs .bus) e next f
-    → deviceIn (heardOn xs (taken (record { bus = next; effect = f }) (deviceIn xs .registers) ram) .device) ≡ After xs next (registersWith f (deviceIn xs .registers))
-unfolding heardOn taken registersWith answerTo Because
-heard-back xs ram e next Acknowledge h k = event-back next (deviceIn xs .registers) xs (sixteen xs h) h
-heard-back xs ram e next (Ignore why) h k =
-    rw (not-zero (NotAcknowledged why), k .1) (ap deviceIn (ignored-is xs why) ∙ unheard-back xs why h)
-heard-back xs ram e next (Store a x) h k = event-back next (registersWith (Store a x) (deviceIn xs .registers)) xs (with-sixteen (Store a x) (deviceIn xs .registers) ∙ sixteen xs h) h
-heard-back xs ram e next (Load a) h k = event-back next (deviceIn xs .registers) xs (sixteen xs h) h
+module _ (xs ram : List ℕ) (e : Event) where
+  abbrev itsBus : Bus
+  itsBus = deviceIn xs .bus
+
+  abbrev itsRegisters : Registers
+  itsRegisters = deviceIn xs .registers
+
+  abbrev outcome : BusOutcome
+  outcome = busEvent itsBus itsRegisters ram e
+
+  unheard-on : {why : Unheard} → length ram ≡ 1024 → Applies why (itsBus .state) e
+      → heardOn xs outcome ≡ record { device = recordAfter why xs; ram = ram; answer = answerOf (refused (NotAcknowledged why)) }
+  unfolding heardOn
+  unheard-on {why} l a = ap (heardOn xs) (reasons .answered why itsBus itsRegisters ram e l a) ∙ rw (not-zero (NotAcknowledged why), ignored-is xs why)
+
+  event-read : length xs ≡ recordLength → deviceIn (heardOn xs outcome .device) ≡ After xs (outcome .bus) (outcome .registers)
+  unfolding heardOn
+  event-read h = by (eqb (outcome .reply .refusal) 0) refl (ℕ-discrete (length ram) 1024)
+    where
+      by : (t : Bool) → eqb (outcome .reply .refusal) 0 ≡ t → Dec (length ram ≡ 1024)
+          → deviceIn (cond t (put busAt (busBytes (outcome .bus)) (put registersAt (outcome .registers .bytes) xs)) (ignoredOn (outcome .bus .state) xs)) ≡ After xs (outcome .bus) (outcome .registers)
+      by true p l = event-back (outcome .bus) (outcome .registers) xs (heard-sixteen xs ram e h) h
+      by false p (no m) = rw (sym (busEvent-refused itsBus itsRegisters ram e m)) (ap deviceIn (ignored-same xs))
+      by false p (yes l) =
+          let w = reasons .some itsBus itsRegisters ram e l (eqb-false _ _ p) in
+          rw (reasons .answered (w .0) itsBus itsRegisters ram e l (w .1)) (ap deviceIn (ignored-is xs (w .0)) ∙ unheard-back xs (w .0) h)
 
 cross-bus : (xs ram : List ℕ) (kind byte : ℕ) → length xs ≡ recordLength → kind ≤ 3
     → deviceIn (busOn xs ram kind byte .device) ≡ hearEvent (deviceIn xs) ram (eventOf kind byte) .device
-unfolding heardOn hearEvent taken
-cross-bus xs ram kind byte h k =
-    let e : Event = eventOf kind byte in
-    let s : Step = step (deviceIn xs .bus) e in
-    ap (λ (r : BusDone). deviceIn (r .device)) (sym (bus-is xs ram kind byte h k))
-    ∙ by-event (λ (o : BusOutcome). deviceIn (heardOn xs o .device) ≡ After xs (o .bus) (o .registers)) (deviceIn xs .bus) (deviceIn xs .registers) ram e
-    (ap deviceIn (ignored-same xs))
-    (heard-back xs ram e (s .bus) (s .effect) h (because (deviceIn xs .bus) e))
+unfolding hearEvent
+cross-bus xs ram kind byte h k = ap (λ (r : BusDone). deviceIn (r .device)) (sym (bus-is xs ram kind byte h k)) ∙ event-read xs ram (eventOf kind byte) h
 
 -- ---- the record after a frame start and a draw
 
@@ -184,36 +193,20 @@ unheard-still xs fetch-high p u = refl
 unheard-still xs (fetch-low high) p u = refl
 unheard-still xs fetch-write p u = refl
 
-silent-by : (xs ram : List ℕ) (e : Event) (next : Bus) (f : Effect) → (T (isByte e) → deviceIn xs .bus .state ≡ Slave → ⊥) → Because (deviceIn xs .bus) e next f
-    → (taken (record { bus = next; effect = f }) (deviceIn xs .registers) ram .reply .refusal ≡ 0 → ⊥)
-    → heardOn xs (taken (record { bus = next; effect = f }) (deviceIn xs .registers) ram) .device ≡ xs
-unfolding heardOn taken answerTo Because
-silent-by xs ram e next Acknowledge u k n = absurd (n refl)
-silent-by xs ram e next (Ignore why) u k n = rw (not-zero (NotAcknowledged why), k .1) (ignored-is xs why ∙ unheard-still xs (k .0) refl u)
-silent-by xs ram e next (Store a x) u k n = absurd (n refl)
-silent-by xs ram e next (Load a) u k n = absurd (n refl)
-
 silence : (xs ram : List ℕ) (kind byte : ℕ) → (kind ≡ 1 → deviceIn xs .bus .state ≡ Slave → length ram ≡ 1024 → ⊥)
     → (hearEvent (deviceIn xs) ram (eventOf kind byte) .reply .refusal ≡ 0 → ⊥) → busOn xs ram kind byte .device ≡ xs
-unfolding busOn heardOn hearEvent busEvent
-silence xs ram kind byte u = by (eqb (length xs) recordLength && not (ltb 3 kind)) (not (eqb (length ram) 1024)) refl
+unfolding busOn heardOn hearEvent
+silence xs ram kind byte u n =
+    if-taken (λ (d : BusDone). d .device ≡ xs) (isRecord xs && not (ltb 3 kind)) _ _ (λ t. by (ℕ-discrete (length ram) 1024)) refl
   where
     e : Event
     e = eventOf kind byte
 
-    s : Step
-    s = step (deviceIn xs .bus) e
-
-    r : BusOutcome
-    r = record { bus = deviceIn xs .bus; registers = deviceIn xs .registers; ram = ram; reply = refused RamLength }
-
-    by : (p t : Bool) → not (eqb (length ram) 1024) ≡ t
-        → let o : BusOutcome = cond t r (taken s (deviceIn xs .registers) ram) in
-        (o .reply .refusal ≡ 0 → ⊥) → cond p (heardOn xs o) (record { device = xs; ram = ram; answer = notTaken }) .device ≡ xs
-    by false t q n = refl
-    by true true q n = ignored-same xs
-    by true false q n =
-        silent-by xs ram e (s .bus) (s .effect) (λ c d. u (byte-kind kind byte c) d (eqb-true _ _ (not-false _ q))) (because (deviceIn xs .bus) e) n
+    by : Dec (length ram ≡ 1024) → heardOn xs (outcome xs ram e) .device ≡ xs
+    by (yes l) =
+        let w = reasons .some (itsBus xs ram e) (itsRegisters xs ram e) ram e l n in
+        ap (λ (d : BusDone). d .device) (unheard-on xs ram e l (w .1)) ∙ unheard-still xs (w .1) refl (λ c d. u (byte-kind kind byte c) d l)
+    by (no m) = rw (sym (busEvent-refused (itsBus xs ram e) (itsRegisters xs ram e) ram e m)) (ignored-same xs)
 
 start-silence : (xs : List ℕ) (lines : ℕ) → (startFrame (deviceIn xs) lines .reply .refusal ≡ 0 → ⊥) → startOn xs lines .device ≡ xs
 unfolding startOn
@@ -226,23 +219,22 @@ draw-silence xs ram font line n =
 
 deafness : (xs ram : List ℕ) (byte : ℕ) → length xs ≡ recordLength → length ram ≡ 1024 → deviceIn xs .bus .state ≡ Slave → (byte ≡ 0xBA → ⊥) → (byte ≡ 0xBB → ⊥)
     → busOn xs ram 1 byte ≡ record { device = set xs busAt 1; ram = ram; answer = answerOf (refused (NotAcknowledged unheard.NotAddressed)) }
-unfolding busOn heardOn hearEvent busEvent taken step ramWith answerTo
-deafness xs ram byte h k s a b = rw (eq-eqb _ _ h, eq-eqb _ _ k, s, ne-eqb _ _ a, ne-eqb _ _ b)
+deafness xs ram byte h k s a b =
+    sym (bus-is xs ram 1 byte h (omega arith))
+    ∙ unheard-on xs ram (Byte byte) k (subst (λ (t : BusState). Applies unheard.NotAddressed t (Byte byte)) (sym s) (unknown-slave byte a b))
 
 unheard-by : (xs ram : List ℕ) (kind byte : ℕ) (why : Unheard) → length xs ≡ recordLength → kind ≤ 3
     → hearEvent (deviceIn xs) ram (eventOf kind byte) .reply .refusal ≡ numberOf (NotAcknowledged why)
     → busOn xs ram kind byte ≡ record { device = recordAfter why xs; ram = ram; answer = answerOf (refused (NotAcknowledged why)) }
-unfolding heardOn hearEvent taken registersWith ramWith answerTo
-unheard-by xs ram kind byte why h k p =
-    let b : Bus = deviceIn xs .bus in
-    let r : Registers = deviceIn xs .registers in
-    let e : Event = eventOf kind byte in
-    sym (bus-is xs ram kind byte h k)
-    ∙ by-event (λ (o : BusOutcome). o .reply .refusal ≡ numberOf (NotAcknowledged why) → heardOn xs o ≡ record { device = recordAfter why xs; ram = ram; answer = answerOf (refused (NotAcknowledged why)) })
-    b r ram e
-    (λ q. absurd (omega (arith, at-least-five why, q)))
-    (rw (ignored (b .counter) (reasons .only why b r ram e p)) (λ q. rw (not-zero (NotAcknowledged why), ignored-is xs why)))
-    p
+unfolding hearEvent
+unheard-by xs ram kind byte why h k p = sym (bus-is xs ram kind byte h k) ∙ by (ℕ-discrete (length ram) 1024)
+  where
+    e : Event
+    e = eventOf kind byte
+
+    by : Dec (length ram ≡ 1024) → heardOn xs (outcome xs ram e) ≡ record { device = recordAfter why xs; ram = ram; answer = answerOf (refused (NotAcknowledged why)) }
+    by (yes l) = unheard-on xs ram e l (reasons .only why (itsBus xs ram e) (itsRegisters xs ram e) ram e p)
+    by (no m) = absurd (omega (arith, at-least-five why, ap (λ (x : BusOutcome). x .reply .refusal) (busEvent-refused (itsBus xs ram e) (itsRegisters xs ram e) ram e m), p))
 
 -- ---- lengths
 

@@ -1,8 +1,11 @@
--- A refused call is not accepted: its number is not 0.
+-- A refused call is not accepted: its number is not 0. No two reasons why an event is not acknowledged have one number.
 -- Assumes nothing.
-use mathlib.Core.Path.{_≡_, refl, subst}
-use mathlib.Core.Bool.{false}
+use Prim.Native.Nat.{ℕ, _≤_}
+use mathlib.Core.Path.{_≡_, refl, sym, ap, subst, _∙_}
+use mathlib.Core.Bool.{false, cond}
+use native.Mathlib.Omega.{arith}
 use lib.Dec.{eqb}
+use Rattle.refusals.specs.declared.Unheard.{Unheard}
 use Rattle.refusals.specs.declared.Unheard.the-variants.{Idle, NotAddressed, Reading, Writing}
 use Rattle.refusals.specs.declared.Refusal.{Refusal}
 use Rattle.refusals.specs.declared.Refusal.the-variants.{RamLength, FontLength, LineLength, NoLine, NotAcknowledged, FrameLines, BenchLength, CellRange, FeedShut, OutputRoom, PixelRange}
@@ -32,3 +35,25 @@ not-zero CellRange = refl
 not-zero FeedShut = refl
 not-zero OutputRoom = refl
 not-zero PixelRange = refl
+
+-- ---- why an event is not acknowledged, by the number
+
+pub at-least-five : (why : Unheard) → 5 ≤ numberOf (NotAcknowledged why)
+at-least-five Idle = omega arith
+at-least-five NotAddressed = omega arith
+at-least-five Reading = omega arith
+at-least-five Writing = omega arith
+
+whyOf : ℕ → Unheard
+whyOf n = cond (eqb n 5) Idle (cond (eqb n 12) NotAddressed (cond (eqb n 13) Reading Writing))
+
+why-of : (why : Unheard) → whyOf (numberOf (NotAcknowledged why)) ≡ why
+unfolding whyOf
+why-of Idle = refl
+why-of NotAddressed = refl
+why-of Reading = refl
+why-of Writing = refl
+
+-- no two reasons have one number
+pub same-number : (why other : Unheard) → numberOf (NotAcknowledged why) ≡ numberOf (NotAcknowledged other) → why ≡ other
+same-number why other e = sym (why-of why) ∙ ap whyOf e ∙ why-of other
