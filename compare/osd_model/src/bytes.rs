@@ -24,6 +24,9 @@ use crate::{Device, Event, Refusal, FRAME_NUMBERS, MAX_LINES, RAM_LEN, RAM_WORDS
 
 /// Bytes of a device record.
 pub const DEVICE_LEN: usize = 32;
+/// The interface's own refusal, as an answer: a record or a chunk of a wrong
+/// length, or a kind that there is not.
+pub const NOT_TAKEN: u32 = 255 << 16;
 
 const IDLE: u8 = 0;
 const DEAF: u8 = 1;
@@ -139,8 +142,8 @@ fn strip_from_bytes(flags: u8, lines: u8, row: u16, drawn: u16) -> Strip {
 
 /// Takes a bus event on a device record in place: `kind` 0 start, 1 host
 /// `byte`, 2 fetch, 3 stop. Answers the refusal's number times 65,536 plus
-/// the bus byte. Any other kind is no event, and answers 255 times 65,536,
-/// the interface's own refusal, before all others.
+/// the bus byte. Any other kind is no event, and answers [`NOT_TAKEN`], before
+/// all other refusals.
 ///
 /// Of any record, an acknowledged event writes the bus bytes anew, the counter
 /// where it is set or goes up, and a register that is stored, in its own byte.
@@ -150,7 +153,7 @@ fn strip_from_bytes(flags: u8, lines: u8, row: u16, drawn: u16) -> Strip {
 #[inline(always)]
 pub fn bus_bytes(device: &mut [u8; DEVICE_LEN], ram: &mut [u8], kind: u8, byte: u8) -> u32 {
     let Some(event) = Event::of_kind(kind, byte) else {
-        return 255 << 16;
+        return NOT_TAKEN;
     };
     let Ok(ram) = <&mut [u8; RAM_LEN]>::try_from(ram) else {
         return refused(Refusal::RamLength);

@@ -24,7 +24,7 @@ mod registers;
 mod tests;
 
 pub use bus::Event;
-pub use bytes::{bus_bytes, DEVICE_LEN};
+pub use bytes::{bus_bytes, DEVICE_LEN, NOT_TAKEN};
 pub use feed::{feed_bytes, Fed, Feed, FEED_LEN};
 pub use pixel::pixel_bytes;
 

@@ -2,12 +2,12 @@
 //! the whole, and those of one bus event after the other.
 
 use crate::lent::Lent;
-use crate::library::{Library, Linked, CHUNK_MAX, NOT_TAKEN};
+use crate::library::{Library, Linked, CHUNK_MAX};
 use crate::linked;
 use crate::pages::RAM;
 use crate::random::Random;
 use crate::traffic;
-use osd_model::{feed_bytes, Device, DEVICE_LEN, FEED_LEN};
+use osd_model::{feed_bytes, Device, DEVICE_LEN, FEED_LEN, NOT_TAKEN};
 use std::process::exit;
 
 const RANDOM_CUTS: usize = 200;

@@ -4,8 +4,6 @@ use crate::lent::Lent;
 use crate::linked;
 use std::ops::Range;
 
-/// The interface's own refusal.
-pub const NOT_TAKEN: u32 = 255 << 16;
 /// The most bytes of a chunk.
 pub const CHUNK_MAX: usize = 65_534;
 
@@ -33,9 +31,11 @@ pub trait Library {
     fn feed_fresh(&mut self, feed: &mut Lent) -> u32;
     fn feed(&mut self, device: &mut Lent, feed: &mut Lent, ram: &mut Lent, chunk: &Lent, out: &mut Lent) -> u32;
 
-    /// The calls that follow belong to this seed's session; with `made_up`, nobody says what all of them answer and leave. Answers
-    /// whether they are made, and not only written down.
-    fn session(&mut self, seed: u64, made_up: bool) -> bool;
+    /// The calls that follow belong to this seed's session; with `made_up`, nobody says what all of them answer and leave.
+    fn session(&mut self, seed: u64, made_up: bool);
+
+    /// Are calls of this session made here, so that they can be compared? Else they are only written down.
+    fn compares(&self) -> bool;
 }
 
 /// The proved library.
@@ -78,7 +78,9 @@ impl Library for Linked {
         linked::feed(device.get_mut(), feed.get_mut(), ram.get_mut(), chunk.get(), out.get_mut())
     }
 
-    fn session(&mut self, _seed: u64, _made_up: bool) -> bool {
+    fn session(&mut self, _seed: u64, _made_up: bool) {}
+
+    fn compares(&self) -> bool {
         true
     }
 }

@@ -1,7 +1,7 @@
 //! The independent implementation's bus events and chunks, lent buffers of any length as include/osd.h has them.
 
-use crate::library::{CHUNK_MAX, NOT_TAKEN};
-use osd_model::{bus_bytes, feed_bytes};
+use crate::library::CHUNK_MAX;
+use osd_model::{bus_bytes, feed_bytes, NOT_TAKEN};
 
 pub fn bus(device: &mut [u8], ram: &mut [u8], kind: u8, byte: u8) -> u32 {
     match device.try_into() {

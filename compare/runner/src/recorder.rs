@@ -26,11 +26,11 @@
 //! Changed bytes are a list of: slot, first place (2 bytes), number (2 bytes), the bytes; its end is a slot of 255.
 
 use crate::lent::Lent as Buffer;
-use crate::library::{Library, Place, NOT_TAKEN};
+use crate::library::{Library, Place};
 use crate::model;
 use crate::random::Random;
 use crate::sessions::packed;
-use osd_model::{pixel_bytes, Device, Feed, DEVICE_LEN, FEED_LEN};
+use osd_model::{pixel_bytes, Device, Feed, DEVICE_LEN, FEED_LEN, NOT_TAKEN};
 use std::io::{Result, Write};
 use Argument::{Byte, Lent, Number};
 
@@ -309,10 +309,13 @@ impl<W: Write> Library for Recorder<W> {
         self.answered(answer, [(slot, device), (feed_slot, feed), (ram_slot, ram), (out_slot, out)])
     }
 
-    fn session(&mut self, seed: u64, made_up: bool) -> bool {
+    fn session(&mut self, seed: u64, made_up: bool) {
         self.put(&[1]);
         self.put(&seed.to_le_bytes());
         self.made_up = made_up;
-        !made_up
+    }
+
+    fn compares(&self) -> bool {
+        !self.made_up
     }
 }

@@ -8,11 +8,11 @@ mod pixels;
 pub use corrupted::{corrupted, Corrupted};
 
 use crate::lent::Lent;
-use crate::library::{Library, NOT_TAKEN};
+use crate::library::Library;
 use crate::pages::{random_page, FONT, RAM};
 use crate::random::Random;
 use crate::traffic;
-use osd_model::{Device, Event, Fed, Feed, Refusal, FEED_LEN};
+use osd_model::{Device, Event, Fed, Feed, Refusal, DEVICE_LEN, FEED_LEN, NOT_TAKEN};
 use std::process::exit;
 
 const CALLS: u32 = 520;
@@ -30,6 +30,11 @@ pub fn packed(answer: Result<u32, Refusal>) -> u32 {
 /// The same of a chunk.
 fn packed_fed(fed: Fed) -> u32 {
     fed.refusal.map_or(0, |refusal| u32::from(refusal.number()) << 16) | fed.written as u32
+}
+
+/// Lengths of a buffer other than the right one.
+const fn other_lens(right: usize) -> [usize; 5] {
+    [0, 1, right - 1, right + 1, 2 * right]
 }
 
 struct Session<'a, L> {
@@ -153,8 +158,7 @@ impl<L: Library> Session<'_, L> {
     /// Each sort of event in each state of the bus: with a kind and with a RAM that are refused before it, and then heard or not; and
     /// the same once more as a capture.
     fn each_state(&mut self) {
-        // 254 seeds in a row have every byte but the slave addresses.
-        let unknown = 0xBC_u8.wrapping_add((self.seed % 254) as u8);
+        let unknown = traffic::unknown_slave(self.seed);
         let mut other_ram = self.ram_of_another_length();
         let before = other_ram.get().to_vec();
         let mut events = vec![];
@@ -163,7 +167,7 @@ impl<L: Library> Session<'_, L> {
                 for &(kind, byte) in &state {
                     self.event(kind, byte);
                 }
-                let bad = 4 + self.random.below(252) as u8;
+                let bad = traffic::bad_kind(&mut self.random);
                 let answer = self.library.bus(&mut self.device, &mut other_ram, bad, byte);
                 self.check("kind above 3", answer, NOT_TAKEN);
                 let answer = self.library.bus(&mut self.device, &mut other_ram, kind, byte);
@@ -305,8 +309,12 @@ impl<L: Library> Session<'_, L> {
         }
     }
 
+    fn wrong_length(&mut self, right: usize) -> usize {
+        self.random.pick(&other_lens(right))
+    }
+
     fn ram_of_another_length(&mut self) -> Lent {
-        let len = self.random.pick(&[0, 1, RAM - 1, RAM + 1, 2 * RAM]);
+        let len = self.wrong_length(RAM);
         Lent::new(&mut self.random, len)
     }
 
@@ -334,7 +342,7 @@ impl<L: Library> Session<'_, L> {
 
     /// Calls that the interface itself refuses, or for the RAM's length: nothing changes.
     fn refused(&mut self) {
-        let len = [0, 1, 31, 33, 64][self.random.below(5) as usize];
+        let len = self.wrong_length(DEVICE_LEN);
         let mut other = Lent::new(&mut self.random, len);
         let before = other.get().to_vec();
         let kind = self.random.byte();
@@ -366,7 +374,7 @@ impl<L: Library> Session<'_, L> {
         ] {
             self.check("record of another length", answer, NOT_TAKEN);
         }
-        let kind = 4 + self.random.below(252) as u8;
+        let kind = traffic::bad_kind(&mut self.random);
         let answer = self.library.bus(&mut self.device, &mut ram, kind, byte);
         self.check("kind above 3", answer, NOT_TAKEN);
         if ram_len != RAM {

@@ -37,6 +37,16 @@ pub fn any_event(random: &mut Random) -> Logged {
     (kind, if random.one_in(2) { random.pick(&[0xBA, 0xBB]) } else { random.byte() })
 }
 
+/// A kind that there is not.
+pub fn bad_kind(random: &mut Random) -> u8 {
+    4 + random.below(252) as u8
+}
+
+/// A byte that is no slave address of the device. Any 254 numbers in a row give all of them.
+pub fn unknown_slave(number: u64) -> u8 {
+    0xBC_u8.wrapping_add((number % 254) as u8)
+}
+
 /// What leads to each state of the bus from any other: idle, deaf, slave address next, high byte next, low byte next, writing, reading.
 pub fn to_each_state(random: &mut Random, unknown: u8) -> [Vec<Logged>; 7] {
     let address = address(random);
@@ -69,7 +79,7 @@ pub fn capture(random: &mut Random) -> Vec<u8> {
     }
     if random.one_in(8) {
         let bad = random.below(events.len() as u64) as usize;
-        events[bad].0 = if random.one_in(2) { 4 } else { 4 + random.below(252) as u8 };
+        events[bad].0 = if random.one_in(2) { 4 } else { bad_kind(random) };
     }
     bytes(&events)
 }

@@ -1,6 +1,7 @@
 //! Calls on corrupted records: every call ends, and touches no byte outside its buffers, and none of those that it only reads. Bus
 //! events and chunks are compared in full, since the header says what they answer and leave whatever the records' bytes are.
 
+use super::other_lens;
 use crate::lent::Lent;
 use crate::library::{Library, Place};
 use crate::model;
@@ -12,7 +13,7 @@ use std::process::exit;
 
 /// Records of a seed, for bus events and chunks alone and again for calls of every sort.
 const RECORDS: u32 = 40;
-/// Bus states that there are, and one that is idle again.
+/// Those in each bus state, which come first: the states that there are, and one that is idle again.
 const STATES: u32 = 8;
 /// Times that a record is called with each sort of call.
 const TIMES: u32 = 6;
@@ -46,7 +47,7 @@ fn feed_record(random: &mut Random) -> Vec<u8> {
 /// Any event, now and then of a kind that there is not.
 fn any_event(random: &mut Random) -> traffic::Logged {
     let (kind, byte) = traffic::any_event(random);
-    let bad = 4 + random.below(252) as u8;
+    let bad = traffic::bad_kind(random);
     (if random.one_in(8) { random.pick(&[4, bad]) } else { kind }, byte)
 }
 
@@ -58,12 +59,12 @@ fn lent(random: &mut Random, mut bytes: Vec<u8>, other_lens: &[usize]) -> Lent {
     Lent::copy_of(random, &bytes)
 }
 
-/// The buffers of bus events and chunks.
-struct Wire {
+/// A seed's calls, and the buffers of bus events and chunks.
+struct Calls<'a, L> {
+    library: &'a mut L,
+    random: Random,
     seed: u64,
-    /// Are calls compared? Else they are only made.
-    compares: bool,
-    compared: [u64; 256],
+    counts: Corrupted,
     device: Lent,
     ram: Lent,
     feed: Lent,
@@ -71,10 +72,12 @@ struct Wire {
     out: Lent,
 }
 
-impl Wire {
-    fn new(random: &mut Random, seed: u64, compares: bool, device: Lent, ram: Lent) -> Wire {
-        let [feed, chunk, out] = [FEED_LEN, 0, 0].map(|len| Lent::new(random, len));
-        Wire { seed, compares, compared: [0; 256], device, ram, feed, chunk, out }
+impl<L: Library> Calls<'_, L> {
+    fn new(library: &mut L, seed: u64) -> Calls<'_, L> {
+        let mut random = Random::new(!seed);
+        let [device, ram, feed, chunk, out] = [DEVICE_LEN, RAM, FEED_LEN, 0, 0].map(|len| Lent::new(&mut random, len));
+        let counts = Corrupted { calls: 0, compared: [0; 256] };
+        Calls { library, random, seed, counts, device, ram, feed, chunk, out }
     }
 
     fn buffers(&self) -> [&Lent; 5] {
@@ -86,17 +89,18 @@ impl Wire {
     }
 
     /// A bus event, and the model's on copies.
-    fn event<L: Library>(&mut self, library: &mut L, (kind, byte): traffic::Logged) {
+    fn event(&mut self, (kind, byte): traffic::Logged) {
         let before = self.copies();
         let mut model = before.clone();
         let [device, ram, ..] = &mut model;
         let expected = model::bus(device, ram, kind, byte);
-        let answer = library.bus(&mut self.device, &mut self.ram, kind, byte);
+        let answer = self.library.bus(&mut self.device, &mut self.ram, kind, byte);
         self.same(&format!("event {kind}, byte {byte:02X}"), (answer, expected), &before, &model);
     }
 
     /// A chunk on another feed, mostly with room for its output, and the model's on copies.
-    fn chunk<L: Library>(&mut self, library: &mut L, random: &mut Random) {
+    fn chunk(&mut self) {
+        let random = &mut self.random;
         let feed = feed_record(random);
         self.feed = lent(random, feed, &[0, 1, 3, 32]);
         // Mostly without the start and what follows it: the record's own state counts, and a held half may fit or not.
@@ -110,15 +114,16 @@ impl Wire {
         let mut model = before.clone();
         let [device, ram, feed, chunk, out] = &mut model;
         let expected = model::feed(device, feed, ram, chunk, out);
-        let answer = library.feed(&mut self.device, &mut self.feed, &mut self.ram, &self.chunk, &mut self.out);
+        let answer = self.library.feed(&mut self.device, &mut self.feed, &mut self.ram, &self.chunk, &mut self.out);
         self.same("chunk", (answer, expected), &before, &model);
     }
 
-    /// Answer, and every byte of every buffer. What lies around the buffers, and the chunk, also where calls are only made.
+    /// Answer, and every byte of every buffer. What lies around the buffers, and the chunk, also where calls are not compared.
     fn same(&mut self, what: &str, (answer, expected): (u32, u32), before: &[Vec<u8>; 5], model: &[Vec<u8>; 5]) {
+        let compares = self.library.compares();
         let left = self.copies();
         let held = self.buffers().iter().all(|lent| lent.guards_hold()) && left[3] == before[3];
-        if !held || self.compares && (answer != expected || left != *model) {
+        if !held || compares && (answer != expected || left != *model) {
             println!("seed {}: {what} on a corrupted record; bytes around the buffers and the chunk hold: {held}", self.seed);
             for (name, answer, bytes) in [("before", 0, before), ("library", answer, &left), ("model", expected, model)] {
                 println!("  {name:8} {answer:06X}, record {:02X?}, feed {:02X?}, chunk {:02X?}", bytes[0], bytes[2], bytes[3]);
@@ -126,103 +131,103 @@ impl Wire {
             println!("  RAM as the model's: {}, output: {}", left[1] == model[1], left[4] == model[4]);
             exit(1);
         }
-        if self.compares {
-            self.compared[(answer >> 16) as usize] += 1;
-        }
-    }
-}
-
-impl Corrupted {
-    fn count(&mut self, wire: &Wire) {
-        for (all, some) in self.compared.iter_mut().zip(wire.compared) {
-            *all += some;
+        self.counts.calls += 1;
+        if compares {
+            self.counts.compared[(answer >> 16) as usize] += 1;
         }
     }
 
-    /// Bus events and chunks alone, so that a trace too says what they answer and leave.
-    fn bus<L: Library>(&mut self, library: &mut L, seed: u64, random: &mut Random) {
-        let compares = library.session(seed, false);
-        for number in 0..RECORDS {
-            let mut record = record(random);
-            // The first have each bus state, and meet each refusal of an event that is not acknowledged.
-            let is_first = number < STATES;
-            if is_first {
-                record[0] = number as u8;
-            }
-            let other_lens: &[usize] = if is_first { &[DEVICE_LEN] } else { &[0, 1, 31, 33, 64] };
-            let device = lent(random, record, other_lens);
-            let ram_len = if random.one_in(12) && !is_first { random.pick(&[0, 1, RAM - 1, RAM + 1, 2 * RAM]) } else { RAM };
-            let ram = Lent::new(random, ram_len);
-            let mut wire = Wire::new(random, seed, compares, device, ram);
-            if is_first {
-                let unknown = 0xBC_u8.wrapping_add(random.below(254) as u8);
-                wire.event(library, (2, unknown));
-                wire.event(library, (1, unknown));
-                self.calls += 2;
-            }
+    /// Any event, and one time in so many a chunk behind it.
+    fn event_and_chunk(&mut self, one_in: u64) {
+        let event = any_event(&mut self.random);
+        self.event(event);
+        if self.random.one_in(one_in) {
+            self.chunk();
+        }
+    }
+
+    /// Calls of the other sorts. Nobody says what they answer, or leave in the record and the line.
+    fn others(&mut self, font: &Lent, line: &mut Lent) {
+        let number = self.random.below(1100) as u32;
+        let [record_before, ram_before, ..] = self.copies();
+        let font_before = font.get().to_vec();
+        self.library.cell(&self.device, &self.ram, number);
+        let [lines, frame, x, y] = [2100, u64::MAX, 800, 2100].map(|end| self.random.below(end) as u32);
+        self.library.pixel(&self.device, &self.ram, font, Place { lines, frame, x, y });
+        let same_record = self.device.get() == &record_before[..];
+        self.library.draw(&mut self.device, &self.ram, font, line);
+        let starts = self.random.one_in(6);
+        if starts {
+            self.library.frame_start(&mut self.device, number);
+        }
+        self.counts.calls += 3 + u64::from(starts);
+        let same_ram = self.ram.get() == &ram_before[..];
+        let held = [&self.device, &self.ram, font, line].iter().all(|lent| lent.guards_hold());
+        if !held || !same_record || !same_ram || font.get() != &font_before[..] {
+            println!("seed {}: a corrupted record changed bytes outside", self.seed);
+            exit(1);
+        }
+    }
+
+    /// A record in each bus state. None has a wrong length and each first meets a fetch and an unknown slave address, so that every seed
+    /// has each refusal of an event that is not acknowledged.
+    fn states(&mut self) {
+        for state in 0..STATES {
+            let mut record = record(&mut self.random);
+            record[0] = state as u8;
+            self.device = Lent::copy_of(&mut self.random, &record);
+            self.ram = Lent::new(&mut self.random, RAM);
+            let unknown = traffic::unknown_slave(self.random.next());
+            self.event((2, unknown));
+            self.event((1, unknown));
             for _ in 0..TIMES {
-                wire.event(library, any_event(random));
-                self.calls += 1;
-                if random.one_in(4) {
-                    wire.chunk(library, random);
-                    self.calls += 1;
-                }
+                self.event_and_chunk(4);
             }
-            self.count(&wire);
+        }
+    }
+
+    /// Records in any state, now and then with a length that is refused.
+    fn bus(&mut self) {
+        for _ in STATES..RECORDS {
+            let random = &mut self.random;
+            let record = record(random);
+            self.device = lent(random, record, &other_lens(DEVICE_LEN));
+            let ram_len = if random.one_in(12) { random.pick(&other_lens(RAM)) } else { RAM };
+            self.ram = Lent::new(random, ram_len);
+            for _ in 0..TIMES {
+                self.event_and_chunk(4);
+            }
         }
     }
 
     /// Calls of every sort.
-    fn all<L: Library>(&mut self, library: &mut L, seed: u64, random: &mut Random) {
-        let compares = library.session(seed, true);
+    fn all(&mut self) {
         for _ in 0..RECORDS {
+            let random = &mut self.random;
             let record = record(random);
-            let device = Lent::copy_of(random, &record);
+            self.device = Lent::copy_of(random, &record);
             let ram_len = if random.one_in(8) { random.below(2000) as usize } else { RAM };
             let font_len = if random.one_in(8) { random.below(9000) as usize } else { FONT };
             let line_len = random.below(900) as usize;
-            let ram = Lent::new(random, ram_len);
+            self.ram = Lent::new(random, ram_len);
             let font = Lent::new(random, font_len);
             let mut line = Lent::new(random, line_len);
-            let font_before = font.get().to_vec();
-            let mut wire = Wire::new(random, seed, compares, device, ram);
             for _ in 0..TIMES {
-                let number = random.below(1100) as u32;
-                let record_before = wire.device.get().to_vec();
-                let ram_before = wire.ram.get().to_vec();
-                library.cell(&wire.device, &wire.ram, number);
-                let [lines, frame, x, y] = [2100, u64::MAX, 800, 2100].map(|end| random.below(end) as u32);
-                library.pixel(&wire.device, &wire.ram, &font, Place { lines, frame, x, y });
-                let same_record = wire.device.get() == &record_before[..];
-                library.draw(&mut wire.device, &wire.ram, &font, &mut line);
-                self.calls += 3;
-                if random.one_in(6) {
-                    library.frame_start(&mut wire.device, number);
-                    self.calls += 1;
-                }
-                let same_ram = wire.ram.get() == &ram_before[..];
-                let held = [&wire.device, &wire.ram, &font, &line].iter().all(|lent| lent.guards_hold());
-                if !held || !same_record || !same_ram || font.get() != &font_before[..] {
-                    println!("seed {seed}: a corrupted record changed bytes outside");
-                    exit(1);
-                }
-                wire.event(library, any_event(random));
-                self.calls += 1;
-                if random.one_in(2) {
-                    wire.chunk(library, random);
-                    self.calls += 1;
-                }
+                self.others(&font, &mut line);
+                self.event_and_chunk(2);
             }
-            self.count(&wire);
         }
     }
 }
 
 /// Calls on a seed's corrupted records. Ends the program at the first difference.
 pub fn corrupted<L: Library>(library: &mut L, seed: u64) -> Corrupted {
-    let mut random = Random::new(!seed);
-    let mut corrupted = Corrupted { calls: 0, compared: [0; 256] };
-    corrupted.bus(library, seed, &mut random);
-    corrupted.all(library, seed, &mut random);
-    corrupted
+    let mut calls = Calls::new(library, seed);
+    // Bus events and chunks alone, so that a trace too says what they answer and leave.
+    calls.library.session(seed, false);
+    calls.states();
+    calls.bus();
+    calls.library.session(seed, true);
+    calls.all();
+    calls.counts
 }

@@ -2,9 +2,9 @@
 
 use super::{packed, Session};
 use crate::lent::Lent;
-use crate::library::{Library, Place, FRAME_NUMBER, NOT_TAKEN, REGISTERS};
+use crate::library::{Library, Place, FRAME_NUMBER, REGISTERS};
 use crate::pages::{random_page, FONT, RAM};
-use osd_model::DEVICE_LEN;
+use osd_model::{DEVICE_LEN, NOT_TAKEN};
 
 impl<L: Library> Session<'_, L> {
     /// A pixel of any frame, in mid-frame too, mostly with the buffers that it needs.
@@ -35,10 +35,6 @@ impl<L: Library> Session<'_, L> {
     /// Any frame number, small ones too.
     fn frame_number(&mut self) -> u32 {
         self.random.next() as u32 >> self.random.pick(&[0, 16, 26])
-    }
-
-    fn wrong_length(&mut self, right: usize) -> usize {
-        self.random.pick(&[0, 1, right - 1, right + 1, 2 * right])
     }
 
     /// A pixel, with a record, RAM and font of these lengths where they are wrong. A record of the right length has the session's
