@@ -3,7 +3,7 @@
 use Prim.Native.Nat.{ℕ}
 use mathlib.Core.Path.{_≡_, refl, sym, ap, subst, _∙_}
 use mathlib.Core.Bool.{Bool, true, false, cond}
-use mathlib.Core.List.{List}
+use mathlib.Core.List.{List, []}
 use native.Mathlib.Omega.{arith}
 use borrow.Author.Tests.{eq-eqb, ne-eqb, eqb-false}
 use lib.Dec.{eqb}
@@ -14,6 +14,7 @@ use Rattle.refusals.specs.declared.Refusal.the-variants.{NotAcknowledged}
 use Rattle.refusals.specs.Refusals.{numberOf, refused}
 use Rattle.refusals.proofs.Laws.{at-least-five, same-number}
 use Rattle.registers.specs.declared.Registers.{Registers}
+use Rattle.registers.specs.Registers.{freshRegisters}
 use Rattle.bus.specs.declared.Event.{Event}
 use Rattle.bus.specs.declared.Event.the-variants.{Start, Byte, Fetch, Stop}
 use Rattle.bus.specs.declared.BusState.{BusState}
@@ -120,30 +121,21 @@ module _ (b : Bus) (r : Registers) (ram : List ℕ) (e : Event) where
       by-event (λ (o : BusOutcome). o .reply .refusal ≡ 0 → ⊥) b r ram e
       (λ q. omega (arith, q)) (rw (ignored (b .counter) a) (λ q. omega (arith, at-least-five why, q))) p
 
-reasonIn : Effect → Unheard
-reasonIn Acknowledge = unheard.Idle
-reasonIn (Ignore why) = why
-reasonIn (Store a x) = unheard.Idle
-reasonIn (Load a) = unheard.Idle
+-- the number that a step gives, whatever registers and RAM hold
+abbrev number : Step → ℕ
+number s = busReply (answerTo (s .effect) freshRegisters []) .refusal
 
+-- an event has one answer, and so one reason
 one-reason : (why other : Unheard) (s : BusState) (e : Event) → Applies why s e → Applies other s e → why ≡ other
-unfolding reasonIn
-one-reason why other s e a o = ap (λ (t : Step). reasonIn (t .effect)) (sym (ignored 0 a) ∙ ignored 0 o)
+unfolding answerTo
+one-reason why other s e a o = same-number why other (ap number (sym (ignored 0 a) ∙ ignored 0 o))
 
 -- ---- document 01's 5
 
-IsRead : BusState → Type 0
-IsRead Idle = ⊥
-IsRead Deaf = ⊥
-IsRead Slave = ⊥
-IsRead High = ⊥
-IsRead (Low high) = ⊥
-IsRead Write = ⊥
-IsRead Read = Unit
-
-is-read : {s : BusState} → s ≡ Read → IsRead s
-unfolding IsRead
-is-read p = subst IsRead (sym p) tt
+-- a fetch while reading is answered 0
+unread : {why : Unheard} {s : BusState} → Applies why s Fetch → s ≡ Read → ⊥
+unfolding step answerTo
+unread {why} a p = omega (arith, at-least-five why, ap number (ignored 0 (subst (λ (s : BusState). Applies why s Fetch) p a)))
 
 unheard-fetch : (s : BusState) → (s ≡ Read → ⊥) → (why : Unheard) × Applies why s Fetch
 unheard-fetch Idle n = (unheard.Idle, fetch-idle)
@@ -162,17 +154,16 @@ has-reason (byte-while-reading x) = (unheard.Reading, byte-reading x)
 has-reason (fetch-while-not-reading s n) = unheard-fetch s n
 
 was-five : {why : Unheard} {s : BusState} {e : Event} → Applies why s e → Unacknowledged s e
-unfolding IsRead
 was-five (byte-idle x) = byte-while-idle x
-was-five fetch-idle = fetch-while-not-reading Idle is-read
+was-five fetch-idle = fetch-while-not-reading Idle (unread fetch-idle)
 was-five (unknown-slave x p q) = other-slave x p q
 was-five (byte-deaf x) = byte-while-deaf x
-was-five fetch-deaf = fetch-while-not-reading Deaf is-read
+was-five fetch-deaf = fetch-while-not-reading Deaf (unread fetch-deaf)
 was-five (byte-reading x) = byte-while-reading x
-was-five fetch-slave = fetch-while-not-reading Slave is-read
-was-five fetch-high = fetch-while-not-reading High is-read
-was-five (fetch-low high) = fetch-while-not-reading (Low high) is-read
-was-five fetch-write = fetch-while-not-reading Write is-read
+was-five fetch-slave = fetch-while-not-reading Slave (unread fetch-slave)
+was-five fetch-high = fetch-while-not-reading High (unread fetch-high)
+was-five (fetch-low high) = fetch-while-not-reading (Low high) (unread (fetch-low high))
+was-five fetch-write = fetch-while-not-reading Write (unread fetch-write)
 
 pub reasons : Reasons
 reasons =

@@ -23,11 +23,11 @@ use Rattle.refusals.proofs.Laws.{not-zero, at-least-five}
 use Rattle.registers.specs.declared.Registers.{Registers}
 use Rattle.registers.specs.Registers.{settingsOf}
 use Rattle.bus.specs.declared.BusState.{BusState}
-use Rattle.bus.specs.declared.BusState.the-variants.{Slave}
+use Rattle.bus.specs.declared.BusState.the-variants.{Deaf, Slave}
 use Rattle.bus.specs.declared.Bus.{Bus}
 use Rattle.bus.specs.declared.Event.{Event}
 use Rattle.bus.specs.declared.Event.the-variants.{Start, Byte, Fetch, Stop}
-use Rattle.bus.specs.Unheard.{Applies, byte-idle, fetch-idle, unknown-slave, byte-deaf, fetch-deaf, byte-reading, fetch-slave, fetch-high, fetch-low, fetch-write, stateAfter}
+use Rattle.bus.specs.Unheard.{Applies, unknown-slave, byte-deaf, fetch-deaf, deafens, stateAfter}
 use Rattle.bus.specs.Bus.{eventOf, BusOutcome, busEvent}
 use Rattle.bus.proofs.Claims.{reasons}
 use Rattle.bus.proofs.Unheard.{bus}
@@ -83,16 +83,18 @@ module _ (xs : List ℕ) where
   state = deviceIn xs .bus .state
 
   ignored-is : (why : Unheard) → ignoredOn (stateAfter why state) xs ≡ recordAfter why xs
-  ignored-is unheard.Idle = ignored-same xs
-  ignored-is unheard.NotAddressed = refl
-  ignored-is unheard.Reading = ignored-same xs
-  ignored-is unheard.Writing = ignored-same xs
+  ignored-is why = by (deafens why)
+    where
+      by : (t : Bool) → ignoredOn (cond t Deaf state) xs ≡ cond t (set xs busAt 1) xs
+      by true = refl
+      by false = ignored-same xs
 
   unheard-back : (why : Unheard) → length xs ≡ recordLength → deviceIn (recordAfter why xs) ≡ withBus (bus (stateAfter why state) (deviceIn xs .bus .counter)) (deviceIn xs)
-  unheard-back unheard.Idle h = refl
-  unheard-back unheard.NotAddressed h = deaf-back xs h
-  unheard-back unheard.Reading h = refl
-  unheard-back unheard.Writing h = refl
+  unheard-back why h = by (deafens why)
+    where
+      by : (t : Bool) → deviceIn (cond t (set xs busAt 1) xs) ≡ withBus (bus (cond t Deaf state) (deviceIn xs .bus .counter)) (deviceIn xs)
+      by true = deaf-back xs h
+      by false = refl
 
 module _ (xs ram : List ℕ) (e : Event) where
   abbrev itsBus : Bus
@@ -109,9 +111,9 @@ module _ (xs ram : List ℕ) (e : Event) where
   unfolding heardOn
   unheard-on {why} l a = ap (heardOn xs) (reasons .answered why itsBus itsRegisters ram e l a) ∙ rw (not-zero (NotAcknowledged why), ignored-is xs why)
 
-  event-read : length xs ≡ recordLength → deviceIn (heardOn xs outcome .device) ≡ After xs (outcome .bus) (outcome .registers)
+  heard-back : length xs ≡ recordLength → deviceIn (heardOn xs outcome .device) ≡ After xs (outcome .bus) (outcome .registers)
   unfolding heardOn
-  event-read h = by (eqb (outcome .reply .refusal) 0) refl (ℕ-discrete (length ram) 1024)
+  heard-back h = by (eqb (outcome .reply .refusal) 0) refl (ℕ-discrete (length ram) 1024)
     where
       by : (t : Bool) → eqb (outcome .reply .refusal) 0 ≡ t → Dec (length ram ≡ 1024)
           → deviceIn (cond t (put busAt (busBytes (outcome .bus)) (put registersAt (outcome .registers .bytes) xs)) (ignoredOn (outcome .bus .state) xs)) ≡ After xs (outcome .bus) (outcome .registers)
@@ -124,7 +126,7 @@ module _ (xs ram : List ℕ) (e : Event) where
 cross-bus : (xs ram : List ℕ) (kind byte : ℕ) → length xs ≡ recordLength → kind ≤ 3
     → deviceIn (busOn xs ram kind byte .device) ≡ hearEvent (deviceIn xs) ram (eventOf kind byte) .device
 unfolding hearEvent
-cross-bus xs ram kind byte h k = ap (λ (r : BusDone). deviceIn (r .device)) (sym (bus-is xs ram kind byte h k)) ∙ event-read xs ram (eventOf kind byte) h
+cross-bus xs ram kind byte h k = ap (λ (r : BusDone). deviceIn (r .device)) (sym (bus-is xs ram kind byte h k)) ∙ heard-back xs ram (eventOf kind byte) h
 
 -- ---- the record after a frame start and a draw
 
@@ -180,18 +182,14 @@ draw-cases xs ram font line h =
 -- ---- a refused event
 
 -- for whatever reason but an unknown slave address no byte changes
-unheard-still : (xs : List ℕ) {why : Unheard} {s : BusState} {e : Event} → Applies why s e → deviceIn xs .bus .state ≡ s → (T (isByte e) → s ≡ Slave → ⊥)
+unheard-still : (xs : List ℕ) (why : Unheard) {s : BusState} {e : Event} → Applies why s e → deviceIn xs .bus .state ≡ s → (T (isByte e) → s ≡ Slave → ⊥)
     → recordAfter why xs ≡ xs
-unheard-still xs (byte-idle x) p u = refl
-unheard-still xs fetch-idle p u = refl
-unheard-still xs (unknown-slave x m n) p u = absurd (u tt refl)
-unheard-still xs (byte-deaf x) p u = ap (λ (s : BusState). ignoredOn s xs) (sym p) ∙ ignored-same xs
-unheard-still xs fetch-deaf p u = ap (λ (s : BusState). ignoredOn s xs) (sym p) ∙ ignored-same xs
-unheard-still xs (byte-reading x) p u = refl
-unheard-still xs fetch-slave p u = refl
-unheard-still xs fetch-high p u = refl
-unheard-still xs (fetch-low high) p u = refl
-unheard-still xs fetch-write p u = refl
+unheard-still xs unheard.Idle a p u = refl
+unheard-still xs unheard.NotAddressed (unknown-slave x m n) p u = absurd (u tt refl)
+unheard-still xs unheard.NotAddressed (byte-deaf x) p u = ap (λ (s : BusState). ignoredOn s xs) (sym p) ∙ ignored-same xs
+unheard-still xs unheard.NotAddressed fetch-deaf p u = ap (λ (s : BusState). ignoredOn s xs) (sym p) ∙ ignored-same xs
+unheard-still xs unheard.Reading a p u = refl
+unheard-still xs unheard.Writing a p u = refl
 
 silence : (xs ram : List ℕ) (kind byte : ℕ) → (kind ≡ 1 → deviceIn xs .bus .state ≡ Slave → length ram ≡ 1024 → ⊥)
     → (hearEvent (deviceIn xs) ram (eventOf kind byte) .reply .refusal ≡ 0 → ⊥) → busOn xs ram kind byte .device ≡ xs
@@ -205,7 +203,7 @@ silence xs ram kind byte u n =
     by : Dec (length ram ≡ 1024) → heardOn xs (outcome xs ram e) .device ≡ xs
     by (yes l) =
         let w = reasons .some (itsBus xs ram e) (itsRegisters xs ram e) ram e l n in
-        ap (λ (d : BusDone). d .device) (unheard-on xs ram e l (w .1)) ∙ unheard-still xs (w .1) refl (λ c d. u (byte-kind kind byte c) d l)
+        ap (λ (d : BusDone). d .device) (unheard-on xs ram e l (w .1)) ∙ unheard-still xs (w .0) (w .1) refl (λ c d. u (byte-kind kind byte c) d l)
     by (no m) = rw (sym (busEvent-refused (itsBus xs ram e) (itsRegisters xs ram e) ram e m)) (ignored-same xs)
 
 start-silence : (xs : List ℕ) (lines : ℕ) → (startFrame (deviceIn xs) lines .reply .refusal ≡ 0 → ⊥) → startOn xs lines .device ≡ xs
