@@ -217,7 +217,11 @@ typedef uint64_t osd_len;
  *     foreground                             8 + 4 * RF + 2 * GF + BF
  *     background, BK3 0                      8 + BK[2:0]: BK2 red, BK1 green, BK0 blue
  *     background, BK3 1, BK1 0: transparent  plain, so black with FBLK 1 where FBK is 1
- *     background, BK3 1, BK1 1: shadow       8 where the pixel to its left in the same character is foreground, else plain
+ *     background, BK3 1, BK1 1: shadow       8 where the pixel to its left is foreground, else plain
+ *
+ * To the left of a character's first column stands the last column of the character just to its left, so that the shadow of a logo
+ * crosses the seams between its characters. That one casts it whatever its own background, but not while it is hidden, nor where it is
+ * blank; nothing stands to the left of the first character. Any shadowed character takes it, a blank, hidden or cut one too.
  *
  * With BK3 1, BK2 and BK0 do not count. Plain are spacing strips, strips with DE 0, the pixels before the first character and those
  * from the end of line on. In its hidden time a flashing character draws foreground as background and casts no shadow; its slice is

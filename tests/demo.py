@@ -17,6 +17,7 @@ FLASHING = 8                        # with a colour: shown in some frames only, 
 CLEAR, SHADOW = 8, 10               # BK: plain background, without and with a shadow
 RIGHT, BELL = '\x1a', '\x07'        # characters of the font
 OPEN_DOOR = '\x80\x81'              # user characters 0 and 1
+LOGO = '\x8e\x8f\x90'               # user characters 14 to 16; the shadow of its posts and its front falls across the seams
 
 DOOR = '''
 ........................
@@ -37,6 +38,27 @@ DOOR = '''
 ..########......######..
 ....######..............
 .......###..............
+'''
+
+BUS = '''
+....................................
+...#############################....
+..################################..
+..##......##..........##......##.##.
+..##......##..........##......##..##
+..##......##..........##......##..##
+..##......##..........##......##..##
+..##################################
+..##################################
+..##################################
+..##################################
+..##################################
+..######....##############....######
+..#####..##..############..##..#####
+........####..............####......
+........####..............####......
+.........##................##.......
+....................................
 '''
 
 
@@ -96,17 +118,23 @@ class Page:
         write(self.at, *self.codes)
 
 
+def send_drawing(number, drawing):
+    """User characters side by side from a number on: two cells of no slice, then slices 1 to 18."""
+    rows = drawing.split()
+    for part in range(len(rows[0]) // 12):
+        write(38 * (number + part), 0, 0, *packed(rows_of(row[12 * part:12 * part + 12] for row in rows)))
+
+
 def send_stop_page():
     write(0x3FF0, WIDTH // 12 - 1, 4, 18)          # LD; DD: characters start at pixel 36; CH
-    left, right = zip(*((row[:12], row[12:]) for row in DOOR.split()))
-    for number, half in enumerate((left, right)):
-        write(38 * number, 0, 0, *packed(rows_of(half)))     # two cells of no slice, then slices 1 to 18
+    send_drawing(0, DOOR)
+    send_drawing(14, BUS)
     page = Page(p=2, codes=256)
     page.spacing(10)
     page.row(text(' NEXT STOP          ', YELLOW, BLUE), text('14:32 ', CYAN, BLUE))
     page.row(text(' Market Square      ', WHITE, BLUE), text('2', YELLOW, BLUE), text(' min ', WHITE, BLUE), zoom=True)
     page.spacing(4)
-    page.row(text(' then ' + RIGHT + ' Harbour', WHITE, SHADOW))
+    page.row(text(' then ' + RIGHT + ' Harbour       ', WHITE, SHADOW), text(LOGO + ' ', YELLOW, SHADOW))
     page.spacing(57)
     page.row(text(' Mind the step!', YELLOW, SHADOW))
     page.spacing(3)

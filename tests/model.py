@@ -138,6 +138,7 @@ class Device:
         s = max(1, math.floor(Fraction(18 * n, self.height) + Fraction(1, 2)))      # 1 to 18: request K2 takes 0 as 1
         mode = control >> 4 & 3
         x, a = 3 * (max(self.registers[1], 4) + 8), self.codes
+        before = 0      # request K7: 1 where the character just to the left drew foreground in its last column; the first has none
         while x < width:
             low, high = read(a), read(a + 1)
             a = (a + 2) % 1024
@@ -159,8 +160,9 @@ class Device:
                     line[x + i] = 8 | low >> 4 & 7
                 elif not low & 8:
                     line[x + i] = 8 | low & 7
-                elif low & 2 and i > 0 and row[i - 1]:
+                elif low & 2 and (row[i - 1] if i > 0 else before):
                     line[x + i] = 8
+            before = row[11]
             x += 12
         return line
 
@@ -220,36 +222,38 @@ def pixel(registers, ram, font, lines, frame, x, y):
     n = (j + 1) // 2 if high & 0x20 else j
     s = max((36 * n + ch) // (2 * ch), 1)
 
-    # the code in whose twelve columns x falls; all codes up to it are read
-    place, column = divmod(from_first, 12)
+    # the codes up to the one in whose twelve columns x falls: all of them are read
     codes = (high % 4 * 256 + low) // 2 * 2
-    row = [(codes + 2 * i) % 1024 for i in range(place + 1)]
+    row = [(codes + 2 * i) % 1024 for i in range(from_first // 12 + 1)]
     if any(ram[a + 1] == 0xFF for a in row):
         return (0, plain)
-    look, set_and_number = ram[row[-1]], ram[row[-1] + 1]
-    user, number = divmod(set_and_number, 128)
-
-    # its slice: PX11 to PX0 as one number
-    if not user:
-        a = 36 * number + 2 * (s - 1)
-        bits = font[a + 1] % 16 * 256 + font[a]
-    elif number <= 25:
-        a = 38 * number + 2 * s
-        bits = ram[a + 1] % 16 * 256 + ram[a]
-    else:
-        bits = 0
-    shown_below = (64, 32, 16, 48)[registers[3] // 16 % 4]
-    if look & 0x80 and frame % 64 >= shown_below:
-        bits = 0
 
     def foreground(c):
-        return bits >> (11 - c) & 1
+        """1 where column c, counted from the first character's leftmost, is drawn as foreground."""
+        place, column = divmod(c, 12)
+        look, set_and_number = ram[row[place]], ram[row[place] + 1]
+        user, number = divmod(set_and_number, 128)
+        # its slice: PX11 to PX0 as one number
+        if not user:
+            a = 36 * number + 2 * (s - 1)
+            bits = font[a + 1] % 16 * 256 + font[a]
+        elif number <= 25:
+            a = 38 * number + 2 * s
+            bits = ram[a + 1] % 16 * 256 + ram[a]
+        else:
+            bits = 0
+        shown_below = (64, 32, 16, 48)[registers[3] // 16 % 4]
+        if look & 0x80 and frame % 64 >= shown_below:
+            bits = 0
+        return bits >> (11 - column) & 1
 
-    if foreground(column):
+    look = ram[row[-1]]
+    if foreground(from_first):
         return (0, 8 + look // 16 % 8)
     if not look & 8:
         return (0, 8 + look % 8)
-    if look & 2 and column > 0 and foreground(column - 1):
+    # the shadow of the pixel to the left: in the same character or, by request K7, in the one before; the first has none before it
+    if look & 2 and from_first > 0 and foreground(from_first - 1):
         return (0, 8)
     return (0, plain)
 

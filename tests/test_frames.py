@@ -88,12 +88,13 @@ def mixed(total, *values):
 
 
 def draw(lines=1, way=PIXELS):
+    """Gives back the line buffers, for answers that are known by hand."""
     step(11, lines >> 8, lines & 255, way)
     totals['draws'] += lines
     lent_ram = ram if lent['ram'] == 1024 else [0] * lent['ram']
     lent_font = font if lent['font'] == 4608 else [0] * lent['font']
-    for _ in range(lines):
-        line = [MARKER] * lent['line']
+    drawn = [[MARKER] * lent['line'] for _ in range(lines)]
+    for line in drawn:
         refusal, count = device.draw(lent_ram, lent_font, line)
         if way == SUM:
             totals['sum'] = mixed(totals['sum'], refusal, count, *line)
@@ -101,6 +102,7 @@ def draw(lines=1, way=PIXELS):
             output.append('%d %d %08x\n' % (refusal, count, mixed(0, *line)))
         else:
             output.append('%d %d %s\n' % (refusal, count, ''.join('.' if x == MARKER else '%X' % x for x in line)))
+    return drawn
 
 
 def show_sum():
@@ -371,7 +373,7 @@ def every_foreground_on_every_background():
 
 @case
 def shadows():
-    # to the right of each foreground pixel, within the character only; BK2 and BK0 play no part; FBK under what is plain
+    # to the right of each foreground pixel, over a seam too; BK2 and BK0 play no part; FBK under what is plain
     rows = (0b000000000001, 0b100000000000, 0b101010101010, 0b010101010101, 0b111111111111, 0b000000000000, 0b011101101110)
     for n, row in enumerate(rows):
         glyph(n, *[row] * 18)
@@ -383,6 +385,191 @@ def shadows():
         control(fbk=fbk)
         start(8)
         draw(8, DIGEST if fbk else PIXELS)
+
+
+# seams (request K7): high bytes of codes, of the font and of the user by their number, and of a blank
+LAST, FIRST, MIDDLE, USER, BLANK, ENDS = 1, 2, 3, 0x80, 0x9A, 0xFF
+
+
+def seam_rows(*rows):
+    """A strip of one line for each row of codes, and characters with foreground in their last column, their first or neither."""
+    for number, bits in ((LAST, 0b000000000001), (FIRST, 0b100000000000), (MIDDLE, 0b000001100000)):
+        font_byte(36 * number + 34, bits & 255, bits >> 8)      # slice 18, which CH 1 shows
+        user(number, 18, bits)
+    for i, row in enumerate(rows):
+        codes(256 + 16 * i, *row)
+        strip(2 * i, 256 + 16 * i)
+
+
+def by_hand(first, *rows, plain='0'):
+    """Draws a line for each of these rows, its pixels written out by hand from the first character on; the model must draw them."""
+    for row in rows:
+        draw()
+        expected = ('0' * first + row.replace(' ', '')).replace('0', plain)
+        assert output[-1].split()[2] == expected + '..', (row, output[-1])
+
+
+def pairs(kinds):
+    """A row in which each of these kinds stands once just to the right of each."""
+    row = []
+    for i, left in enumerate(kinds):
+        row.append(left)
+        for right in kinds[i + 1:]:
+            row += (left, right)
+    return row + kinds[:1]
+
+
+@case
+def seams():
+    # a shadowed character's first column takes the shadow of foreground in the last column of the one to its left, whatever its
+    # background and colour; a blank takes it and gives none; the first character of a line has none, after any line
+    seam_rows(
+        ((0x5A, LAST), (0x5A, MIDDLE), (0x5A, USER + LAST), (0x5A, USER + MIDDLE), (0x5A, BLANK), (0x5A, LAST), (0x5A, LAST)),
+        ((0x5A, MIDDLE), (0x5A, USER + LAST), (0x5A, MIDDLE), (0x51, MIDDLE), (0x5A, LAST), (0x51, LAST), (0x5A, LAST)),
+        ((0x5A, BLANK), (0x58, LAST), (0x5A, BLANK), (0x11, LAST), (0x5A, BLANK), (0x08, LAST), (0x5A, BLANK)),
+        ((0x5B, FIRST), (0x5A, LAST), (0x51, BLANK), (0x5A, LAST), (0x58, BLANK), (0x5A, LAST), (0x5A, FIRST)),
+        ((0x5A, LAST), (0x5A, LAST), (0x5A, ENDS), (0x5A, MIDDLE), (0x5A, BLANK)),
+        ((0x5A, BLANK), (0x51, USER + LAST), (0x5E, USER + MIDDLE), (0x5A, ENDS), (0x5A, BLANK)))
+    strip(2, 256 + 16, zy=1)        # the second row has two lines
+    second = '00000DD80000 00000000000D 80000DD80000 99999DD99999 00000000000D 99999999999D 80000000000D'
+    rows = (
+        '00000000000D 80000DD80000 00000000000D 80000DD80000 000000000000 00000000000D 80000000000D',
+        second,
+        second,
+        '000000000000 00000000000D 800000000000 999999999999 800000000000 000000000008 800000000000',
+        'D80000000000 00000000000D 999999999999 00000000000D 000000000000 00000000000D D80000000000',
+        '00000000000D 80000000000D 000000000000 000000000000 000000000000 000000000000 000000000000',
+        '000000000000 99999999999D 80000DD80000 000000000000 000000000000 000000000000 000000000000')
+    settings(ld=9, ch=1)
+    start(7)
+    by_hand(36, *rows)
+    control(fbk=1)
+    start(7)
+    by_hand(36, *rows, plain='8')
+
+
+@case
+def seams_of_hidden_characters():
+    # a hidden one draws no foreground: it gives no shadow, and takes one in its first column, set or not. Each mode in its last
+    # frame that shows and its first that hides
+    seam_rows(
+        ((0xDA, LAST), (0x5A, MIDDLE), (0x5A, LAST), (0xDA, FIRST), (0xDA, BLANK), (0x58, LAST), (0xDA, USER + MIDDLE)),
+        ((0xD1, LAST), (0x5A, BLANK), (0x51, USER + LAST), (0xDA, BLANK), (0xD8, USER + LAST), (0xDA, MIDDLE), (0x5A, BLANK)),
+        ((0x5A, LAST), (0xDA, USER + LAST), (0x5A, BLANK), (0x5A, LAST), (0xDA, BLANK), (0x5A, BLANK), (0xD1, USER + FIRST)))
+    shown = (
+        '00000000000D 80000DD80000 00000000000D D80000000000 000000000000 00000000000D 80000DD80000',
+        '99999999999D 800000000000 99999999999D 800000000000 00000000000D 80000DD80000 000000000000',
+        '00000000000D 80000000000D 800000000000 00000000000D 800000000000 000000000000 D99999999999')
+    hidden = (
+        '000000000000 00000DD80000 00000000000D 800000000000 000000000000 00000000000D 800000000000',
+        '999999999999 000000000000 99999999999D 800000000000 000000000000 000000000000 000000000000',
+        '00000000000D 800000000000 000000000000 00000000000D 800000000000 000000000000 999999999999')
+    settings(ld=9, ch=1)
+    modes = {15: (2, shown), 16: (2, hidden), 31: (1, shown), 32: (1, hidden), 47: (3, shown), 48: (3, hidden)}
+    for number in range(49):
+        start(3)
+        if number in modes:
+            fl, rows = modes[number]
+            control(fl=fl)
+            by_hand(36, *rows)
+    start(3)
+    control(fl=3, fbk=1)
+    draw(3, DIGEST)
+
+
+@case
+def seams_at_the_cut():
+    # a character that is cut takes it like any other, with 12, 9, 6 and 3 columns left of it; the code behind it is not read
+    seam_rows(
+        ((0x58, LAST), (0x5A, MIDDLE), (0x5A, LAST)),
+        ((0x51, USER + LAST), (0xDA, FIRST), (0x5A, LAST)),
+        ((0x5A, LAST), (0xDA, BLANK)),
+        ((0xDA, LAST), (0x5A, USER + MIDDLE)),
+        ((0x5A, MIDDLE), (0x5A, BLANK)))
+    start(1, times=16)
+    for dd, columns in ((4, 12), (5, 9), (6, 6), (7, 3)):
+        settings(dd=dd, ch=1, fl=2)
+        start(5)
+        by_hand(
+            3 * (dd + 8),
+            '00000000000D ' + '80000DD80000'[:columns],
+            '99999999999D ' + '800000000000'[:columns],
+            '00000000000D ' + '800000000000'[:columns],
+            '000000000000 ' + '00000DD80000'[:columns],
+            '00000DD80000 ' + '000000000000'[:columns])
+
+
+@case
+def seams_over_cell_1023():
+    # the character to the left of the one at cell 0 lies at cell 1022, but none does where the row begins at cell 0
+    seam_rows()
+    codes(1020, (0x5A, USER + LAST), (0x5A, LAST), (0x5A, MIDDLE), (0x5A, BLANK))
+    for i, at in enumerate((1020, 1022, 1023, 0, 2)):
+        strip(64 + 2 * i, at)
+    settings(ld=6, ch=1, p=1)
+    start(5)
+    by_hand(
+        36,
+        '00000000000D 80000000000D 80000DD80000 000000000000',
+        '00000000000D 80000DD80000 000000000000 000000000000',
+        '00000000000D 80000DD80000 000000000000 000000000000',
+        '00000DD80000 000000000000 000000000000 000000000000',
+        '000000000000 000000000000 000000000000 000000000000')
+
+
+@case
+def seams_of_every_two_backgrounds():
+    # each BK beside each, in foreground of every colour; rows of 61 characters, each beginning with the one that ended the last
+    seam_rows()
+    codes(256, *[(i % 8 << 4 | bk, LAST) for i, bk in enumerate(pairs(list(range(16))))])
+    for i in range(5):
+        strip(2 * i, 256 + 120 * i)
+    settings(ld=63, ch=1)
+    start(5)
+    first_columns = [x for line in draw(5, DIGEST) for x in line[48:768:12]]
+    assert first_columns.count(8) == 16 * 4 + 16        # behind each BK the four that are shadowed, and the solid black one
+    control(fbk=1)
+    start(5)
+    draw(5, DIGEST)
+
+
+@case
+def every_pair_of_characters():
+    # solid, transparent and shadowed ones, each of the font and of the user, steady and flashing, and blank, beside each other. CH
+    # 4 shows four slices, in which the left one's last column and the right one's first are set or not, in all four ways
+    for s, font_row, user_row in (
+            (5, 0b010000110001, 0b010110011010), (9, 0b101110010010, 0b011001100101),
+            (14, 0b011111000110, 0b101000011101), (18, 0b100001101101, 0b100111000110)):
+        font_byte(36 * 7 + 2 * (s - 1), font_row & 255, font_row >> 8)
+        user(10, s, user_row)
+    row = pairs([(0x50 | bk | flashing, high) for bk in (10, 8, 1)
+                 for high, flashing in ((7, 0), (7, 0x80), (USER + 10, 0), (USER + 10, 0x80), (BLANK, 0))])
+    n = len(row) - 1
+    codes(898, *row)                # over cell 1023, with a seam there that is black
+    assert (row[62], row[63]) == ((0x58, 7), (0x5A, USER + 10)) and 898 + 2 * 63 == 1024
+    for i in range(n):
+        strip(448 + 2 * i, (898 + 2 * i) % 1024)
+    start(1, times=16)              # the next frames are hidden in mode 2
+    # each pair alone in a line, the right one whole and cut. The black seams by hand: with nothing hidden 12 kinds cast a shadow,
+    # each in two slices; of the shadowed ones four take it in one of the two, where their first column is not set, and the blank in
+    # both. With the flashing ones hidden 6 cast, two take it in one slice and three in both
+    for dd in (4, 5, 6, 7):
+        for fbk in range(2):
+            for fl, black in ((0, 12 * (4 * 1 + 1 * 2)), (2, 6 * (2 * 1 + 3 * 2))):
+                settings(dd=dd, ch=4, fbk=fbk, fl=fl, p=7)
+                start(4 * n)
+                first_columns = [line[3 * (dd + 8) + 12] for line in draw(4 * n, SUM)]
+                assert fbk or first_columns.count(8) == black
+                show_sum()
+    # and all of them in rows of 61, first without zoom
+    for i in range(8):
+        strip(448 + 2 * i, (898 + 120 * (i % 4)) % 1024, zy=i // 4)
+    for dd, fl in ((4, 0), (4, 2), (7, 2)):
+        settings(ld=63, dd=dd, ch=4, fl=fl, p=7)
+        start(48)
+        draw(16, DIGEST)
+        draw(32, SUM)
+        show_sum()
 
 
 def height_row():

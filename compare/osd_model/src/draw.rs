@@ -7,6 +7,7 @@
 use crate::frame::{slice_of_step, Frame, Strip, LAST_SLICE};
 use crate::registers::Registers;
 use crate::{RamWords, Refusal, FONT_LEN, RAM_WORDS};
+use core::mem::replace;
 
 /// Pixels across a character.
 const COLUMNS: usize = 12;
@@ -32,7 +33,7 @@ pub(crate) const ALL_USER_CELLS: u16 = USER_CELLS * USER_CHARACTERS as u16;
 const LAST_USER: u8 = FIRST_USER + USER_CHARACTERS - 1;
 
 /// Lent font as slices: byte PX7..PX0, then PX11..PX8 in the low bits.
-type FontWords = [[u8; 2]; FONT_WORDS];
+pub(crate) type FontWords = [[u8; 2]; FONT_WORDS];
 
 /// Font from one slice of character 0 to the same slice of character 127, so
 /// that 18 × number stays inside for every number.
@@ -83,6 +84,8 @@ struct Row<'a> {
     next: usize,
     /// Words of RAM read.
     reads: u32,
+    /// The slice of the character before, as it shows; none before the first.
+    before: u16,
     inks: Inks,
 }
 
@@ -97,6 +100,7 @@ impl<'a> Row<'a> {
             font: font[slice - 1..].first_chunk().expect("17 + 18 × 127 < 2304"),
             next: usize::from(row),
             reads: 0,
+            before: 0,
             inks,
         }
     }
@@ -141,7 +145,9 @@ impl<'a> Row<'a> {
             END_OF_LINE => return None,
             _ => 0,
         };
-        Some(self.inks.character(attributes, bits))
+        let bits = self.inks.shown(attributes, bits);
+        let before = replace(&mut self.before, bits);
+        Some(self.inks.character(attributes, bits, before))
     }
 }
 
@@ -170,18 +176,29 @@ impl Inks {
         Inks { plain, background, hiding: if hidden { 0x80 } else { 0 } }
     }
 
-    /// Twelve pixels; `bits` has 1 for foreground, and bits above PX11 do nothing.
+    /// What a slice shows: nothing while its character is hidden.
     #[inline(always)]
-    fn character(&self, attributes: u8, bits: u16) -> [u8; COLUMNS] {
-        let bits = if attributes & self.hiding == 0 { bits } else { 0 };
+    fn shown(&self, attributes: u8, bits: u16) -> u16 {
+        if attributes & self.hiding == 0 {
+            bits
+        } else {
+            0
+        }
+    }
+
+    /// Twelve pixels; `bits` has 1 for foreground that shows, as `before` has
+    /// for the character to the left. Bits above PX11 do nothing.
+    #[inline(always)]
+    fn character(&self, attributes: u8, bits: u16, before: u16) -> [u8; COLUMNS] {
         let foreground = eight(BLANKING | (attributes >> 4 & 7));
         let background = self.background[usize::from(attributes & 15)];
         let mut pixels = Pixels { left: background, right: background as u32 };
         pixels.flip(bits, foreground ^ background);
-        // BK3 and BK1: what stands to the right of foreground is shadow. PX11
-        // has nothing to its left.
+        // BK3 and BK1: what stands to the right of foreground is shadow. To the
+        // left of PX11 stands PX0 of the character before.
         if attributes & 0b1010 == 0b1010 {
-            pixels.flip(bits >> 1 & 0x7FF & !bits, eight(BLANKING) ^ background);
+            let left = bits >> 1 & 0x7FF | before << 11 & 0x800;
+            pixels.flip(left & !bits, eight(BLANKING) ^ background);
         }
         pixels.bytes()
     }

@@ -5,8 +5,9 @@
 //! falls in, the bit of its glyph, the colour. Addresses are in cells, as the
 //! rules have them.
 
+use crate::draw::{font_words, FontWords};
 use crate::registers::Registers;
-use crate::{draw, ram_words, Device, RamWords, Refusal, DEVICE_LEN, FRAME_NUMBERS, MAX_LINES, RAM_LEN, RAM_WORDS};
+use crate::{ram_words, Device, RamWords, Refusal, DEVICE_LEN, FRAME_NUMBERS, MAX_LINES, RAM_LEN, RAM_WORDS};
 
 /// Pixels across a character.
 const COLUMNS: usize = 12;
@@ -37,7 +38,7 @@ pub fn pixel_bytes(device: &[u8; DEVICE_LEN], ram: &[u8], font: &[u8], lines: u3
 #[inline]
 fn pixel(registers: &Registers, ram: &[u8], font: &[u8], lines: u32, frame: u32, x: u32, y: u32) -> Result<u8, Refusal> {
     let ram = ram_words(ram)?;
-    let font = draw::font_words(font)?;
+    let font = font_words(font)?;
     if lines == 0 || lines > MAX_LINES {
         return Err(Refusal::FrameLines);
     }
@@ -54,17 +55,12 @@ fn pixel(registers: &Registers, ram: &[u8], font: &[u8], lines: u32, frame: u32,
     let Some(column) = (x as usize).checked_sub(registers.text_start()) else {
         return Ok(plain);
     };
-    let Some([attributes, number]) = code(ram, row.address, column / COLUMNS) else {
+    let Some([attributes, _]) = code(ram, row.address, column / COLUMNS) else {
         return Ok(plain);
     };
-    let bits = u16::from_le_bytes(match number {
-        0..=127 => font[(36 * usize::from(number) + 2 * (row.slice - 1)) / 2],
-        128..=153 => word(ram, 38 * usize::from(number - 128) + 2 * row.slice),
-        _ => [0, 0],
-    });
-    let flashes = attributes & 0x80 != 0;
-    let bits = if flashes && registers.flash_hidden((frame % u32::from(FRAME_NUMBERS)) as u8) { 0 } else { bits };
-    Ok(colour(attributes, bits, column % COLUMNS, plain))
+    let hidden = registers.flash_hidden((frame % u32::from(FRAME_NUMBERS)) as u8);
+    let text = Text { ram, font, row, hidden };
+    Ok(text.colour(attributes, column, plain))
 }
 
 /// What a line of a character strip shows.
@@ -108,20 +104,46 @@ fn code(ram: &RamWords, row: usize, place: usize) -> Option<[u8; 2]> {
     (!ended).then(|| word(ram, row + 2 * place))
 }
 
-/// One column of a character; `bits` has 1 for foreground that shows, PX11
-/// leftmost.
-#[inline]
-fn colour(attributes: u8, bits: u16, column: usize, plain: u8) -> u8 {
-    let is_foreground = |column: usize| bits >> (COLUMNS - 1 - column) & 1 == 1;
-    let (bk3, bk1) = (attributes & 8 != 0, attributes & 2 != 0);
-    if is_foreground(column) {
-        BLANKING | attributes >> 4 & 7
-    } else if !bk3 {
-        BLANKING | attributes & 7
-    } else if bk1 && column > 0 && is_foreground(column - 1) {
-        BLANKING
-    } else {
-        plain
+/// The characters of a line, side by side: columns count from the first one's
+/// leftmost on, and none is asked about from the end of line on.
+struct Text<'a> {
+    ram: &'a RamWords,
+    font: &'a FontWords,
+    row: Row,
+    /// Flashing characters are.
+    hidden: bool,
+}
+
+impl Text<'_> {
+    /// The pixel in this column of the character with these attributes.
+    #[inline]
+    fn colour(&self, attributes: u8, column: usize, plain: u8) -> u8 {
+        let (bk3, bk1) = (attributes & 8 != 0, attributes & 2 != 0);
+        if self.is_foreground(column) {
+            BLANKING | attributes >> 4 & 7
+        } else if !bk3 {
+            BLANKING | attributes & 7
+        } else if bk1 && column > 0 && self.is_foreground(column - 1) {
+            // The same character cast it, or the one before in its last column.
+            BLANKING
+        } else {
+            plain
+        }
+    }
+
+    /// Does its character draw this column as foreground? A hidden or blank one
+    /// draws none.
+    #[inline]
+    fn is_foreground(&self, column: usize) -> bool {
+        let [attributes, number] = word(self.ram, self.row.address + 2 * (column / COLUMNS));
+        let slice = self.row.slice;
+        let bits = u16::from_le_bytes(match number {
+            0..=127 => self.font[(36 * usize::from(number) + 2 * (slice - 1)) / 2],
+            128..=153 => word(self.ram, 38 * usize::from(number - 128) + 2 * slice),
+            _ => [0, 0],
+        });
+        let flashes = attributes & 0x80 != 0;
+        !(flashes && self.hidden) && bits >> (COLUMNS - 1 - column % COLUMNS) & 1 == 1
     }
 }
 

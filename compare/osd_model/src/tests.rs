@@ -596,6 +596,8 @@ impl Slow {
         let hidden = self.number >= [64, 32, 16, 48][mode];
         let mut address = (usize::from(high % 4) * 256 + usize::from(low)) & !1;
         let mut x = 3 * (r[1].max(4) + 8);
+        // Did the character just to the left draw foreground in its last column?
+        let mut ends = false;
         while x < width {
             reads.extend([address, address + 1]);
             let (attributes, code) = (ram[address], usize::from(ram[address + 1]));
@@ -618,16 +620,18 @@ impl Slow {
             let bk = attributes % 16;
             for column in 0..12.min(width - x) {
                 let k = 11 - column;
+                let casts = if column == 0 { ends } else { px(k + 1) && !hide };
                 line[x + column] = if px(k) && !hide {
                     8 + attributes / 16 % 8
                 } else if bk < 8 {
                     8 + bk
-                } else if bk & 2 != 0 && !hide && k < 11 && px(k + 1) {
+                } else if bk & 2 != 0 && casts {
                     8
                 } else {
                     8 * fbk
                 };
             }
+            ends = px(0) && !hide;
             x += 12;
         }
         (line, reads)
@@ -1073,11 +1077,11 @@ fn pixels_with_shadow_and_flash() {
             assert_eq!(hex(&line), if shown { "F8F88888FFF8" } else { "888888888888" });
         }
     }
-    // PX11 is black in no case, also where the character before ends in foreground.
+    // A blank slice, behind a character that ends in foreground.
     font[2340] = 0x0F;
     ram[4..10].copy_from_slice(&[0x7A, 0x41, 0x7A, 0x42, 0x00, 0xFF]);
     poke(&mut device, &mut ram, 0x3FF3, &[0x80]);
-    assert_eq!(asked(&device, &ram, &font, 36..60, 0), "F8F80000FFFF000000000000");
+    assert_eq!(asked(&device, &ram, &font, 36..60, 0), "F8F80000FFFF800000000000");
 }
 
 #[test]
@@ -1503,4 +1507,227 @@ fn every_event_on_made_up_records() {
             }
         }
     }
+}
+
+/// Request K7. A code's attributes and high byte. Its twelve pixels, with . for
+/// plain: as the first character, and behind one that ends in foreground. Does
+/// it end in foreground itself?
+type Kind = ([u8; 2], &'static str, &'static str, bool);
+
+/// Characters of [`seams`] that are not hidden.
+const SHOWN: [Kind; 25] = [
+    // solid; BK1 alone is a colour; white on white has an end that is not foreground
+    ([0x71, 0x01], "99999FF999F9", "99999FF999F9", false),
+    ([0x71, 0x02], "99999FF9999F", "99999FF9999F", true),
+    ([0x71, 0x83], "F9999FF999F9", "F9999FF999F9", false),
+    ([0x72, 0x84], "FAAAAFFAAAAF", "FAAAAFFAAAAF", true),
+    ([0x77, 0x81], "FFFFFFFFFFFF", "FFFFFFFFFFFF", false),
+    ([0x77, 0x82], "FFFFFFFFFFFF", "FFFFFFFFFFFF", true),
+    // transparent
+    ([0x78, 0x81], ".....FF...F.", ".....FF...F.", false),
+    ([0x7D, 0x82], ".....FF....F", ".....FF....F", true),
+    ([0x7C, 0x03], "F....FF...F.", "F....FF...F.", false),
+    ([0x79, 0x04], "F....FF....F", "F....FF....F", true),
+    // shadowed; BK2 and BK0 do not count; foreground may be black; shadow in the last column is no foreground
+    ([0x7A, 0x01], ".....FF8..F8", "8....FF8..F8", false),
+    ([0x7F, 0x02], ".....FF8...F", "8....FF8...F", true),
+    ([0x7B, 0x03], "F8...FF8..F8", "F8...FF8..F8", false),
+    ([0x7E, 0x04], "F8...FF8...F", "F8...FF8...F", true),
+    ([0x7E, 0x81], ".....FF8..F8", "8....FF8..F8", false),
+    ([0x7A, 0x82], ".....FF8...F", "8....FF8...F", true),
+    ([0x7F, 0x83], "F8...FF8..F8", "F8...FF8..F8", false),
+    ([0x7B, 0x84], "F8...FF8...F", "F8...FF8...F", true),
+    ([0x0A, 0x01], ".....888..88", "8....888..88", false),
+    ([0x0A, 0x02], ".....888...8", "8....888...8", true),
+    // blank
+    ([0x71, 0x9A], "999999999999", "999999999999", false),
+    ([0x78, 0xFE], "............", "............", false),
+    ([0x7A, 0x9A], "............", "8...........", false),
+    ([0x7B, 0xFE], "............", "8...........", false),
+    ([0x0E, 0xC0], "............", "8...........", false),
+];
+
+/// Flashing characters in their hidden time.
+const HIDDEN: [Kind; 14] = [
+    ([0xF1, 0x02], "999999999999", "999999999999", false),
+    ([0xF2, 0x84], "AAAAAAAAAAAA", "AAAAAAAAAAAA", false),
+    ([0xF8, 0x04], "............", "............", false),
+    ([0xFD, 0x82], "............", "............", false),
+    ([0xFA, 0x01], "............", "8...........", false),
+    ([0xFF, 0x02], "............", "8...........", false),
+    ([0xFB, 0x03], "............", "8...........", false),
+    ([0xFE, 0x04], "............", "8...........", false),
+    ([0xFE, 0x81], "............", "8...........", false),
+    ([0xFA, 0x82], "............", "8...........", false),
+    ([0xFF, 0x83], "............", "8...........", false),
+    ([0xFB, 0x84], "............", "8...........", false),
+    ([0xFA, 0x9A], "............", "8...........", false),
+    ([0xF8, 0xFE], "............", "............", false),
+];
+
+/// RAM and font of all ones, but for page 7 with one strip, a row of codes at
+/// this cell, and slice 1 of characters 1 to 4, font and user: 062, 061, 862,
+/// 861. Before the row stands a code that ends in foreground.
+fn seams(row: usize, codes: &[[u8; 2]]) -> (Vec<u8>, Vec<u8>) {
+    let (mut ram, mut font) = (vec![0xFF; RAM_LEN], vec![0xFF; FONT_LEN]);
+    ram[448..450].copy_from_slice(&[row as u8, 0xC0 | (row >> 8) as u8]);
+    for (number, slice) in (1..).zip([[0x62, 0xF0], [0x61, 0x00], [0x62, 0xF8], [0x61, 0x08]]) {
+        font[36 * number..][..2].copy_from_slice(&slice);
+        ram[38 * number + 2..][..2].copy_from_slice(&slice);
+    }
+    for (place, code) in [[0x71, 0x02]].iter().chain(codes).enumerate() {
+        ram[(row + 2 * place - 2) % RAM_LEN..][..2].copy_from_slice(code);
+    }
+    (ram, font)
+}
+
+/// Line `y` of a frame of this number is `text` from column `start` on, and
+/// plain before and behind it, drawn as well as asked for, with FBK 0 and 1.
+fn assert_line(settings: [u8; 4], (ram, font): &(Vec<u8>, Vec<u8>), frame: u8, y: u32, start: usize, text: &str) {
+    let [ld, dd, height, control] = settings;
+    for (fbk, plain) in [(0, "0"), (0x40, "8")] {
+        let (mut device, ..) = blank();
+        poke(&mut device, &mut [0; RAM_LEN], 0x3FF0, &[ld, dd, height, control | fbk]);
+        let width = device.width();
+        let shown = std::format!("{:.<start$}{text:.<rest$}", "", rest = width - start).replace('.', plain);
+        let mut drawing = Device { next_frame: frame, ..device };
+        drawing.frame_start(y + 1).unwrap();
+        let mut line = vec![0xEE; width];
+        for _ in 0..=y {
+            drawing.draw(ram, font, &mut line).unwrap();
+        }
+        assert_eq!(hex(&line), shown, "drawn: line {y}, frame {frame}");
+        let pixels = (0..width as u32).map(|x| device.pixel(ram, font, y + 1, frame.into(), x, y).unwrap());
+        assert_eq!(hex(&pixels.collect::<Vec<u8>>()), shown, "asked for: line {y}, frame {frame}");
+    }
+}
+
+#[test]
+fn seams_of_every_pair() {
+    // Flash mode 2 hides from frame 16 on. The second row goes over cell 1023 between the two.
+    let kinds: Vec<Kind> = SHOWN.into_iter().chain(HIDDEN).collect();
+    for &(left, first, _, ends) in &kinds {
+        for &(right, alone, behind, _) in &kinds {
+            let text = std::format!("{first}{}", if ends { behind } else { alone });
+            for row in [500, 1022] {
+                assert_line([5, 4, 18, 0xA7], &seams(row, &[left, right, [0x7A, 0xFF]]), 16, 0, 36, &text);
+            }
+        }
+    }
+}
+
+#[test]
+fn seams_of_flashing_characters_in_their_shown_time() {
+    for (left, first, _, ends) in SHOWN {
+        for (right, alone, behind, _) in SHOWN {
+            let text = std::format!("{first}{}", if ends { behind } else { alone });
+            for (left_flashes, right_flashes) in [(0x80, 0), (0, 0x80), (0x80, 0x80)] {
+                let codes = [[left[0] | left_flashes, left[1]], [right[0] | right_flashes, right[1]], [0x00, 0xFF]];
+                assert_line([5, 4, 18, 0xA7], &seams(500, &codes), 15, 0, 36, &text);
+            }
+        }
+    }
+}
+
+#[test]
+fn seams_of_every_frame_number() {
+    // Steady; flashing, with its first column set; steady; flashing; steady.
+    let page = seams(500, &[[0x7A, 0x02], [0xFA, 0x03], [0x7A, 0x01], [0xFA, 0x82], [0x7A, 0x81], [0x00, 0xFF]]);
+    let shown = [".....FF8...F", "F8...FF8..F8", ".....FF8..F8", ".....FF8...F", "8....FF8..F8"].concat();
+    let hidden = [".....FF8...F", "8...........", ".....FF8..F8", "............", ".....FF8..F8"].concat();
+    for (mode, shown_below) in (0..).zip([64, 32, 16, 48]) {
+        for frame in 0..64 {
+            let text = if frame < shown_below { &shown } else { &hidden };
+            assert_line([9, 4, 18, 0x87 | mode << 4], &page, frame, 0, 36, text);
+        }
+    }
+}
+
+#[test]
+fn only_the_character_just_to_the_left_counts() {
+    for (codes, text) in [
+        ([[0x7A, 0x02], [0x7A, 0x9A], [0x7A, 0x01]], [".....FF8...F", "8...........", ".....FF8..F8"]),
+        ([[0x7A, 0x02], [0xFA, 0x04], [0x7A, 0x01]], [".....FF8...F", "8...........", ".....FF8..F8"]),
+        ([[0x7A, 0x02], [0x71, 0x81], [0x7A, 0x01]], [".....FF8...F", "99999FF999F9", ".....FF8..F8"]),
+        ([[0x7A, 0x02], [0x78, 0x82], [0x7A, 0x01]], [".....FF8...F", ".....FF....F", "8....FF8..F8"]),
+        ([[0x7A, 0x02], [0x7A, 0x82], [0x7A, 0x02]], [".....FF8...F", "8....FF8...F", "8....FF8...F"]),
+        // an end of line, with the attributes of a shadowed character
+        ([[0x7A, 0xFF], [0x7A, 0x02], [0x7A, 0x01]], ["............", "............", "............"]),
+        ([[0x7A, 0x02], [0x7A, 0xFF], [0x7A, 0x01]], [".....FF8...F", "............", "............"]),
+        ([[0x7A, 0x02], [0x7A, 0x02], [0x7A, 0xFF]], [".....FF8...F", "8....FF8...F", "............"]),
+    ] {
+        assert_line([6, 4, 18, 0xA7], &seams(500, &[codes[0], codes[1], codes[2], [0x00, 0xFF]]), 16, 0, 36, &text.concat());
+    }
+}
+
+#[test]
+fn seams_at_the_cut() {
+    // W 60: the second character has 12, 9, 6 or 3 columns. Fewer it never has, since every start is a multiple of 3.
+    for (left, first, right, cut) in [
+        ([0x71, 0x02], "99999FF9999F", [0x7A, 0x01], ["8....FF8..F8", "8....FF8.", "8....F", "8.."]),
+        ([0x71, 0x01], "99999FF999F9", [0x7A, 0x01], [".....FF8..F8", ".....FF8.", ".....F", "..."]),
+        ([0x7A, 0x82], ".....FF8...F", [0x7A, 0x83], ["F8...FF8..F8", "F8...FF8.", "F8...F", "F8."]),
+        ([0x7A, 0x82], ".....FF8...F", [0xFA, 0x83], ["8...........", "8........", "8.....", "8.."]),
+        ([0xFA, 0x82], "............", [0x7A, 0x81], [".....FF8..F8", ".....FF8.", ".....F", "..."]),
+        ([0x78, 0x04], "F....FF....F", [0x7A, 0x9A], ["8...........", "8........", "8.....", "8.."]),
+        ([0x7A, 0x9A], "............", [0x7A, 0x9A], ["............", ".........", "......", "..."]),
+        ([0x7A, 0x84], "F8...FF8...F", [0x78, 0x01], [".....FF...F.", ".....FF..", ".....F", "..."]),
+        ([0x7A, 0x84], "F8...FF8...F", [0x72, 0x01], ["AAAAAFFAAAFA", "AAAAAFFAA", "AAAAAF", "AAA"]),
+    ] {
+        let page = seams(500, &[left, right, [0x71, 0x02]]);
+        for ((dd, start), cut) in [(4, 36), (5, 39), (6, 42), (7, 45)].into_iter().zip(cut) {
+            assert_line([4, dd, 18, 0xA7], &page, 16, 0, start, &std::format!("{first}{cut}"));
+        }
+    }
+    // The first character is the cut one.
+    let page = seams(500, &[[0x7A, 0x01], [0x7A, 0x02]]);
+    for (dd, start, text) in [(8, 48, ".....FF8..F8"), (9, 51, ".....FF8."), (10, 54, ".....F"), (11, 57, "...")] {
+        assert_line([4, dd, 18, 0xA7], &page, 0, 0, start, text);
+    }
+}
+
+#[test]
+fn no_seam_from_another_line() {
+    // Blank and shadowed, then foreground in all columns of all slices: up to W, or to the end of line.
+    let (empty, full) = ([0x7A, 0x9A], [0x7A, 0x05]);
+    for (ld, codes) in [(4, &[empty, full, empty, full][..]), (6, &[empty, full, [0x7A, 0xFF], empty])] {
+        let mut page = seams(500, codes);
+        // The strip twice, a spacing, and the strip with ZY.
+        let [low, high] = [page.0[448], page.0[449]];
+        page.0[450..456].copy_from_slice(&[low, high, 2, 0x00, low, high | 0x20]);
+        for y in 0..18 + 18 + 2 + 36 {
+            let text = if y == 36 || y == 37 { "" } else { "............FFFFFFFFFFFF" };
+            assert_line([ld, 4, 18, 0x87], &page, 0, y, 36, text);
+        }
+    }
+}
+
+#[test]
+fn a_seam_by_the_slice_of_its_line() {
+    // Font character 5 has 001 in odd slices and user character 5 in even ones, else 000. Behind each stands a blank one.
+    let mut page = seams(500, &[[0x78, 0x05], [0x7A, 0x9A], [0x78, 0x85], [0x7A, 0x9A], [0x00, 0xFF]]);
+    for slice in 1..=18 {
+        page.1[36 * 5 + 2 * (slice - 1)..][..2].copy_from_slice(&[(slice % 2) as u8, 0]);
+        page.0[38 * 5 + 2 * slice..][..2].copy_from_slice(&[(1 - slice % 2) as u8, 0]);
+    }
+    let odd = ["...........F", "8...........", "............", "............"].concat();
+    let even = ["............", "............", "...........F", "8..........."].concat();
+    for y in 0..18 {
+        assert_line([8, 4, 18, 0x87], &page, 0, y, 36, if y % 2 == 0 { &odd } else { &even });
+    }
+    page.0[449] |= 0x20;
+    for y in 0..36 {
+        assert_line([8, 4, 18, 0x87], &page, 0, y, 36, if y % 4 < 2 { &odd } else { &even });
+    }
+}
+
+#[test]
+fn a_seam_reads_no_more_cells() {
+    let (ram, font) = seams(500, &[[0x7A, 0x82], [0x7A, 0x81], [0x7A, 0x9A], [0x7A, 0x02], [0x7A, 0x01], [0x7A, 0xFF]]);
+    let (mut device, _, _, mut line) = blank();
+    poke(&mut device, &mut [0; RAM_LEN], 0x3FF0, &[63, 4, 18, 0x87]);
+    device.frame_start(1).unwrap();
+    let cells = [&[40, 41, 78, 79, 448, 449][..], &Vec::from_iter(500..512)].concat();
+    assert_eq!(cells_left(&device, &ram, 0..1024), cells);
+    assert_eq!(device.draw(&ram, &font, &mut line), Ok(18));
 }

@@ -2,7 +2,7 @@
 
 use crate::library::{Place, FRAME_NUMBER, REGISTERS};
 use crate::linked;
-use crate::pages::{random_page, FONT, RAM};
+use crate::pages::{random_page, seam_page, FONT, RAM};
 use crate::random::Random;
 use osd_model::{Device, DEVICE_LEN};
 use std::process::exit;
@@ -51,7 +51,7 @@ pub fn lengths() {
 pub fn made_up(seed: u64) -> u64 {
     let mut random = Random::new(!(seed << 32));
     let mut ram = vec![0; RAM];
-    let p = random_page(&mut random, &mut ram);
+    let p = if random.one_in(4) { seam_page(&mut random, &mut ram) } else { random_page(&mut random, &mut ram) };
     let mut font = vec![0; FONT];
     random.fill(&mut font);
     let mut record = record(&mut random, p);

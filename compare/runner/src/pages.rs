@@ -64,3 +64,22 @@ pub fn random_page(random: &mut Random, ram: &mut [u8]) -> u8 {
     }
     p
 }
+
+/// A page on which characters meet: all of its strips show one row, often over the end of RAM, of every kind of character, most of them
+/// shadowed. Some rows end early. Answers its P.
+pub fn seam_page(random: &mut Random, ram: &mut [u8]) -> u8 {
+    random.fill(ram);
+    let p = random.below(8) as u8;
+    let row = if random.one_in(2) { 506 + random.below(6) } else { random.below(512) } as usize;
+    for place in 0..64 {
+        let high = random.byte() & random.pick(&[0x7F, 0x9F, 0xFF]);
+        code(ram, row + place, random.byte() | random.pick(&[0, 0x0A, 0x0A]), high);
+    }
+    if random.one_in(3) {
+        code(ram, row + random.below(20) as usize, random.byte(), END_OF_LINE);
+    }
+    for strip in 0..32 {
+        characters(ram, 32 * usize::from(p) + strip, row, true, random.one_in(4));
+    }
+    p
+}

@@ -426,6 +426,7 @@ impl<L: Library> Session<'_, L> {
         self.tall_letters();
         self.refused_pixels();
         self.still_frame();
+        self.seams();
         self.each_state();
     }
 }

@@ -12,22 +12,21 @@ use Rattle.registers.specs.declared.Registers.{Registers}
 use Rattle.registers.specs.Registers.{settingsOf}
 use Rattle.registers.proofs.Laws.{fbk-bound}
 use Rattle.raster.specs.Raster.{widthOf, firstPixelOf, hiddenIn}
-use Rattle.glyph.specs.Glyph.{bitsOf}
 use Rattle.paint.specs.Pixels.{plainOf}
 use Rattle.paint.proofs.Laws.{Pixels, pixels-at, pixels-append, pixels-take, pixels-replicate, twelve-length, twelve-pixels}
-use Rattle.line.specs.Line.{Place, character, painted, paint}
+use Rattle.line.specs.Line.{Place, bitsShown, character, painted, paint}
 
 -- ---- the width
 
-pub character-length : (font : List ℕ) (plain : ℕ) (hidden : Bool) (p : Place) → length (character font plain hidden p) ≡ 12
+pub character-length : (font : List ℕ) (plain : ℕ) (hidden : Bool) (before : ℕ) (p : Place) → length (character font plain hidden before p) ≡ 12
 unfolding character
-character-length font plain hidden p = twelve-length plain hidden (p .low) (bitsOf font (p .glyph))
+character-length font plain hidden before p = twelve-length plain (p .low) before (bitsShown font hidden p)
 
-pub painted-length : (font : List ℕ) (plain : ℕ) (hidden : Bool) (room : ℕ) (ps : List Place) → length (painted font plain hidden room ps) ≡ room
+pub painted-length : (font : List ℕ) (plain : ℕ) (hidden : Bool) (before room : ℕ) (ps : List Place) → length (painted font plain hidden before room ps) ≡ room
 unfolding painted
-painted-length font plain hidden room [] = length-replicate room plain
-painted-length font plain hidden room (p ∷ ps) =
-    simp (length-append, length-take, character-length, painted-length font plain hidden (room - 12) ps) (omega arith)
+painted-length font plain hidden before room [] = length-replicate room plain
+painted-length font plain hidden before room (p ∷ ps) =
+    simp (length-append, length-take, character-length, painted-length font plain hidden (bitsShown font hidden p) (room - 12) ps) (omega arith)
 
 -- a drawn line has exactly W pixels
 pub paint-length : (s : Settings) (font : List ℕ) (f : ℕ) (row : List Place) → length (paint s font f row) ≡ widthOf (s .ld)
@@ -38,19 +37,20 @@ paint-length s font f row =
 
 -- ---- the pixels
 
-painted-pixels : (font : List ℕ) (plain : ℕ) (hidden : Bool) (room : ℕ) (ps : List Place) → plain < 16 → Pixels (painted font plain hidden room ps)
+painted-pixels : (font : List ℕ) (plain : ℕ) (hidden : Bool) (before room : ℕ) (ps : List Place) → plain < 16
+    → Pixels (painted font plain hidden before room ps)
 unfolding painted character
-painted-pixels font plain hidden room [] h = pixels-replicate room plain h
-painted-pixels font plain hidden room (p ∷ ps) h =
-    pixels-append (pixels-take room (twelve-pixels plain hidden (p .low) (bitsOf font (p .glyph)) h))
-    (painted-pixels font plain hidden (room - 12) ps h)
+painted-pixels font plain hidden before room [] h = pixels-replicate room plain h
+painted-pixels font plain hidden before room (p ∷ ps) h =
+    pixels-append (pixels-take room (twelve-pixels plain (p .low) before (bitsShown font hidden p) h))
+    (painted-pixels font plain hidden (bitsShown font hidden p) (room - 12) ps h)
 
 paint-pixels : (s : Settings) (font : List ℕ) (f : ℕ) (row : List Place) → s .fbk < 2 → Pixels (paint s font f row)
 unfolding paint
 paint-pixels s font f row h =
     either Pixels (s .osd) _ _
     (pixels-append (pixels-replicate (min (firstPixelOf (s .dd)) (widthOf (s .ld))) (plainOf (s .fbk)) (omega arith))
-    (painted-pixels font (plainOf (s .fbk)) (hiddenIn (s .fl) f) (widthOf (s .ld) - firstPixelOf (s .dd)) row (omega arith)))
+    (painted-pixels font (plainOf (s .fbk)) (hiddenIn (s .fl) f) 0 (widthOf (s .ld) - firstPixelOf (s .dd)) row (omega arith)))
     (pixels-replicate (widthOf (s .ld)) 0 (omega arith))
 
 -- each pixel of a line is below 16

@@ -4,5 +4,6 @@ pub mod Counts
 pub mod Edges
 pub mod Laws
 pub mod Rules
+pub mod Seams
 pub mod Strips
 pub mod Turns

@@ -52,7 +52,7 @@ module _ (ram font : List ℕ) (address : ℕ) (pen : Pen) (x w : ℕ) (out : Li
       record {
         pixels =
             d .pixels
-            ∙ ap₂ (λ (k l : List ℕ). k ++ (roomOf ram font pen (w - x) address ++ l)) front back;
+            ∙ ap₂ (λ (k l : List ℕ). k ++ (roomOf ram font pen 0 (w - x) address ++ l)) front back;
         reads = d .reads;
       }
 
@@ -65,7 +65,7 @@ module _ (ram font : List ℕ) (address : ℕ) (pen : Pen) (x w : ℕ) (out : Li
         pixels =
             e
             ∙ ap₂ (λ (k : ℕ) (l : List ℕ). replicate k (pen .plain) ++ (l ++ drop w out)) (sym m)
-            (sym (no-room ram font pen (w - x) address none));
+            (sym (no-room ram font pen 0 (w - x) address none));
         reads = sym (no-reads ram pen (w - x) address none);
       }
 

@@ -17,33 +17,35 @@ use Rattle.paint.specs.Tables.{columnPixels}
 use Rattle.line.specs.declared.Pen.{Pen}
 use Rattle.line.specs.declared.Coded.{Coded}
 use Rattle.line.specs.declared.Line.{Line}
-use Rattle.line.specs.Line.{Place, codes, shownRow, scan, character, painted, paint}
+use Rattle.line.specs.Line.{Place, codes, shownRow, scan, bitsShown, character, painted, paint}
 
 -- what stands at the code of an even address
 abbrev pub placeAt : List ℕ → Pen → ℕ → Place
 placeAt ram pen a = record { low = getD ram a 0; glyph = value ram (glyphOf (getD ram (a + 1) 0) (pen .slice)) }
 
--- the code at an even address: does it end the line, how many cells did it read, and which columns does its character have?
-pub record CodeShown (ram font : List ℕ) (at : ℕ) (pen : Pen) (c : Coded) : Type 0 where
+-- the code at an even address, after the bits that the character to its left shows: does it end the line, how many cells did it read, and which
+-- bits and columns does its character have?
+pub record CodeShown (ram font : List ℕ) (at : ℕ) (pen : Pen) (before : ℕ) (c : Coded) : Type 0 where
   pub ends : c .ended ≡ endsLine (getD ram (at + 1) 0)
   pub reads : c .cells ≡ 2 + length (cells ram (glyphOf (getD ram (at + 1) 0) (pen .slice)))
-  pub pixels : c .ended ≡ false → columnPixels (c .columns) ≡ character font (pen .plain) (pen .hidden) (placeAt ram pen at)
+  pub bits : c .ended ≡ false → c .drawn .bits ≡ bitsShown font (pen .hidden) (placeAt ram pen at)
+  pub pixels : c .ended ≡ false → columnPixels (c .drawn .columns) ≡ character font (pen .plain) (pen .hidden) before (placeAt ram pen at)
 
--- the codes that there is room for, and the pixels of that room
+-- the codes that there is room for, and the pixels of that room, after the bits that the character to its left shows
 abbrev pub rowIn : Pen → ℕ → ℕ → Reading (List Place)
 rowIn pen room a = codes (charactersIn room) (pen .slice) a
 
-abbrev pub roomOf : List ℕ → List ℕ → Pen → ℕ → ℕ → List ℕ
-roomOf ram font pen room a = painted font (pen .plain) (pen .hidden) room (value ram (rowIn pen room a))
+abbrev pub roomOf : List ℕ → List ℕ → Pen → ℕ → ℕ → ℕ → List ℕ
+roomOf ram font pen before room a = painted font (pen .plain) (pen .hidden) before room (value ram (rowIn pen room a))
 
 -- the room from pixel x to w holds the characters and then plain; the bytes before and after stay
 pub record RowDrawn (ram font : List ℕ) (address : ℕ) (pen : Pen) (x w : ℕ) (out : List ℕ) (n : ℕ) (out′ : List ℕ) : Type 0 where
-  pub pixels : out′ ≡ take x out ++ (roomOf ram font pen (w - x) address ++ drop w out)
+  pub pixels : out′ ≡ take x out ++ (roomOf ram font pen 0 (w - x) address ++ drop w out)
   pub reads : n ≡ length (cells ram (rowIn pen (w - x) address))
 
 -- plain up to the first character, or to w, then the row
 pub record CharactersDrawn (ram font : List ℕ) (address : ℕ) (pen : Pen) (x w : ℕ) (out : List ℕ) (n : ℕ) (out′ : List ℕ) : Type 0 where
-  pub pixels : out′ ≡ replicate (min x w) (pen .plain) ++ (roomOf ram font pen (w - x) address ++ drop w out)
+  pub pixels : out′ ≡ replicate (min x w) (pen .plain) ++ (roomOf ram font pen 0 (w - x) address ++ drop w out)
   pub reads : n ≡ length (cells ram (rowIn pen (w - x) address))
 
 -- a line of the strip on screen; later bytes stay

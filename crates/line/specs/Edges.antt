@@ -1,4 +1,5 @@
--- Document 01, "Edges to test": the rows marked P, one table under one claim. The slices for (37,1) and (63,1) are request K2's.
+-- Document 01, "Edges to test": the rows marked P, one table under one claim. The slices for (37,1) and (63,1) are request K2's,
+-- what stands to the left of the second character is K7's.
 -- Assumes nothing.
 use Prim.Native.Nat.{ℕ, _+_, _*_, _≤_}
 use mathlib.Core.Path.{_≡_}
@@ -11,7 +12,7 @@ use Rattle.raster.specs.Raster.{sliceNumber, firstPixelOf, hiddenIn}
 use Rattle.walk.specs.declared.Walk.{Walk}
 use Rattle.glyph.specs.Glyph.{glyphOf}
 use Rattle.paint.specs.Pixels.{plainOf}
-use Rattle.line.specs.Line.{Place, scan, character, paint}
+use Rattle.line.specs.Line.{Place, scan, bitsShown, character, paint}
 
 pub data Row : Type 0 where
   -- slice for (CH, n)
@@ -35,7 +36,8 @@ Holds (secondCut ld dd n) =
     (s : Settings) (fnt : List ℕ) (f : ℕ) (p q : Place) → s .ld ≡ ld → s .dd ≡ dd → s .osd ≡ true
     → paint s fnt f (p ∷ q ∷ [])
     ≡ replicate (firstPixelOf dd) (plainOf (s .fbk))
-    ++ (character fnt (plainOf (s .fbk)) (hiddenIn (s .fl) f) p ++ take n (character fnt (plainOf (s .fbk)) (hiddenIn (s .fl) f) q))
+    ++ (character fnt (plainOf (s .fbk)) (hiddenIn (s .fl) f) 0 p
+    ++ take n (character fnt (plainOf (s .fbk)) (hiddenIn (s .fl) f) (bitsShown fnt (hiddenIn (s .fl) f) p) q))
 Holds (userCells number s a b) = (ram : List ℕ) → cells ram (glyphOf (128 + number) (record { 0 = s })) ≡ a ∷ b ∷ []
 
 -- LD 4 is W 60, LD 63 is W 768

@@ -3,3 +3,4 @@ pub mod Contracts
 pub mod Edges
 pub mod Line
 pub mod Rules
+pub mod Seams

@@ -1,4 +1,4 @@
--- Document 01, "Pixels": a line is scanned, then painted.
+-- Document 01, "Pixels", as request K7 mends it: a line is scanned, then painted.
 -- `scan` reads descriptor, codes and user slices and no font, so the cells that a line reads are known without one.
 -- `paint` makes the line's W pixels of what was scanned.
 -- Assumes nothing.
@@ -15,7 +15,7 @@ use Rattle.walk.specs.declared.Strip.the-variants.{Spacing, Characters}
 use Rattle.walk.specs.declared.Walk.{Walk}
 use Rattle.walk.specs.Walk.{even, next, nextLine}
 use Rattle.glyph.specs.Glyph.{Glyph, endsLine, glyphOf, bitsOf}
-use Rattle.paint.specs.Pixels.{plainOf, twelveColumns}
+use Rattle.paint.specs.Pixels.{plainOf, shownBits, twelveColumns}
 
 -- ---- scan
 
@@ -67,19 +67,24 @@ scan = scanBy glyphOf
 
 -- ---- paint
 
--- a character's twelve pixels
-unfoldable pub character : List ℕ → ℕ → Bool → Place → List ℕ
-character font plain hidden p = twelveColumns plain hidden (p .low) (bitsOf font (p .glyph))
+-- what a character shows of its glyph, PX11 to PX0
+unfoldable pub bitsShown : List ℕ → Bool → Place → ℕ
+bitsShown font hidden p = shownBits hidden (p .low) (bitsOf font (p .glyph))
 
--- the room that is left on a line, from a character's first pixel on: the characters, the last cut, then plain
-unfoldable pub painted : List ℕ → ℕ → Bool → ℕ → List Place → List ℕ
-painted font plain hidden room [] = replicate room plain
-painted font plain hidden room (p ∷ ps) = take room (character font plain hidden p) ++ painted font plain hidden (room - 12) ps
+-- its twelve pixels, after the bits that the character just to its left shows
+unfoldable pub character : List ℕ → ℕ → Bool → ℕ → Place → List ℕ
+character font plain hidden before p = twelveColumns plain (p .low) before (bitsShown font hidden p)
 
--- a line of W pixels. OSD 0: every pixel 0. Else plain before the first character
+-- the room that remains on a line, from a character's first pixel on: the characters, the last cut, then plain
+unfoldable pub painted : List ℕ → ℕ → Bool → ℕ → ℕ → List Place → List ℕ
+painted font plain hidden before room [] = replicate room plain
+painted font plain hidden before room (p ∷ ps) =
+    take room (character font plain hidden before p) ++ painted font plain hidden (bitsShown font hidden p) (room - 12) ps
+
+-- a line of W pixels. OSD 0: every pixel 0. Else plain before the first character, to whose left no bits are shown
 unfoldable pub paint : Settings → List ℕ → ℕ → List Place → List ℕ
 paint s font f row =
     cond (s .osd)
     (replicate (min (firstPixelOf (s .dd)) (widthOf (s .ld))) (plainOf (s .fbk))
-    ++ painted font (plainOf (s .fbk)) (hiddenIn (s .fl) f) (widthOf (s .ld) - firstPixelOf (s .dd)) row)
+    ++ painted font (plainOf (s .fbk)) (hiddenIn (s .fl) f) 0 (widthOf (s .ld) - firstPixelOf (s .dd)) row)
     (replicate (widthOf (s .ld)) 0)

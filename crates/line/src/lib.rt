@@ -8,9 +8,9 @@ ghost use Rattle.registers.specs.Registers.{settingsOf};
 ghost use Rattle.raster.specs.Raster.{OnScreen, widthOf};
 ghost use Rattle.walk.specs.Walk.{OnLine};
 ghost use Rattle.glyph.specs.Glyph.{Lent};
-ghost use Rattle.paint.specs.Tables.{rowTable};
+ghost use Rattle.paint.specs.Tables.{IsPlain, rowTable};
 ghost use Rattle.line.specs.Contracts.{CodeShown, RowDrawn, CharactersDrawn, StripDrawn, LineDrawn};
-use paint::Fours;
+use paint::Drawn;
 use raster::Slice;
 use registers::Registers;
 use registers::Settings;
@@ -26,11 +26,11 @@ pub struct Pen {
     pub hidden: bool,
 }
 
-// A code: whether it ended the line, how many cells it read, and its twelve columns.
+// A code: whether it ended the line, how many cells it read, and its character.
 pub struct Coded {
     pub ended: bool,
     pub cells: u32,
-    pub columns: Fours,
+    pub drawn: Drawn,
 }
 
 // The walk after a line, and how many cells the line read.
@@ -49,13 +49,20 @@ fn fill(out: &mut [u8], pixel: u8)
     }
 }
 
-// The code at an even address.
-fn code_at<'a>(ram: &'a [u8], font: &'a [u8], table: &[u32], at: usize, pen: Pen) -> Coded
+// The code at an even address, after the bits that the character to its left shows.
+fn code_at<'a>(
+    ram: &'a [u8],
+    font: &'a [u8],
+    table: &[u32],
+    at: usize,
+    pen: Pen,
+    before: u32,
+) -> Coded
     requires { ⌜ now table ≡ rowTable (pen .plain) (pen .hidden) ⌝ }
     requires { ⌜ Lent (now ram) (now font) ⌝ }
-    requires { ⌜ OnScreen (pen .slice) ⌝ }
+    requires { ⌜ OnScreen (pen .slice) × IsPlain (pen .plain) ⌝ }
     requires { ⌜ at + 1 < ramLength ⌝ }
-    ensures { λ r. ⌜ CodeShown (now (ram .entry)) (now (font .entry)) at pen r ⌝ }
+    ensures { λ r. ⌜ CodeShown (now (ram .entry)) (now (font .entry)) at pen before r ⌝ }
 {
     let low = ram[at];
     let slice = pen.slice;
@@ -64,13 +71,13 @@ fn code_at<'a>(ram: &'a [u8], font: &'a [u8], table: &[u32], at: usize, pen: Pen
         return Coded {
             ended: true,
             cells: 2,
-            columns: paint::NONE,
+            drawn: paint::NONE,
         };
     }
     Coded {
         ended: false,
         cells: 2 + word.cells,
-        columns: paint::character(table, pen.plain, pen.hidden, low, word.bits as u32),
+        drawn: paint::character(table, pen.plain, pen.hidden, low, before, word.bits as u32),
     }
 }
 
@@ -86,7 +93,7 @@ fn draw_row<'a>(
 ) -> u32
     requires { ⌜ (first ≤ w) × (w ≤ length (now out)) × (w ≤ 768) ⌝ }
     requires { ⌜ Lent (now ram) (now font) ⌝ }
-    requires { ⌜ OnScreen (pen .slice) ⌝ }
+    requires { ⌜ OnScreen (pen .slice) × IsPlain (pen .plain) ⌝ }
     ensures { λ r. ⌜ RowDrawn (now (ram .entry)) (now (font .entry)) address pen first w (now (out .entry)) r (now (out .exit)) ⌝ }
 {
     let table = paint::row_table(pen.plain, pen.hidden);
@@ -95,20 +102,24 @@ fn draw_row<'a>(
     let mut x = first;
     let mut a = walk::even_address(address) as usize;
     let mut cells: u32 = 0;
+    // what the character to the left shows; nothing for the first
+    let mut before: u32 = 0;
     while x < w {
-        let code = code_at(ram, font, &table, a, pen);
+        let code = code_at(ram, font, &table, a, pen, before);
         cells += code.cells;
         if code.ended {
             fill(&mut out[x..w], pen.plain);
             return cells;
         }
+        let drawn = code.drawn;
         if cut <= x {
-            paint::put_cut(&mut out[x..w], code.columns);
+            paint::put_cut(&mut out[x..w], drawn.columns);
             return cells;
         }
         let e = x + 12;
-        paint::put_twelve(&mut out[x..e], code.columns);
+        paint::put_twelve(&mut out[x..e], drawn.columns);
         a = (a + 2) / 2 % 512 * 2;
+        before = drawn.bits;
         x = e;
     }
     cells
@@ -134,7 +145,7 @@ fn draw_characters<'a>(
 ) -> u32
     requires { ⌜ (w ≤ length (now out)) × (w ≤ 768) ⌝ }
     requires { ⌜ Lent (now ram) (now font) ⌝ }
-    requires { ⌜ OnScreen (pen .slice) ⌝ }
+    requires { ⌜ OnScreen (pen .slice) × IsPlain (pen .plain) ⌝ }
     ensures { λ r. ⌜ CharactersDrawn (now (ram .entry)) (now (font .entry)) address pen first w (now (out .entry)) r (now (out .exit)) ⌝ }
 {
     if first < w {

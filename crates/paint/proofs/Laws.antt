@@ -8,7 +8,7 @@ use native.Mathlib.Omega.{arith}
 use lib.Dec.{eqb}
 use lib.ListN.{length, getD, take, replicate}
 use Rattle.facts.proofs.Choice.{either}
-use Rattle.paint.specs.Pixels.{Ink, background, inkOf, shownBits, columns, twelveColumns}
+use Rattle.paint.specs.Pixels.{Ink, background, inkOf, columns, twelveColumns}
 
 -- ---- how many
 
@@ -17,9 +17,9 @@ unfolding columns
 columns-length zero ink bits left = refl
 columns-length (suc n) ink bits left = ap suc (columns-length n ink bits (bits / 2 ^ n % 2))
 
-pub twelve-length : (plain : ℕ) (hidden : Bool) (low bits : ℕ) → length (twelveColumns plain hidden low bits) ≡ 12
+pub twelve-length : (plain low before bits : ℕ) → length (twelveColumns plain low before bits) ≡ 12
 unfolding twelveColumns
-twelve-length plain hidden low bits = columns-length 12 (inkOf plain low) (shownBits hidden low bits) 0
+twelve-length plain low before bits = columns-length 12 (inkOf plain low) bits (before % 2)
 
 -- ---- each below 16
 
@@ -74,6 +74,6 @@ columns-pixels (suc n) ink bits left h =
     (either (Below 16) (eqb (bits / 2 ^ n % 2) 1) _ _ (h .fore) (either (Below 16) (eqb left 1) _ _ (h .cast) (h .back)))
     (columns-pixels n ink bits (bits / 2 ^ n % 2) h)
 
-pub twelve-pixels : (plain : ℕ) (hidden : Bool) (low bits : ℕ) → plain < 16 → Pixels (twelveColumns plain hidden low bits)
+pub twelve-pixels : (plain low before bits : ℕ) → plain < 16 → Pixels (twelveColumns plain low before bits)
 unfolding twelveColumns
-twelve-pixels plain hidden low bits h = columns-pixels 12 (inkOf plain low) (shownBits hidden low bits) 0 (ink-below 16 plain low (omega arith) h)
+twelve-pixels plain low before bits h = columns-pixels 12 (inkOf plain low) bits (before % 2) (ink-below 16 plain low (omega arith) h)

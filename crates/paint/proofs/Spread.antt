@@ -2,13 +2,13 @@
 -- Assumes nothing.
 use Prim.Native.Nat.{ℕ, zero, suc, _+_, _-_, _*_, _/_, _%_, _^_, _≤_, _<_}
 use mathlib.Core.Path.{_≡_, refl, sym, ap, ap₂, _∙_, subst}
-use mathlib.Core.Bool.{Bool, true, false, cond, _&&_}
+use mathlib.Core.Bool.{Bool, true, false, cond, _&&_, true≢false, false≢true}
 use mathlib.Core.List.{List, [], _∷_, _++_}
 use native.Mathlib.Nat.{div-div-eq-div-mul}
 use native.Mathlib.Omega.{arith}
 use lib.Arith.{bin-ind}
 use Rattle.facts.proofs.Choice.{either, cond-same}
-use lib.Bits.{differ, bitAnd, bitXor, xor-step, xor-zero-l, xor-zero-r, xor-lt, and-zero-l, and-zero-r, and-comm, and-mask, and-mod, xor-mod, and-shr, xor-shr}
+use lib.Bits.{differ, bitAnd, bitOr, bitXor, xor-step, xor-zero-l, xor-zero-r, xor-lt, or-zero-r, and-zero-l, and-zero-r, and-comm, and-mask, and-mod, or-mod, xor-mod, and-shr, or-shr, xor-shr}
 use native.Mathlib.Decide.{ℕ-discrete}
 use borrow.Author.Tests.{eq-eqb, ne-eqb, lt-ltb, le-ltb, le-leb, lt-leb}
 use borrow.Rule.Slice.PartMut.{putMid}
@@ -18,7 +18,7 @@ use lib.Seq.{drop-drop, drop-length}
 use Rattle.paint.specs.declared.Paint.{Paint}
 use Rattle.paint.specs.declared.Fours.{Fours}
 use Rattle.paint.specs.Pixels.{Ink, inkOf, pixel, columns, shownBits, twelveColumns}
-use Rattle.paint.specs.Tables.{inFour, facing, casting, ofPixel, fores, backs, shows, paintOf, castsShadow, solid, shadowed, fourOf, inFours, columnPixels}
+use Rattle.paint.specs.Tables.{inFour, facing, casting, ofPixel, fores, backs, shows, paintOf, takesShadow, solid, shadowed, IsPlain, fourOf, inFours, columnPixels, CharacterDrawn}
 use Rattle.paint.proofs.Laws.{Inks, ink-below}
 
 -- ---- exclusive or and masks on bytes
@@ -60,6 +60,9 @@ lane k n = n / 2 ^ k % 2 ^ 8
 
 lane-xor : (k a b : ℕ) → lane k (bitXor a b) ≡ bitXor (lane k a) (lane k b)
 lane-xor k a b = ap (λ (n : ℕ). n % 2 ^ 8) (xor-shr a b k) ∙ xor-mod (a / 2 ^ k) (b / 2 ^ k) 8
+
+lane-or : (k a b : ℕ) → lane k (bitOr a b) ≡ bitOr (lane k a) (lane k b)
+lane-or k a b = ap (λ (n : ℕ). n % 2 ^ 8) (or-shr a b k) ∙ or-mod (a / 2 ^ k) (b / 2 ^ k) 8
 
 lane-and : (k a b : ℕ) → lane k (bitAnd a b) ≡ bitAnd (lane k a) (lane k b)
 lane-and k a b = ap (λ (n : ℕ). n % 2 ^ 8) (and-shr a b k) ∙ and-mod (a / 2 ^ k) (b / 2 ^ k) 8
@@ -106,45 +109,38 @@ of-four p = omega arith
 times-four : (a b c d : ℕ) → 255 * inFour a b c d ≡ inFour (255 * a) (255 * b) (255 * c) (255 * d)
 times-four a b c d = omega arith
 
+blacks-four : (a b c d : ℕ) → 8 * inFour a b c d ≡ inFour (8 * a) (8 * b) (8 * c) (8 * d)
+blacks-four a b c d = omega arith
+
 -- a whole mask keeps a byte
 and-whole : (a : ℕ) → a < 256 → bitAnd 255 a ≡ a
 and-whole a h = and-comm 255 a ∙ and-mask a 8 ∙ omega arith
 
--- a column from the masks of its bit and of the bit to its left
-module _ (fore cast back : ℕ) (below : Inks 256 (record { fore = fore; cast = cast; back = back })) where
-  changed : bitAnd 255 (bitXor back fore) ≡ bitXor back fore
-  changed = and-whole (bitXor back fore) (xor-lt 8 back fore (below .back) (below .fore))
+-- a column from the mask of its bit
+module _ (fore back : ℕ) (f : fore < 256) (b : back < 256) where
+  chosen : (bit : ℕ) → bit < 2 → bitXor back (bitAnd (255 * bit) (bitXor back fore)) ≡ cond (eqb bit 1) fore back
+  chosen zero h = ap (bitXor back) (and-zero-l (bitXor back fore)) ∙ xor-zero-r back
+  chosen (suc zero) h = ap (bitXor back) (and-whole (bitXor back fore) (xor-lt 8 back fore b f)) ∙ xor-again back fore
+  chosen (suc (suc n)) h = absurd (omega arith)
 
-  cast-changed : bitAnd 255 (bitXor back cast) ≡ bitXor back cast
-  cast-changed = and-whole (bitXor back cast) (xor-lt 8 back cast (below .back) (below .cast))
+-- black over a plain pixel is black
+black-over : (plain : ℕ) → IsPlain plain → bitOr plain 8 ≡ 8
+black-over plain h = by (ℕ-discrete plain 0)
+  where
+    by : Dec (plain ≡ 0) → bitOr plain 8 ≡ 8
+    by (yes e) = rw e
+    by (no n) = let e : plain ≡ 8 = omega (arith, h .0, h .1) in rw e
 
-  taken : bitXor back (bitXor (bitAnd 255 (bitXor back fore)) (bitAnd 0 (bitXor back cast))) ≡ fore
-  taken =
-      ap₂ (λ (x y : ℕ). bitXor back (bitXor x y)) changed (and-zero-l (bitXor back cast))
-      ∙ ap (bitXor back) (xor-zero-r (bitXor back fore))
-      ∙ xor-again back fore
-
-  chosen : (bit left : ℕ) → bit < 2 → left < 2
-      → bitXor back (bitXor (bitAnd (255 * bit) (bitXor back fore)) (bitAnd (255 * (left - bit)) (bitXor back cast)))
-      ≡ cond (eqb bit 1) fore (cond (eqb left 1) cast back)
-  chosen zero zero h k =
-      ap₂ (λ (x y : ℕ). bitXor back (bitXor x y)) (and-zero-l (bitXor back fore)) (and-zero-l (bitXor back cast)) ∙ xor-zero-r back
-  chosen zero (suc zero) h k =
-      ap₂ (λ (x y : ℕ). bitXor back (bitXor x y)) (and-zero-l (bitXor back fore)) cast-changed
-      ∙ ap (bitXor back) (xor-zero-l (bitXor back cast))
-      ∙ xor-again back cast
-  chosen (suc zero) zero h k = taken
-  chosen (suc zero) (suc zero) h k = taken
-  chosen zero (suc (suc n)) h k = absurd (omega arith)
-  chosen (suc zero) (suc (suc n)) h k = absurd (omega arith)
-  chosen (suc (suc n)) left h k = absurd (omega arith)
-
-  chosen-solid : (bit left : ℕ) → bit < 2
-      → bitXor back (bitAnd (255 * bit) (bitXor back fore)) ≡ cond (eqb bit 1) fore (cond (eqb left 1) back back)
-  chosen-solid zero left h =
-      ap (bitXor back) (and-zero-l (bitXor back fore)) ∙ xor-zero-r back ∙ sym (cond-same (eqb left 1) back)
-  chosen-solid (suc zero) left h = ap (bitXor back) changed ∙ xor-again back fore
-  chosen-solid (suc (suc n)) left h = absurd (omega arith)
+-- shadow over a column, from its bit and the bit to its left
+shaded : (fore plain : ℕ) → IsPlain plain → (bit left : ℕ) → bit < 2 → left < 2
+    → bitOr (cond (eqb bit 1) fore plain) (8 * (left - bit)) ≡ cond (eqb bit 1) fore (cond (eqb left 1) 8 plain)
+shaded fore plain p zero zero h k = or-zero-r plain
+shaded fore plain p zero (suc zero) h k = black-over plain p
+shaded fore plain p (suc zero) zero h k = or-zero-r fore
+shaded fore plain p (suc zero) (suc zero) h k = or-zero-r fore
+shaded fore plain p zero (suc (suc n)) h k = absurd (omega arith)
+shaded fore plain p (suc zero) (suc (suc n)) h k = absurd (omega arith)
+shaded fore plain p (suc (suc n)) left h k = absurd (omega arith)
 
 -- ---- four columns
 
@@ -157,23 +153,23 @@ fourColumns ink i =
 record Column (k i bit left : ℕ) : Type 0 where
   of-pixel : (p : ℕ) → p < 256 → lane k (ofPixel p) ≡ p
   faces : lane k (facing i) ≡ 255 * bit
-  casts : lane k (casting i) ≡ 255 * (left - bit)
+  casts : lane k (casting i) ≡ 8 * (left - bit)
   one : bit < 2
   two : left < 2
 
 module _ (i : ℕ) where
-  -- a bit's mask, and that of a bit beside
+  -- a bit's mask, and the shadow of a bit beside
   bit-mask : (n : ℕ) → 255 * (n % 2) < 256
   bit-mask n = omega arith
 
-  beside-mask : (m n : ℕ) → 255 * (m % 2 - n % 2) < 256
+  beside-mask : (m n : ℕ) → 8 * (m % 2 - n % 2) < 256
   beside-mask m n = omega arith
 
   -- the byte that starts at bit k is the one that `at` picks of four
   column-of : (k bit left : ℕ) (at : ℕ → ℕ → ℕ → ℕ → ℕ)
       → ((a b c d : ℕ) → a < 256 → b < 256 → c < 256 → d < 256 → lane k (inFour a b c d) ≡ at a b c d) → ((p : ℕ) → at p p p p ≡ p)
       → at (255 * (i / 8 % 2)) (255 * (i / 4 % 2)) (255 * (i / 2 % 2)) (255 * (i % 2)) ≡ 255 * bit
-      → at (255 * (i / 16 % 2 - i / 8 % 2)) (255 * (i / 8 % 2 - i / 4 % 2)) (255 * (i / 4 % 2 - i / 2 % 2)) (255 * (i / 2 % 2 - i % 2)) ≡ 255 * (left - bit)
+      → at (8 * (i / 16 % 2 - i / 8 % 2)) (8 * (i / 8 % 2 - i / 4 % 2)) (8 * (i / 4 % 2 - i / 2 % 2)) (8 * (i / 2 % 2 - i % 2)) ≡ 8 * (left - bit)
       → bit < 2 → left < 2 → Column k i bit left
   unfolding facing casting
   column-of k bit left at byte same f g h j =
@@ -184,7 +180,7 @@ module _ (i : ℕ) where
             ∙ byte _ _ _ _ (bit-mask (i / 8)) (bit-mask (i / 4)) (bit-mask (i / 2)) (bit-mask i)
             ∙ f;
         casts =
-            ap (lane k) (times-four (i / 16 % 2 - i / 8 % 2) (i / 8 % 2 - i / 4 % 2) (i / 4 % 2 - i / 2 % 2) (i / 2 % 2 - i % 2))
+            ap (lane k) (blacks-four (i / 16 % 2 - i / 8 % 2) (i / 8 % 2 - i / 4 % 2) (i / 4 % 2 - i / 2 % 2) (i / 2 % 2 - i % 2))
             ∙ byte _ _ _ _ (beside-mask (i / 16) (i / 8)) (beside-mask (i / 8) (i / 4)) (beside-mask (i / 4) (i / 2)) (beside-mask (i / 2) i)
             ∙ g;
         one = h;
@@ -214,38 +210,34 @@ four-columns ink i n h =
 -- the paint of an ink, and the bits that are shown
 abbrev painting : Ink → ℕ → Paint
 painting ink kept =
-    record {
-      back = ofPixel (ink .back);
-      fore = bitXor (ofPixel (ink .back)) (ofPixel (ink .fore));
-      cast = bitXor (ofPixel (ink .back)) (ofPixel (ink .cast));
-      kept = kept;
-    }
+    record { back = ofPixel (ink .back); fore = bitXor (ofPixel (ink .back)) (ofPixel (ink .fore)); kept = kept }
 
 module _ (ink : Ink) (kept : ℕ) (below : Inks 256 ink) where
-  -- a change to a pixel, in a byte
-  lane-change : (k i bit left p : ℕ) → Column k i bit left → p < 256 → lane k (bitXor (ofPixel (ink .back)) (ofPixel p)) ≡ bitXor (ink .back) p
-  lane-change k i bit left p c h =
-      lane-xor k (ofPixel (ink .back)) (ofPixel p) ∙ ap₂ bitXor (c .of-pixel (ink .back) (below .back)) (c .of-pixel p h)
-
-  lane-shadowed : (k i bit left : ℕ) → Column k i bit left → lane k (shadowed (painting ink kept) i) ≡ pixel ink bit left
-  unfolding shadowed
-  lane-shadowed k i bit left c =
+  lane-solid : (k i bit left : ℕ) → Column k i bit left → lane k (solid (painting ink kept) i) ≡ cond (eqb bit 1) (ink .fore) (ink .back)
+  unfolding solid
+  lane-solid k i bit left c =
       lane-xor k _ _
       ∙ ap₂ bitXor (c .of-pixel (ink .back) (below .back))
-      (lane-xor k _ _
-      ∙ ap₂ bitXor
-      (lane-and k _ _ ∙ ap₂ bitAnd (c .faces) (lane-change k i bit left (ink .fore) c (below .fore)))
-      (lane-and k _ _ ∙ ap₂ bitAnd (c .casts) (lane-change k i bit left (ink .cast) c (below .cast))))
-      ∙ chosen (ink .fore) (ink .cast) (ink .back) below bit left (c .one) (c .two)
+      (lane-and k _ _
+      ∙ ap₂ bitAnd (c .faces)
+      (lane-xor k (ofPixel (ink .back)) (ofPixel (ink .fore))
+      ∙ ap₂ bitXor (c .of-pixel (ink .back) (below .back)) (c .of-pixel (ink .fore) (below .fore))))
+      ∙ chosen (ink .fore) (ink .back) (below .fore) (below .back) bit (c .one)
 
   -- where shadow is no other pixel than background
-  lane-solid : (k i bit left : ℕ) → ink .cast ≡ ink .back → Column k i bit left → lane k (solid (painting ink kept) i) ≡ pixel ink bit left
-  unfolding solid
-  lane-solid k i bit left e c =
-      lane-xor k _ _
-      ∙ ap₂ bitXor (c .of-pixel (ink .back) (below .back))
-      (lane-and k _ _ ∙ ap₂ bitAnd (c .faces) (lane-change k i bit left (ink .fore) c (below .fore)))
-      ∙ chosen-solid (ink .fore) (ink .cast) (ink .back) below bit left (c .one)
+  lane-same : (k i bit left : ℕ) → ink .cast ≡ ink .back → Column k i bit left → lane k (solid (painting ink kept) i) ≡ pixel ink bit left
+  lane-same k i bit left e c =
+      lane-solid k i bit left c
+      ∙ ap (cond (eqb bit 1) (ink .fore)) (sym (ap (λ (x : ℕ). cond (eqb left 1) x (ink .back)) e ∙ cond-same (eqb left 1) (ink .back)))
+
+  -- where shadow is black, over plain
+  lane-shadowed : (k i bit left : ℕ) → ink .cast ≡ 8 → IsPlain (ink .back) → Column k i bit left
+      → lane k (shadowed (painting ink kept) i) ≡ pixel ink bit left
+  unfolding shadowed
+  lane-shadowed k i bit left e p c =
+      lane-or k _ _
+      ∙ ap₂ bitOr (lane-solid k i bit left c) (c .casts)
+      ∙ shaded (ink .fore) (ink .back) p bit left (c .one) (c .two)
       ∙ ap (λ (x : ℕ). cond (eqb bit 1) (ink .fore) (cond (eqb left 1) x (ink .back))) (sym e)
 
 -- ---- twelve columns
@@ -258,35 +250,39 @@ four-same : (ink : Ink) (a b c d e i : ℕ) → a ≡ i / 16 % 2 → b ≡ i / 8
     → bitsFour ink a b c d e ≡ fourColumns ink i
 four-same ink a b c d e i p q r s t = cc
 
--- a character's columns are those of three indices
-columns-four : (ink : Ink) (bits : ℕ) → bits < 4096
-    → columns 12 ink bits 0 ≡ fourColumns ink (bits / 256) ++ (fourColumns ink (bits / 16 % 32) ++ fourColumns ink (bits % 32))
+-- a character's columns are those of three indices, of which the first begins with the bit to their left
+columns-four : (ink : Ink) (bits left n : ℕ) → bits < 4096 → left < 2 → n ≡ bits + left * 4096
+    → columns 12 ink bits left ≡ fourColumns ink (n / 256) ++ (fourColumns ink (n / 16 % 32) ++ fourColumns ink (n % 32))
 unfolding columns
-columns-four ink bits h =
+columns-four ink bits left n h k e =
     ap₂ (λ (k l : List ℕ). k ++ l)
-    (four-same ink 0 (bits / 2048 % 2) (bits / 1024 % 2) (bits / 512 % 2) (bits / 256 % 2) (bits / 256)
-    (omega arith) (omega arith) (omega arith) (omega arith) refl)
-    (ap₂ (λ (k l : List ℕ). k ++ l)
-    (four-same ink (bits / 256 % 2) (bits / 128 % 2) (bits / 64 % 2) (bits / 32 % 2) (bits / 16 % 2) (bits / 16 % 32)
+    (four-same ink left (bits / 2048 % 2) (bits / 1024 % 2) (bits / 512 % 2) (bits / 256 % 2) (n / 256)
     (omega arith) (omega arith) (omega arith) (omega arith) (omega arith))
-    (four-same ink (bits / 16 % 2) (bits / 8 % 2) (bits / 4 % 2) (bits / 2 % 2) (bits / 1 % 2) (bits % 32)
+    (ap₂ (λ (k l : List ℕ). k ++ l)
+    (four-same ink (bits / 256 % 2) (bits / 128 % 2) (bits / 64 % 2) (bits / 32 % 2) (bits / 16 % 2) (n / 16 % 32)
+    (omega arith) (omega arith) (omega arith) (omega arith) (omega arith))
+    (four-same ink (bits / 16 % 2) (bits / 8 % 2) (bits / 4 % 2) (bits / 2 % 2) (bits / 1 % 2) (n % 32)
     (omega arith) (omega arith) (omega arith) (omega arith) (omega arith)))
 
 -- twelve columns made of numbers that are each four of them
-twelve-columns : (ink : Ink) (four : ℕ → ℕ) (bits : ℕ) → bits < 4096 → ((i k bit left : ℕ) → Column k i bit left → lane k (four i) ≡ pixel ink bit left)
-    → columnPixels (inFours four bits) ≡ columns 12 ink bits 0
+twelve-columns : (ink : Ink) (four : ℕ → ℕ) (bits left n : ℕ) → bits < 4096 → left < 2 → n ≡ bits + left * 4096
+    → ((i k bit left : ℕ) → Column k i bit left → lane k (four i) ≡ pixel ink bit left) → columnPixels (inFours four n) ≡ columns 12 ink bits left
 unfolding columnPixels inFours
-twelve-columns ink four bits h f =
+twelve-columns ink four bits left n h k e f =
     let of : (i : ℕ) → fourOf (four i) ≡ fourColumns ink i = λ i. four-columns ink i (four i) (f i) in
-    ap₂ (λ (k l : List ℕ). k ++ l) (of (bits / 256)) (ap₂ (λ (k l : List ℕ). k ++ l) (of (bits / 16 % 32)) (of (bits % 32))) ∙ sym (columns-four ink bits h)
+    ap₂ (λ (k l : List ℕ). k ++ l) (of (n / 256)) (ap₂ (λ (k l : List ℕ). k ++ l) (of (n / 16 % 32)) (of (n % 32)))
+    ∙ sym (columns-four ink bits left n h k e)
+
+-- where shadow is no other pixel than background, what stands to the left does not matter
+left-same : (n : ℕ) (ink : Ink) (bits left : ℕ) → ink .cast ≡ ink .back → columns (suc n) ink bits 0 ≡ columns (suc n) ink bits left
+unfolding columns
+left-same n ink bits left e =
+    ap (λ (x : ℕ). cond (eqb (bits / 2 ^ n % 2) 1) (ink .fore) x ∷ columns n ink bits (bits / 2 ^ n % 2))
+    (sym (ap (λ (x : ℕ). cond (eqb left 1) x (ink .back)) e ∙ cond-same (eqb left 1) (ink .back)))
 
 -- ---- what a code draws with
 
 module _ (plain : ℕ) (hidden : Bool) (low : ℕ) where
-  -- the ink with shadow as its cast pixel, whether or not the code casts one
-  shadowInk : Ink
-  shadowInk = record { fore = inkOf plain low .fore; cast = 8; back = inkOf plain low .back }
-
   back-is : backs plain (low % 16) ≡ ofPixel (inkOf plain low .back)
   unfolding backs inkOf
   back-is = ap ofPixel (by (ℕ-discrete (low / 8 % 2) 0))
@@ -296,36 +292,48 @@ module _ (plain : ℕ) (hidden : Bool) (low : ℕ) where
       by (yes e) = let h : low % 16 < 8 = omega arith in rw (lt-ltb _ _ h, eq-eqb _ _ e) (omega arith)
       by (no e) = let h : 8 ≤ low % 16 = omega arith in rw (le-ltb _ _ h, ne-eqb _ _ e) (sym (cond-same (eqb (low / 2 % 2) 0) plain))
 
-  paint-is : paintOf plain hidden low ≡ painting shadowInk (shows hidden (low / 16))
-  unfolding paintOf fores inkOf shadowInk
-  paint-is = ap (λ (b : ℕ). record { back = b; fore = bitXor b (ofPixel (8 + low / 16 % 8)); cast = bitXor b (ofPixel 8); kept = shows hidden (low / 16) }) back-is
+  paint-is : paintOf plain hidden low ≡ painting (inkOf plain low) (shows hidden (low / 16))
+  unfolding paintOf fores inkOf
+  paint-is = ap (λ (b : ℕ). record { back = b; fore = bitXor b (ofPixel (8 + low / 16 % 8)); kept = shows hidden (low / 16) }) back-is
 
-  -- the cast pixel is shadow where the code casts one, else background
-  cast-is : inkOf plain low .cast ≡ cond (castsShadow low) 8 (inkOf plain low .back)
+  -- a shadowed character's shadow is black, over plain; with another there is none
+  takes-shadow : takesShadow low ≡ true → (inkOf plain low .cast ≡ 8) × (inkOf plain low .back ≡ plain)
   unfolding inkOf
-  cast-is = by (eqb (low / 8 % 2) 0) (eqb (low / 2 % 2) 0)
+  takes-shadow = by (eqb (low / 8 % 2) 0) (eqb (low / 2 % 2) 0)
     where
-      by : (s t : Bool) → cond s (8 + low % 8) (cond t plain 8) ≡ cond (cond s false (cond t false true)) 8 (cond s (8 + low % 8) (cond t plain plain))
-      by true t = refl
-      by false true = refl
-      by false false = refl
+      by : (s t : Bool) → cond s false (cond t false true) ≡ true
+          → (cond s (8 + low % 8) (cond t plain 8) ≡ 8) × (cond s (8 + low % 8) (cond t plain plain) ≡ plain)
+      by true t e = absurd (false≢true e)
+      by false true e = absurd (false≢true e)
+      by false false e = (refl, refl)
 
-  module _ (h : plain < 256) (bits : ℕ) (k : bits < 4096) where
+  takes-none : takesShadow low ≡ false → inkOf plain low .cast ≡ inkOf plain low .back
+  unfolding inkOf
+  takes-none = by (eqb (low / 8 % 2) 0) (eqb (low / 2 % 2) 0)
+    where
+      by : (s t : Bool) → cond s false (cond t false true) ≡ false → cond s (8 + low % 8) (cond t plain 8) ≡ cond s (8 + low % 8) (cond t plain plain)
+      by true t e = refl
+      by false true e = refl
+      by false false e = absurd (true≢false e)
+
+  module _ (h : IsPlain plain) (bits left : ℕ) (k : bits < 4096) (l : left < 2) where
     below : Inks 256 (inkOf plain low)
-    below = ink-below 256 plain low (omega arith) h
+    below = ink-below 256 plain low (omega arith) (omega (arith, h .1))
 
-    drawn-shadowed : castsShadow low ≡ true → columnPixels (inFours (shadowed (paintOf plain hidden low)) bits) ≡ columns 12 (inkOf plain low) bits 0
-    unfolding shadowInk
+    drawn-shadowed : takesShadow low ≡ true
+        → columnPixels (inFours (shadowed (paintOf plain hidden low)) (bits + left * 4096)) ≡ columns 12 (inkOf plain low) bits left
     drawn-shadowed e =
-        ap (λ (p : Paint). columnPixels (inFours (shadowed p) bits)) paint-is
-        ∙ twelve-columns shadowInk _ bits k (λ i n bit left. lane-shadowed shadowInk (shows hidden (low / 16)) (record { fore = below .fore; cast = omega arith; back = below .back }) n i bit left)
-        ∙ ap (λ (x : ℕ). columns 12 (record { fore = inkOf plain low .fore; cast = x; back = inkOf plain low .back }) bits 0) (sym (rw e at cast-is))
+        let t = takes-shadow e in
+        ap (λ (p : Paint). columnPixels (inFours (shadowed p) (bits + left * 4096))) paint-is
+        ∙ twelve-columns (inkOf plain low) _ bits left _ k l refl
+        (λ i n bit beside. lane-shadowed (inkOf plain low) (shows hidden (low / 16)) below n i bit beside (t .0) (subst IsPlain (sym (t .1)) h))
 
-    drawn-solid : castsShadow low ≡ false → columnPixels (inFours (solid (paintOf plain hidden low)) bits) ≡ columns 12 (inkOf plain low) bits 0
-    unfolding shadowInk solid
+    drawn-solid : takesShadow low ≡ false → columnPixels (inFours (solid (paintOf plain hidden low)) bits) ≡ columns 12 (inkOf plain low) bits left
     drawn-solid e =
         ap (λ (p : Paint). columnPixels (inFours (solid p) bits)) paint-is
-        ∙ twelve-columns (inkOf plain low) _ bits k (λ i n bit left. lane-solid (inkOf plain low) (shows hidden (low / 16)) below n i bit left (rw e at cast-is))
+        ∙ twelve-columns (inkOf plain low) _ bits 0 bits k (omega arith) (omega arith)
+        (λ i n bit beside. lane-same (inkOf plain low) (shows hidden (low / 16)) below n i bit beside (takes-none e))
+        ∙ left-same 11 (inkOf plain low) bits left (takes-none e)
 
 -- ---- the bits that are shown
 
@@ -354,24 +362,30 @@ module _ (hidden : Bool) (low word : ℕ) (h : low < 256) where
 
 -- ---- a character
 
-module _ (plain : ℕ) (hidden : Bool) (low word : ℕ) (h : plain < 256) (k : low < 256) (p : Paint) (e : p ≡ paintOf plain hidden low) where
+module _ (plain : ℕ) (hidden : Bool) (low before word : ℕ) (h : IsPlain plain) (k : low < 256) (p : Paint) (e : p ≡ paintOf plain hidden low) where
   pub bits-fit : bitAnd word (p .kept) < 4096
   bits-fit = subst (λ (n : ℕ). n < 4096) (sym (bits-are hidden low word k plain p e)) (bits-most hidden low word k)
 
   -- the code's paint, and the bits that are shown
-  inked : (four : Paint → ℕ → ℕ) (c : Fours) → c ≡ inFours (four p) (bitAnd word (p .kept))
-      → columnPixels (inFours (four (paintOf plain hidden low)) (shownBits hidden low (word % 4096))) ≡ twelveColumns plain hidden low (word % 4096)
-      → columnPixels c ≡ twelveColumns plain hidden low (word % 4096)
-  inked four c q d = ap columnPixels (q ∙ ap₂ (λ (x : Paint) (b : ℕ). inFours (four x) b) e (bits-are hidden low word k plain p e)) ∙ d
+  drawn-with : (made : Paint → ℕ → Fours) (c : Fours) → c ≡ made p (bitAnd word (p .kept))
+      → columnPixels (made (paintOf plain hidden low) (shownBits hidden low (word % 4096)))
+      ≡ twelveColumns plain low before (shownBits hidden low (word % 4096))
+      → CharacterDrawn plain hidden low before (word % 4096) (record { bits = bitAnd word (p .kept); columns = c })
+  drawn-with made c q d =
+      let bits = bits-are hidden low word k plain p e in
+      record { bits = bits; pixels = ap columnPixels (q ∙ ap₂ made e bits) ∙ d }
 
-  pub character-shadowed : (c : Fours) → c ≡ inFours (shadowed p) (bitAnd word (p .kept)) → castsShadow low ≡ true
-      → columnPixels c ≡ twelveColumns plain hidden low (word % 4096)
+  pub character-shadowed : (c : Fours) → c ≡ inFours (shadowed p) (bitAnd word (p .kept) + before % 2 * 4096) → takesShadow low ≡ true
+      → CharacterDrawn plain hidden low before (word % 4096) (record { bits = bitAnd word (p .kept); columns = c })
   character-shadowed c q s =
-      inked shadowed c q (unfold twelveColumns in drawn-shadowed plain hidden low h _ (bits-most hidden low word k) s)
+      drawn-with (λ (x : Paint) (b : ℕ). inFours (shadowed x) (b + before % 2 * 4096)) c q
+      (unfold twelveColumns in drawn-shadowed plain hidden low h _ (before % 2) (bits-most hidden low word k) (omega arith) s)
 
-  pub character-solid : (c : Fours) → c ≡ inFours (solid p) (bitAnd word (p .kept)) → castsShadow low ≡ false
-      → columnPixels c ≡ twelveColumns plain hidden low (word % 4096)
-  character-solid c q s = inked solid c q (unfold twelveColumns in drawn-solid plain hidden low h _ (bits-most hidden low word k) s)
+  pub character-solid : (c : Fours) → c ≡ inFours (solid p) (bitAnd word (p .kept)) → takesShadow low ≡ false
+      → CharacterDrawn plain hidden low before (word % 4096) (record { bits = bitAnd word (p .kept); columns = c })
+  character-solid c q s =
+      drawn-with (λ (x : Paint) (b : ℕ). inFours (solid x) b) c q
+      (unfold twelveColumns in drawn-solid plain hidden low h _ (before % 2) (bits-most hidden low word k) (omega arith) s)
 
 -- ---- four stores, and three parts of four
 

@@ -1,4 +1,4 @@
--- Document 01, "Pixels": the colours of a code, and the columns of a character. A pixel is one byte: 8 FBLK + 4 R + 2 G + B.
+-- Document 01, "Pixels", as request K7 mends it: the colours of a code, and the columns of a character. A pixel is one byte: 8 FBLK + 4 R + 2 G + B.
 -- Assumes nothing.
 use Prim.Native.Nat.{ℕ, zero, suc, _+_, _*_, _/_, _%_, _^_}
 use mathlib.Core.Bool.{Bool, true, false, cond, _&&_}
@@ -18,7 +18,8 @@ abbrev pub foreground : ℕ → ℕ
 foreground low = 8 + low / 16 % 8
 
 -- background with BK3 0: colour BK[2:0], FBLK 1. BK3 1 and BK1 0: plain. BK3 1 and BK1 1: black with FBLK 1 where the pixel to
--- the left in the same character is foreground (beside), else plain. BK2 and BK0 are then ignored (H)
+-- the left is foreground (beside), in the same character or, for its leftmost column, in the last column of the character just to its
+-- left (K7), else plain. BK2 and BK0 are then ignored (H)
 abbrev pub background : ℕ → ℕ → Bool → ℕ
 background plain low beside =
     cond (eqb (low / 8 % 2) 0) (8 + low % 8) (cond (eqb (low / 2 % 2) 0) plain (cond beside 8 plain))
@@ -41,10 +42,11 @@ unfoldable pub columns : ℕ → Ink → ℕ → ℕ → List ℕ
 columns zero ink bits left = []
 columns (suc n) ink bits left = pixel ink (bits / 2 ^ n % 2) left ∷ columns n ink bits (bits / 2 ^ n % 2)
 
--- a flashing character in its hidden time draws foreground as background and casts no shadow
+-- the bits that a character shows: a flashing one in its hidden time draws foreground as background and casts no shadow
 abbrev pub shownBits : Bool → ℕ → ℕ → ℕ
 shownBits hidden low bits = cond (flashes low && hidden) 0 bits
 
--- the twelve pixels of a code's low byte and its glyph's bits, PX11 leftmost; nothing stands to their left
-unfoldable pub twelveColumns : ℕ → Bool → ℕ → ℕ → List ℕ
-twelveColumns plain hidden low bits = columns 12 (inkOf plain low) (shownBits hidden low bits) 0
+-- the twelve pixels of a code's low byte and the bits that its character shows, PX11 leftmost. To the left of PX11 stands PX0 of the bits that the
+-- character just to its left shows (K7): not foreground where that one is hidden or blank
+unfoldable pub twelveColumns : ℕ → ℕ → ℕ → ℕ → List ℕ
+twelveColumns plain low before bits = columns 12 (inkOf plain low) bits (before % 2)

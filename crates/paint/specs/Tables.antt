@@ -1,14 +1,16 @@
 -- The tables that characters are drawn from, four columns at a time: a column is a byte of a number, the leftmost the lowest.
 -- Assumes nothing.
-use Prim.Native.Nat.{ℕ, zero, suc, _+_, _-_, _*_, _/_, _%_}
+use Prim.Native.Nat.{ℕ, zero, suc, _+_, _-_, _*_, _/_, _%_, _<_}
 use mathlib.Core.Path.{_≡_}
 use mathlib.Core.Bool.{Bool, true, false, cond, _&&_}
 use mathlib.Core.List.{List, [], _∷_, _++_}
-use lib.Bits.{bitAnd, bitXor}
+use lib.Bits.{bitAnd, bitOr, bitXor}
 use lib.Dec.{eqb, ltb, leb}
 use lib.ListN.{take}
 use Rattle.paint.specs.declared.Paint.{Paint}
 use Rattle.paint.specs.declared.Fours.{Fours}
+use Rattle.paint.specs.declared.Drawn.{Drawn}
+use Rattle.paint.specs.Pixels.{shownBits, twelveColumns}
 
 -- f of i and of the n − 1 numbers after it
 unfoldable pub tabulate : (ℕ → ℕ) → ℕ → ℕ → List ℕ
@@ -24,9 +26,9 @@ inFour a b c d = a + 256 * b + 65536 * c + 16777216 * d
 unfoldable pub facing : ℕ → ℕ
 facing i = 255 * inFour (i / 8 % 2) (i / 4 % 2) (i / 2 % 2) (i % 2)
 
--- background columns beside foreground, to its right
+-- shadow: black, FBLK 1, in background columns beside foreground, to its right
 unfoldable pub casting : ℕ → ℕ
-casting i = 255 * inFour (i / 16 % 2 - i / 8 % 2) (i / 8 % 2 - i / 4 % 2) (i / 4 % 2 - i / 2 % 2) (i / 2 % 2 - i % 2)
+casting i = 8 * inFour (i / 16 % 2 - i / 8 % 2) (i / 8 % 2 - i / 4 % 2) (i / 4 % 2 - i / 2 % 2) (i / 2 % 2 - i % 2)
 
 -- four columns of one pixel
 abbrev pub ofPixel : ℕ → ℕ
@@ -61,29 +63,37 @@ paintOf plain hidden low =
     record {
       back = backs plain (low % 16);
       fore = bitXor (backs plain (low % 16)) (fores (low / 16));
-      cast = bitXor (backs plain (low % 16)) (ofPixel 8);
       kept = shows hidden (low / 16);
     }
 
--- BK3 and BK1: foreground casts a shadow
-abbrev pub castsShadow : ℕ → Bool
-castsShadow low = cond (eqb (low / 8 % 2) 0) false (cond (eqb (low / 2 % 2) 0) false true)
+-- BK3 1 and BK1 1: a shadowed character, whose background takes shadow
+abbrev pub takesShadow : ℕ → Bool
+takesShadow low = cond (eqb (low / 8 % 2) 0) false (cond (eqb (low / 2 % 2) 0) false true)
 
 -- four columns with no shadow, and with it
 unfoldable pub solid : Paint → ℕ → ℕ
 solid p i = bitXor (p .back) (bitAnd (facing i) (p .fore))
 
 unfoldable pub shadowed : Paint → ℕ → ℕ
-shadowed p i = bitXor (p .back) (bitXor (bitAnd (facing i) (p .fore)) (bitAnd (casting i) (p .cast)))
+shadowed p i = bitOr (solid p i) (casting i)
+
+-- a plain pixel: colour 0, so that black over it is black
+abbrev pub IsPlain : ℕ → Type 0
+IsPlain plain = (plain % 8 ≡ 0) × (plain < 16)
 
 -- the pixels of four columns
 unfoldable pub fourOf : ℕ → List ℕ
 fourOf n = n % 256 ∷ n / 256 % 256 ∷ n / 65536 % 256 ∷ n / 16777216 % 256 ∷ []
 
--- twelve columns, four at a time
+-- twelve columns, four at a time: twelve bits, and above them the one to their left
 unfoldable pub inFours : (ℕ → ℕ) → ℕ → Fours
 inFours four bits = record { left = four (bits / 256); middle = four (bits / 16 % 32); right = four (bits % 32) }
 
 -- their pixels
 unfoldable pub columnPixels : Fours → List ℕ
 columnPixels c = fourOf (c .left) ++ (fourOf (c .middle) ++ fourOf (c .right))
+
+-- a character's bits and columns, after the bits that the one to its left shows
+pub record CharacterDrawn (plain : ℕ) (hidden : Bool) (low before glyph : ℕ) (d : Drawn) : Type 0 where
+  pub bits : d .bits ≡ shownBits hidden low glyph
+  pub pixels : columnPixels (d .columns) ≡ twelveColumns plain low before (shownBits hidden low glyph)

@@ -3,8 +3,7 @@ ghost use mathlib.Core.Path.{_≡_};
 ghost use mathlib.Core.Bool.{cond};
 ghost use Prim.Native.Nat.{_%_, _≤_, _<_};
 ghost use lib.ListN.{length, take};
-ghost use Rattle.paint.specs.Pixels.{twelveColumns};
-ghost use Rattle.paint.specs.Tables.{HasMasks, rowTable, ofPixel, paintOf, castsShadow, solid, shadowed, fourOf, inFours, columnPixels};
+ghost use Rattle.paint.specs.Tables.{HasMasks, IsPlain, rowTable, ofPixel, paintOf, takesShadow, solid, shadowed, fourOf, inFours, columnPixels, CharacterDrawn};
 
 // What a code draws four columns with: a byte for a column.
 pub struct Paint {
@@ -12,8 +11,6 @@ pub struct Paint {
     pub back: u32,
     // what turns it into foreground, by exclusive or
     pub fore: u32,
-    // what turns it into shadow
-    pub cast: u32,
     // the bits that are shown
     pub kept: u32,
 }
@@ -25,11 +22,20 @@ pub struct Fours {
     pub right: u32,
 }
 
-// Stands where there are no columns; nobody reads it.
-pub const NONE: Fours = Fours {
-    left: 0,
-    middle: 0,
-    right: 0,
+// A character as it is drawn: the bits that it shows, PX11 to PX0, and its twelve columns.
+pub struct Drawn {
+    pub bits: u32,
+    pub columns: Fours,
+}
+
+// Stands where no character is drawn; nobody reads it.
+pub const NONE: Drawn = Drawn {
+    bits: 0,
+    columns: Fours {
+        left: 0,
+        middle: 0,
+        right: 0,
+    },
 };
 
 // Four pixels of a colour, FBLK 1.
@@ -49,7 +55,7 @@ const YELLOW: u32 = 0x0E0E0E0E;
 
 const WHITE: u32 = 0x0F0F0F0F;
 
-// Where the parts of a row's table begin: masks of foreground and of shadow, foreground and background colours, the bits that are shown.
+// Where the parts of a row's table begin: masks of foreground, shadow, foreground and background colours, the bits that are shown.
 const CASTING: usize = 32;
 
 const FORES: usize = 64;
@@ -71,7 +77,7 @@ fn bits_kept(hidden: bool) -> u32
 }
 
 // What a row makes once and lends to its characters: a table used in place would be made again for each.
-// Masks of four columns for an index of five bits (the column to the left, then the four): foreground, then shadow. Behind them, four
+// For an index of five bits (the column to the left, then the four): masks of foreground, then shadow, black where it falls. Behind them, four
 // pixels each, foreground for each FL, RF, GF, BF and background for each BK; then the bits that are shown for each FL, RF, GF, BF.
 pub fn row_table(plain: u8, hidden: bool) -> [u32; 112]
     ensures { λ r. ⌜ r ≡ rowTable plain hidden ⌝ }
@@ -114,35 +120,35 @@ pub fn row_table(plain: u8, hidden: bool) -> [u32; 112]
         0xFFFFFFFF,
         0x00000000,
         0x00000000,
-        0xFF000000,
+        0x08000000,
         0x00000000,
-        0x00FF0000,
-        0x00FF0000,
-        0xFF000000,
+        0x00080000,
+        0x00080000,
+        0x08000000,
         0x00000000,
-        0x0000FF00,
-        0x0000FF00,
-        0xFF00FF00,
-        0x0000FF00,
-        0x00FF0000,
-        0x00FF0000,
-        0xFF000000,
+        0x00000800,
+        0x00000800,
+        0x08000800,
+        0x00000800,
+        0x00080000,
+        0x00080000,
+        0x08000000,
         0x00000000,
-        0x000000FF,
-        0x000000FF,
-        0xFF0000FF,
-        0x000000FF,
-        0x00FF00FF,
-        0x00FF00FF,
-        0xFF0000FF,
-        0x000000FF,
-        0x0000FF00,
-        0x0000FF00,
-        0xFF00FF00,
-        0x0000FF00,
-        0x00FF0000,
-        0x00FF0000,
-        0xFF000000,
+        0x00000008,
+        0x00000008,
+        0x08000008,
+        0x00000008,
+        0x00080008,
+        0x00080008,
+        0x08000008,
+        0x00000008,
+        0x00000800,
+        0x00000800,
+        0x08000800,
+        0x00000800,
+        0x00080000,
+        0x00080000,
+        0x08000000,
         0x00000000,
         BLACK,
         BLUE,
@@ -205,7 +211,6 @@ fn paint_of(table: &[u32], plain: u8, hidden: bool, low: u8) -> Paint
     Paint {
         back: back,
         fore: back ^ table[FORES + high],
-        cast: back ^ BLACK,
         kept: table[SHOWS + high],
     }
 }
@@ -218,12 +223,12 @@ fn four_solid(table: &[u32], i: usize, paint: Paint) -> u32
     paint.back ^ (table[i] & paint.fore)
 }
 
-// Four columns of an index, with their shadow.
+// Four columns of an index, with their shadow: black over plain is black.
 fn four_shadowed(table: &[u32], i: usize, paint: Paint) -> u32
     requires { ⌜ HasMasks (now table) × (i < 32) ⌝ }
     ensures { λ r. ⌜ r ≡ shadowed paint i ⌝ }
 {
-    paint.back ^ ((table[i] & paint.fore) ^ (table[CASTING + i] & paint.cast))
+    four_solid(table, i, paint) | table[CASTING + i]
 }
 
 // Twelve columns; an index overlaps the one before by a bit.
@@ -238,9 +243,9 @@ fn all_solid(table: &[u32], paint: Paint, bits: u32) -> Fours
     }
 }
 
-// The same with their shadow.
+// The same with their shadow, after the bit above the twelve.
 fn all_shadowed(table: &[u32], paint: Paint, bits: u32) -> Fours
-    requires { ⌜ HasMasks (now table) × (bits < 4096) ⌝ }
+    requires { ⌜ HasMasks (now table) × (bits < 8192) ⌝ }
     ensures { λ r. ⌜ r ≡ inFours (shadowed paint) bits ⌝ }
 {
     Fours {
@@ -250,9 +255,9 @@ fn all_shadowed(table: &[u32], paint: Paint, bits: u32) -> Fours
     }
 }
 
-// Does a code's foreground cast a shadow: BK3 and BK1?
-fn casts(low: u8) -> bool
-    ensures { λ r. ⌜ r ≡ castsShadow low ⌝ }
+// Is a code's character shadowed: BK3 and BK1?
+fn takes_shadow(low: u8) -> bool
+    ensures { λ r. ⌜ r ≡ takesShadow low ⌝ }
 {
     if low / 8 % 2 == 0 {
         return false;
@@ -263,18 +268,25 @@ fn casts(low: u8) -> bool
     true
 }
 
-// The twelve columns of a code's low byte and of the low twelve bits of its glyph's word. What plain and hidden say is in the table;
-// the promise names them.
-pub fn character(table: &[u32], plain: u8, hidden: bool, low: u8, word: u32) -> Fours
+// The character of a code's low byte and of the low twelve bits of its glyph's word, after the bits that the character to its left shows: their last
+// goes above the twelve. What plain and hidden say is in the table; the promise names them.
+pub fn character(table: &[u32], plain: u8, hidden: bool, low: u8, before: u32, word: u32) -> Drawn
     requires { ⌜ now table ≡ rowTable plain hidden ⌝ }
-    ensures { λ r. ⌜ columnPixels r ≡ twelveColumns plain hidden low (word % 4096) ⌝ }
+    requires { ⌜ IsPlain plain ⌝ }
+    ensures { λ r. ⌜ CharacterDrawn plain hidden low before (word % 4096) r ⌝ }
 {
     let paint = paint_of(table, plain, hidden, low);
     let bits = word & paint.kept;
-    if !casts(low) {
-        return all_solid(table, paint, bits);
+    if !takes_shadow(low) {
+        return Drawn {
+            bits: bits,
+            columns: all_solid(table, paint, bits),
+        };
     }
-    all_shadowed(table, paint, bits)
+    Drawn {
+        bits: bits,
+        columns: all_shadowed(table, paint, bits + before % 2 * 4096),
+    }
 }
 
 // Four pixels: stores of consecutive bytes of one number, which the compiler makes one store.

@@ -1,7 +1,7 @@
 -- The laws of one pixel: strip by strip to the line, code by code to the column.
 -- Assumes nothing.
 use Prim.Native.Nat.{ℕ, zero, suc, _+_, _-_, _*_, _/_, _%_, _≤_, _<_}
-use mathlib.Core.Path.{_≡_, refl, sym, ap}
+use mathlib.Core.Path.{_≡_, refl, sym, ap, _∙_}
 use mathlib.Core.Bool.{Bool, true, false, cond, false≢true}
 use mathlib.Core.List.{List}
 use native.Mathlib.Omega.{arith}
@@ -25,8 +25,7 @@ use Rattle.glyph.specs.Glyph.{font, user, blank, endsLine, userCell, fontByte, 
 use Rattle.device.proofs.Laws.{some-frame}
 use Rattle.pixel.specs.declared.Pair.{Pair}
 use Rattle.pixel.specs.declared.StripLine.{StripLine}
-use Rattle.pixel.specs.declared.Row.{Row}
-use Rattle.pixel.specs.Pixel.{pairAt, linesOf, fallsIn, ended, twelveAt, sliceBits, characterPixel, rowPixel, pixelAt}
+use Rattle.pixel.specs.Pixel.{pairAt, linesOf, fallsIn, ended, twelveAt, sliceBits, pixelAt}
 use Rattle.pixel.specs.Ask.{pixelVerdict, pixelBy, askPixel}
 
 -- ---- the lines of a strip
@@ -113,6 +112,22 @@ module _ (ram : List ℕ) (ch : ℕ) where
 
 -- ---- code by code
 
+-- does a row's first code end the line, or one of those after it, up to a number?
+module _ (ram : List ℕ) (a : ℕ) where
+  pub end-here : (k : ℕ) → endsLine (pairAt ram a .high) ≡ true → ended k ram a ≡ true
+  unfolding ended
+  end-here zero e = e
+  end-here (suc k) e = rw e
+
+  pub end-last : ended 0 ram a ≡ endsLine (pairAt ram a .high)
+  unfolding ended
+  end-last = refl
+
+  pub end-later : (k : ℕ) → endsLine (pairAt ram a .high) ≡ false → 1 ≤ k → ended (k - 1) ram (next a) ≡ ended k ram a
+  unfolding ended
+  end-later zero e h = absurd (omega arith)
+  end-later (suc k) e h = let at : suc k - 1 ≡ k = omega arith in rw (e, at)
+
 -- what the glyph lookup gives of a code
 pub bits-glyph : (ram f : List ℕ) (high : ℕ) (s : Slice) → sliceBits ram f high (s .0) ≡ bitsOf f (value ram (glyphOf high s))
 unfolding glyphOf inRam value bitsOf
@@ -130,52 +145,10 @@ bits-glyph ram f high s = by (eqb (high / 128 % 2) 0) (ltb (high % 128) 26)
     by false true = refl
     by false false = refl
 
--- the row with its codes from an address on
-abbrev pub rowAt : Row → ℕ → Row
-rowAt row a = record { address = a; slice = row .slice; plain = row .plain; hidden = row .hidden }
-
-module _ (ram f : List ℕ) (row : Row) where
-  -- its first code ends the line
-  pub row-ended : (k c : ℕ) → endsLine (pairAt ram (row .address) .high) ≡ true → rowPixel ram f row k c ≡ row .plain
-  unfolding rowPixel ended
-  row-ended zero c e = rw e
-  row-ended (suc k) c e = rw e
-
-  -- its first code is a character
-  pub row-first : (c : ℕ) → endsLine (pairAt ram (row .address) .high) ≡ false
-      → rowPixel ram f row 0 c
-      ≡ characterPixel row (pairAt ram (row .address) .low) (sliceBits ram f (pairAt ram (row .address) .high) (row .slice .0)) c
-  unfolding rowPixel ended
-  row-first c e =
-      let at : row .address + 2 * 0 ≡ row .address = omega arith in
-      rw (e, at)
-
-  -- its later codes
-  pub row-later : (k c : ℕ) → endsLine (pairAt ram (row .address) .high) ≡ false
-      → rowPixel ram f row (suc k) c ≡ rowPixel ram f (rowAt row (next (row .address))) k c
-  unfolding rowPixel ended
-  row-later k c e =
-      let at : even (row .address + 2 * suc k) ≡ even (next (row .address) + 2 * k) = omega arith in
-      rw (e, at)
-
-module _ (ram f : List ℕ) (row : Row) (a left : ℕ) (e : endsLine (pairAt ram a .high) ≡ false) where
-  -- in the code at the address: a column of the word that is looked up there
-  pub row-here : ((i : ℕ) → getD ram i 0 < 256) → ((i : ℕ) → getD f i 0 < 256) → left < 12
-      → rowPixel ram f (rowAt row a) (left / 12) (left % 12)
-      ≡ characterPixel row (pairAt ram a .low) (wordIn ram f (pairAt ram a .high) (row .slice) .bits % 4096) left
-  row-here b d h =
-      let code : left / 12 ≡ 0 = omega arith in
-      let column : left % 12 ≡ left = omega arith in
-      rw (code, column, word-low ram f (pairAt ram a .high) (row .slice) b d, sym (bits-glyph ram f (pairAt ram a .high) (row .slice)))
-      (row-first ram f (rowAt row a) left e)
-
-  -- past the code at the address
-  pub row-on : 12 ≤ left
-      → rowPixel ram f (rowAt row (next a)) ((left - 12) / 12) ((left - 12) % 12) ≡ rowPixel ram f (rowAt row a) (left / 12) (left % 12)
-  row-on h =
-      let code : left / 12 ≡ suc ((left - 12) / 12) = omega arith in
-      let column : left % 12 ≡ (left - 12) % 12 = omega arith in
-      rw (code, column) (sym (row-later ram f (rowAt row a) ((left - 12) / 12) ((left - 12) % 12) e))
+-- of a word that is looked up
+pub bits-word : (ram f : List ℕ) (high : ℕ) (s : Slice) → ((i : ℕ) → getD ram i 0 < 256) → ((i : ℕ) → getD f i 0 < 256)
+    → wordIn ram f high s .bits % 4096 ≡ sliceBits ram f high (s .0)
+bits-word ram f high s b d = word-low ram f high s b d ∙ sym (bits-glyph ram f high s)
 
 -- ---- a question that no test refuses
 

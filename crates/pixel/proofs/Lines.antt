@@ -174,7 +174,7 @@ module _ (ram font : List ℕ) (s : Settings) (f x : ℕ) (inside : x < widthOf 
 
     row-pixel : getD (paint s font f (value ram (shownRow s (Characters address height zoom true line)))) x 0
         ≡ cond (ltb x (firstPixelOf (s .dd))) (plainOf (s .fbk))
-        (rowPixel ram font (rowOf pen address) ((x - firstPixelOf (s .dd)) / 12) ((x - firstPixelOf (s .dd)) % 12))
+        (rowPixel ram font (rowOf pen address) (x - firstPixelOf (s .dd)))
     unfolding paint shownBy rowBy
     row-pixel = rw on (by (decLt x first))
       where
@@ -182,24 +182,22 @@ module _ (ram font : List ℕ) (s : Settings) (f x : ℕ) (inside : x < widthOf 
         margin = replicate (min first (widthOf (s .ld))) (plainOf (s .fbk))
 
         room : List ℕ
-        room = roomOf ram font pen (widthOf (s .ld) - first) address
+        room = roomOf ram font pen 0 (widthOf (s .ld) - first) address
 
         by : Dec (x < first)
             → getD (margin ++ room) x 0
             ≡ cond (ltb x first) (plainOf (s .fbk))
-            (rowPixel ram font (rowOf pen address) ((x - first) / 12) ((x - first) % 12))
+            (rowPixel ram font (rowOf pen address) (x - first))
         by (yes l) =
             rw (lt-ltb x first l)
             (List·getD-append margin room 0 x (omega (arith, length-replicate (min first (widthOf (s .ld))) (plainOf (s .fbk))))
             ∙ getD-replicate (min first (widthOf (s .ld))) x (plainOf (s .fbk)) 0 (omega arith))
         by (no l) =
-            let k : ℕ = (x - first) / 12 in
-            let c : ℕ = (x - first) % 12 in
-            let past : x ≡ length margin + (12 * k + c) = omega (arith, length-replicate (min first (widthOf (s .ld))) (plainOf (s .fbk))) in
+            let past : x ≡ length margin + (x - first) = omega (arith, length-replicate (min first (widthOf (s .ld))) (plainOf (s .fbk))) in
             rw (le-ltb x first (omega arith))
             (ap (λ (i : ℕ). getD (margin ++ room) i 0) past
-            ∙ getD-append-add margin room (12 * k + c) 0
-            ∙ room-pixel ram font pen k c (widthOf (s .ld) - first) address (omega arith) (omega arith) paired)
+            ∙ getD-append-add margin room (x - first) 0
+            ∙ room-pixel ram font pen (x - first) (widthOf (s .ld) - first) address (omega arith) paired)
 
   characters-pixel : (at : StripLine) → s .osd ≡ true → showsCodes (at .descriptor .high) ≡ true
       → getD (paint s font f (value ram (shownRow s (shownStrip ram (s .ch) at)))) x 0 ≡ charactersPixel s ram font f at x

@@ -66,22 +66,33 @@ sliceBits ram font high slice =
 
 -- ---- "Pixels"
 
--- is column c of a character, 0 to 11, foreground? PX11 is leftmost. A flashing character in its hidden time draws foreground as background
+-- is column c of a character, 0 to 11, foreground? PX11 is leftmost. A flashing character in its hidden time draws foreground as background and
+-- casts no shadow
 abbrev pub isForeground : Bool → ℕ → ℕ → ℕ → Bool
 isForeground hidden low bits c = not (hidden && flashes low) && eqb (bits / 2 ^ (11 - c) % 2) 1
 
--- its pixel. Background is in shadow beside foreground to its left in the same character: never in column 0, and never where it is hidden
-abbrev pub characterPixel : Row → ℕ → ℕ → ℕ → ℕ
-characterPixel row low bits c =
-    cond (isForeground (row .hidden) low bits c)
-    (foreground low)
-    (background (row .plain) low (ltb 0 c && isForeground (row .hidden) low bits (c - 1)))
+-- the code of column j of a row: columns are counted from its first character's first pixel, twelve a code
+abbrev pub codeOf : List ℕ → Row → ℕ → Pair
+codeOf ram row j = pairAt ram (row .address + 2 * (j / 12))
 
--- column c of code k of a row: plain from the end of line on
-unfoldable pub rowPixel : List ℕ → List ℕ → Row → ℕ → ℕ → ℕ
-rowPixel ram font row k c =
-    let code : Pair = pairAt ram (row .address + 2 * k) in
-    cond (ended k ram (row .address)) (row .plain) (characterPixel row (code .low) (sliceBits ram font (code .high) (row .slice .0)) c)
+-- is it foreground?
+abbrev pub foregroundAt : List ℕ → List ℕ → Row → ℕ → Bool
+foregroundAt ram font row j =
+    let code : Pair = codeOf ram row j in
+    isForeground (row .hidden) (code .low) (sliceBits ram font (code .high) (row .slice .0)) (j % 12)
+
+-- is there foreground just to its left? That is column j − 1, of the same character or, for a leftmost column, the last of the character just to its
+-- left (K7). The first character has none
+abbrev pub besideAt : List ℕ → List ℕ → Row → ℕ → Bool
+besideAt ram font row j = ltb 0 j && foregroundAt ram font row (j - 1)
+
+-- its pixel: plain from the end of line on. A blank or hidden character casts no shadow, and takes one if it is shadowed
+unfoldable pub rowPixel : List ℕ → List ℕ → Row → ℕ → ℕ
+rowPixel ram font row j =
+    let low : ℕ = codeOf ram row j .low in
+    cond (ended (j / 12) ram (row .address))
+    (row .plain)
+    (cond (foregroundAt ram font row j) (foreground low) (background (row .plain) low (besideAt ram font row j)))
 
 -- column x of a line of characters: plain before the first character, then twelve columns a code. x is below W, so its code is read; W cuts
 -- the last
@@ -96,7 +107,7 @@ charactersPixel s ram font f at x =
       hidden = hiddenIn (s .fl) f;
     }
     in
-    cond (ltb x first) (plainOf (s .fbk)) (rowPixel ram font row ((x - first) / 12) ((x - first) % 12))
+    cond (ltb x first) (plainOf (s .fbk)) (rowPixel ram font row (x - first))
 
 -- the pixel at column x, below W, of line y, in a frame with number f, 0 to 63. Descriptors from P times 64 on. OSD 0: every pixel 0. Spacing
 -- strips and strips with DE 0 are plain

@@ -1,14 +1,15 @@
 // One pixel of a frame, asked for by column and line: document 01 as plainly as it can be read, for the bench. Nothing is kept between
 // calls, so every call walks from the frame's first descriptor. A line is drawn faster by the device's own draw.
 ghost use mathlib.Core.Path.{_≡_};
-ghost use Prim.Native.Nat.{_/_, _%_, _<_, _≤_};
+ghost use Prim.Native.Nat.{_<_, _≤_};
 ghost use lib.ListN.{length};
 ghost use Rattle.limits.specs.Limits.{ramLength, frameLines};
 ghost use Rattle.raster.specs.Raster.{InStrip, OnScreen};
 ghost use Rattle.walk.specs.Walk.{atLeastOne, zoomedBy};
 ghost use Rattle.glyph.specs.Glyph.{Lent};
 ghost use Rattle.paint.specs.Pixels.{foreground, background};
-ghost use Rattle.pixel.specs.Pixel.{pairAt, linesOf, fallsIn, sliceOf, isForeground, characterPixel, rowPixel, pixelAt};
+ghost use Rattle.pixel.specs.Pixel as rules;
+ghost use Rattle.pixel.specs.Pixel.{pairAt, linesOf, fallsIn, sliceOf, isForeground, codeOf, foregroundAt, besideAt, rowPixel, pixelAt};
 ghost use Rattle.pixel.specs.Ask.{pixelReply, askPixel};
 use device::Device;
 use raster::ScanLine;
@@ -90,18 +91,6 @@ fn foreground_pixel(low: u8) -> u8
     8 + low / 16 % 8
 }
 
-fn background_pixel(plain: u8, low: u8, beside: bool) -> u8
-    ensures { λ r. ⌜ r ≡ background plain low beside ⌝ }
-{
-    if low / 8 % 2 == 0 {
-        return 8 + low % 8;
-    }
-    if low / 2 % 2 == 0 {
-        return plain;
-    }
-    if beside { 8 } else { plain }
-}
-
 // Is a column of a character foreground?
 fn is_foreground(hidden: bool, low: u8, bits: u16, column: u16) -> bool
     requires { ⌜ column < 12 ⌝ }
@@ -115,45 +104,85 @@ fn is_foreground(hidden: bool, low: u8, bits: u16, column: u16) -> bool
     (bits >> (11 - column)) % 2 == 1
 }
 
-fn character_pixel(row: Row, low: u8, bits: u16, column: u16) -> u8
-    requires { ⌜ column < 12 ⌝ }
-    ensures { λ r. ⌜ r ≡ characterPixel row low bits column ⌝ }
+// Is one of a row's first codes, up to the one with this number, the end of line?
+fn ended(ram: &[u8], first: u16, number: u16) -> bool
+    requires { ⌜ length (now ram) ≡ ramLength ⌝ }
+    requires { ⌜ first ≤ 1022 ⌝ }
+    ensures { λ r. ⌜ r ≡ rules.ended number (now (ram .entry)) first ⌝ }
 {
-    if is_foreground(row.hidden, low, bits, column) {
-        return foreground_pixel(low);
+    let mut at = first;
+    let mut left = number;
+    while left > 0 {
+        let code = pair_at(ram, at);
+        if code.high == 255 {
+            return true;
+        }
+        left -= 1;
+        at = walk::even_address(at + 2);
     }
-    if column == 0 {
-        return background_pixel(row.plain, low, false);
-    }
-    background_pixel(
-        row.plain,
-        low,
-        is_foreground(row.hidden, low, bits, column - 1),
-    )
+    let code = pair_at(ram, at);
+    code.high == 255
 }
 
-// The pixel at a column of a row, counted from its first character's first pixel.
+// The code of a column of a row, counted from its first character's first pixel.
+fn code_of(ram: &[u8], row: Row, column: u16) -> Pair
+    requires { ⌜ length (now ram) ≡ ramLength ⌝ }
+    requires { ⌜ row .address ≤ 1022 ⌝ }
+    ensures { λ r. ⌜ r ≡ codeOf (now (ram .entry)) row column ⌝ }
+{
+    pair_at(ram, row.address + 2 * (column / 12))
+}
+
+// Does a column of a row show foreground?
+fn foreground_at<'a>(ram: &'a [u8], font: &'a [u8], row: Row, column: u16) -> bool
+    requires { ⌜ Lent (now ram) (now font) ⌝ }
+    requires { ⌜ OnScreen (row .slice) ⌝ }
+    requires { ⌜ row .address ≤ 1022 ⌝ }
+    ensures { λ r. ⌜ r ≡ foregroundAt (now (ram .entry)) (now (font .entry)) row column ⌝ }
+{
+    let code = code_of(ram, row, column);
+    let word = glyph::lookup(ram, font, code.high, row.slice);
+    is_foreground(row.hidden, code.low, word.bits % 4096, column % 12)
+}
+
+// The pixel of a column of a row that is background. What stands to its left is looked up only where a shadow can fall.
+fn background_at<'a>(ram: &'a [u8], font: &'a [u8], row: Row, low: u8, column: u16) -> u8
+    requires { ⌜ Lent (now ram) (now font) ⌝ }
+    requires { ⌜ OnScreen (row .slice) ⌝ }
+    requires { ⌜ row .address ≤ 1022 ⌝ }
+    ensures { λ r. ⌜ r ≡ background (row .plain) low (besideAt (now (ram .entry)) (now (font .entry)) row column) ⌝ }
+{
+    if low / 8 % 2 == 0 {
+        return 8 + low % 8;
+    }
+    if low / 2 % 2 == 0 {
+        return row.plain;
+    }
+    if column == 0 {
+        return row.plain;
+    }
+    if foreground_at(ram, font, row, column - 1) {
+        8
+    } else {
+        row.plain
+    }
+}
+
+// The pixel of a column of a row.
 fn row_pixel<'a>(ram: &'a [u8], font: &'a [u8], row: Row, column: u16) -> u8
     requires { ⌜ Lent (now ram) (now font) ⌝ }
     requires { ⌜ OnScreen (row .slice) ⌝ }
     requires { ⌜ row .address ≤ 1022 ⌝ }
-    ensures { λ r. ⌜ r ≡ rowPixel (now (ram .entry)) (now (font .entry)) row (column / 12) (column % 12) ⌝ }
+    ensures { λ r. ⌜ r ≡ rowPixel (now (ram .entry)) (now (font .entry)) row column ⌝ }
 {
-    let mut at = row.address;
-    let mut left = column;
-    loop {
-        let code = pair_at(ram, at);
-        let high = code.high;
-        if high == 255 {
-            return row.plain;
-        }
-        if left < 12 {
-            let word = glyph::lookup(ram, font, high, row.slice);
-            return character_pixel(row, code.low, word.bits % 4096, left);
-        }
-        left -= 12;
-        at = walk::even_address(at + 2);
+    if ended(ram, row.address, column / 12) {
+        return row.plain;
     }
+    let code = code_of(ram, row, column);
+    if foreground_at(ram, font, row, column) {
+        return foreground_pixel(code.low);
+    }
+    background_at(ram, font, row, code.low, column)
 }
 
 // The slice that a line of characters shows.

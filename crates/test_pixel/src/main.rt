@@ -50,7 +50,7 @@ struct Sums {
 }
 
 fn main() {
-    let mut input = [0u8; 69632];
+    let mut input = [0u8; 75776];
     let n = io::read_full(0, &mut input);
     run(&input[..n]);
 }

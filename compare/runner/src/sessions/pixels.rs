@@ -3,7 +3,8 @@
 use super::{packed, Session};
 use crate::lent::Lent;
 use crate::library::{Library, Place, FRAME_NUMBER, REGISTERS};
-use crate::pages::{random_page, FONT, RAM};
+use crate::pages::{random_page, seam_page, FONT, RAM};
+use crate::random::Random;
 use osd_model::{DEVICE_LEN, NOT_TAKEN};
 
 impl<L: Library> Session<'_, L> {
@@ -87,18 +88,14 @@ impl<L: Library> Session<'_, L> {
 
     /// A frame during which nothing is stored: of each line some pixels are asked for, of one line all, and are as they were drawn.
     pub(super) fn still_frame(&mut self) {
-        let mut page = vec![0; RAM];
-        let p = random_page(&mut self.random, &mut page);
-        self.ram = Lent::copy_of(&mut self.random, &page);
-        self.model_ram = page;
+        let p = self.other_page(random_page);
         self.display_page(p);
         // To any of the frame numbers.
         for _ in 0..self.random.below(64) {
             self.start(1);
         }
         let lines = 1 + self.random.below(60) as u32;
-        self.start(lines);
-        let frame = u32::from(self.device.get()[FRAME_NUMBER]) + 64 * self.random.below(1 << 26) as u32;
+        let frame = self.start_any(lines);
         let whole = self.random.below(u64::from(lines)) as u32;
         for y in 0..lines {
             let line = self.line();
@@ -108,12 +105,48 @@ impl<L: Library> Session<'_, L> {
                 false => (0..4).map(|_| self.random.below(u64::from(width)) as u32).collect(),
             };
             for x in columns {
-                let place = Place { lines, frame, x, y };
-                let ours = self.library.pixel(&self.device, &self.ram, &self.font, place);
-                self.same("pixel, and as it was drawn", ours, u32::from(line[x as usize]));
-                self.check("pixel of a drawn line", ours, self.model_pixel(&self.model_ram, &self.model_font, place));
+                self.ask_drawn(&line, Place { lines, frame, x, y });
             }
         }
+    }
+
+    /// Characters side by side, in the frame number that is next: of each line the leftmost pixel of every character, a cut one too, is
+    /// asked for, and is as it was drawn.
+    pub(super) fn seams(&mut self) {
+        let p = self.other_page(seam_page);
+        let [ld, dd, ch] = [(4, 16), (4, 8), (1, 63)].map(|(least, numbers)| least + self.random.below(numbers) as u8);
+        let fbk = if self.random.one_in(4) { 0x40 } else { 0 };
+        let flash_mode = self.random.byte() & 0x30;
+        self.settings(&[ld, dd, ch, 0x80 | fbk | flash_mode | p]);
+        let lines = 12;
+        let frame = self.start_any(lines);
+        for y in 0..lines {
+            let line = self.line();
+            for x in (3 * (u32::from(dd) + 8)..line.len() as u32).step_by(12) {
+                self.ask_drawn(&line, Place { lines, frame, x, y });
+            }
+        }
+    }
+
+    /// Another page in the RAM. Answers its P.
+    fn other_page(&mut self, page: fn(&mut Random, &mut [u8]) -> u8) -> u8 {
+        self.model_ram = vec![0; RAM];
+        let p = page(&mut self.random, &mut self.model_ram);
+        self.ram = Lent::copy_of(&mut self.random, &self.model_ram);
+        p
+    }
+
+    /// Starts a frame. Answers its number, or any that is the same modulo 64.
+    fn start_any(&mut self, lines: u32) -> u32 {
+        self.start(lines);
+        u32::from(self.device.get()[FRAME_NUMBER]) + 64 * self.random.below(1 << 26) as u32
+    }
+
+    /// A pixel of the line that was drawn last.
+    fn ask_drawn(&mut self, line: &[u8], place: Place) {
+        let ours = self.library.pixel(&self.device, &self.ram, &self.font, place);
+        self.same("pixel, and as it was drawn", ours, u32::from(line[place.x as usize]));
+        self.check("pixel of a drawn line", ours, self.model_pixel(&self.model_ram, &self.model_font, place));
     }
 
     /// Draws a line into a buffer of its length, and answers its pixels.

@@ -10,11 +10,11 @@ use Rattle.line.proofs.draw_row.Statement.{statement}
 use Rattle.line.proofs.draw_row.Tie as tie
 
 abbrev Inv-loop : tie.InvT-loop
-Inv-loop out₀ ram font address pen first w table cut x₀ a₀ cells₀ out x a cells =
-    RowUpTo ram font address pen first w out₀ x a cells out × (x ≤ cut) × ((cut - x) % 12 ≡ 0)
+Inv-loop out₀ ram font address pen first w table cut x₀ a₀ cells₀ before₀ out x a cells before =
+    RowUpTo ram font address pen first w out₀ x a cells before out × (x ≤ cut) × ((cut - x) % 12 ≡ 0)
 
 abbrev μ-loop : tie.MeasureT-loop
-μ-loop out₀ ram font address pen first w table cut x₀ a₀ cells₀ out x a cells = w - x
+μ-loop out₀ ram font address pen first w table cut x₀ a₀ cells₀ before₀ out x a cells before = w - x
 
 loop-holds : tie.Need-loop-holds Inv-loop μ-loop
 loop-holds c =
@@ -29,12 +29,12 @@ code-at-requires c κs =
 add-cells : tie.Need-add-cells Inv-loop μ-loop
 add-cells c =
     let l = c .before .before .before .before .loop in
-    omega (arith, row-bound _ _ _ _ _ _ _ (l .x) (l .a) (l .cells) (l .out) (c .before .before .before .before .before .before .before .before .before .before .pre .0 .2) (l .inv .0), code-few _ _ _ _ _ (c .before .code-at .ensures))
+    omega (arith, row-bound _ _ _ _ _ _ _ (l .x) (l .a) (l .cells) (l .before) (l .out) (c .before .before .before .before .before .before .before .before .before .before .pre .0 .2) (l .inv .0), code-few _ _ _ _ _ _ (c .before .code-at .ensures))
 
 returns : tie.Need-returns Inv-loop μ-loop
 returns c =
     let l = c .before .before .before .before .before .before .before .before .before .loop in
-    row-ended _ _ _ _ _ _ _ (l .x) (l .a) (l .cells) (l .out) (l .inv .0) (c .before .before .before .before .before .before .before .before .before .before .before .before .before .before .before .pre .0 .1) (c .before .before .before .before .before .before .before .before .loop-test .taken) _ (c .before .before .before .before .before .before .code-at .ensures) (c .before .before .before .before .if1 .taken) _
+    row-ended _ _ _ _ _ _ _ (l .x) (l .a) (l .cells) (l .before) (l .out) (l .inv .0) (c .before .before .before .before .before .before .before .before .before .before .before .before .before .before .before .pre .0 .1) (c .before .before .before .before .before .before .before .before .loop-test .taken) _ (c .before .before .before .before .before .before .code-at .ensures) (c .before .before .before .before .if1 .taken) _
     (c .before .before .fill .ensures)
 
 put-cut-requires : tie.Need-put-cut-requires Inv-loop μ-loop
@@ -42,21 +42,21 @@ put-cut-requires c κs = simp (length-take, length-drop) (omega (arith, c .befor
 
 returns-2 : tie.Need-returns-2 Inv-loop μ-loop
 returns-2 c =
-    let l = c .before .before .before .before .before .before .before .before .before .before .loop in
-    row-cut _ _ _ _ _ _ _ (l .x) (l .a) (l .cells) (l .out) (l .inv .0) (c .before .before .before .before .before .before .before .before .before .before .before .before .before .before .before .before .pre .0 .1) (c .before .before .before .before .before .before .before .before .before .loop-test .taken) _ (c .before .before .before .before .before .before .before .code-at .ensures) (c .before .before .before .before .before .if1 .left)
+    let l = c .before .before .before .before .before .before .before .before .before .before .before .loop in
+    row-cut _ _ _ _ _ _ _ (l .x) (l .a) (l .cells) (l .before) (l .out) (l .inv .0) (c .before .before .before .before .before .before .before .before .before .before .before .before .before .before .before .before .before .pre .0 .1) (c .before .before .before .before .before .before .before .before .before .before .loop-test .taken) _ (c .before .before .before .before .before .before .before .before .code-at .ensures) (c .before .before .before .before .before .before .if1 .left)
     (omega (arith, c .before .before .before .before .if2 .taken)) _ (c .before .before .put-cut .ensures)
 
 put-twelve-requires : tie.Need-put-twelve-requires Inv-loop μ-loop
 put-twelve-requires c κs =
-    let l = c .before .before .before .before .before .before .before .loop in
+    let l = c .before .before .before .before .before .before .before .before .loop in
     simp (length-take, length-drop)
-    (omega (arith, l .inv .0 .long, c .before .before .before .before .before .before .before .before .before .before .before .before .before .pre .0 .1, c .before .if2 .left, l .inv .2))
+    (omega (arith, l .inv .0 .long, c .before .before .before .before .before .before .before .before .before .before .before .before .before .before .pre .0 .1, c .before .if2 .left, l .inv .2))
 
 loop-again : tie.Need-loop-again Inv-loop μ-loop
 loop-again c =
-    let l = c .before .before .before .before .before .before .before .before .before .before .loop in
+    let l = c .before .before .before .before .before .before .before .before .before .before .before .loop in
     let t = c .before .before .before .before .if2 .left in (
-      row-drawn _ _ _ _ _ _ _ (l .x) (l .a) (l .cells) (l .out) (l .inv .0) (c .before .before .before .before .before .before .before .before .before .before .before .before .before .before .before .before .pre .0 .1) (c .before .before .before .before .before .before .before .before .before .loop-test .taken) _ (c .before .before .before .before .before .before .before .code-at .ensures) (c .before .before .before .before .before .if1 .left)
+      row-drawn _ _ _ _ _ _ _ (l .x) (l .a) (l .cells) (l .before) (l .out) (l .inv .0) (c .before .before .before .before .before .before .before .before .before .before .before .before .before .before .before .before .before .pre .0 .1) (c .before .before .before .before .before .before .before .before .before .before .loop-test .taken) _ (c .before .before .before .before .before .before .before .before .code-at .ensures) (c .before .before .before .before .before .before .if1 .left)
           (omega (arith, t, l .inv .2)) _ (c .before .before .put-twelve .ensures),
       omega (arith, t, l .inv .2),
       omega (arith, t, l .inv .2),
@@ -65,7 +65,7 @@ loop-again c =
 returns-3 : tie.Need-returns-3 Inv-loop μ-loop
 returns-3 c =
     let l = c .before .loop in
-    row-full _ _ _ _ _ _ _ (l .x) (l .a) (l .cells) (l .out) (l .inv .0) (c .loop-test .left)
+    row-full _ _ _ _ _ _ _ (l .x) (l .a) (l .cells) (l .before) (l .out) (l .inv .0) (c .loop-test .left)
 
 pub draw-row-spec : {M : Type 1} → statement M
 draw-row-spec =

@@ -25,7 +25,10 @@ draw-characters-requires : tie.Need-draw-characters-requires
 draw-characters-requires c κs =
     let p = c .before .before .before .before .before .before .before .before .before .before .before .before .before .before .before .pre in (
       (omega (arith, c .before .before .before .before .before .before .before .before .before .before .before .width .ensures, p .1 .1 .2), omega (arith, c .before .before .before .before .before .before .before .before .before .before .before .width .ensures, p .1 .1 .0)),
-      (p .0, slice-on _ _ _ _ (c .before .before .before .slice .ensures) (on-line _ (c .before .before .before .before .before .before .strip .given .1) (p .1 .0))),
+      (
+        p .0,
+        (slice-on _ _ _ _ (c .before .before .before .slice .ensures) (on-line _ (c .before .before .before .before .before .before .strip .given .1) (p .1 .0)), (omega arith, omega (arith, p .1 .1 .1))),
+      ),
     )
 
 returns-3 : tie.Need-returns-3

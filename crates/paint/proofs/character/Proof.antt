@@ -14,8 +14,8 @@ all-solid-requires c κs =
     let s = c .before .before .before .before .before in
     let a = s .args in
     let p = c .before .before .before .paint-of in (
-      rw (s .pre) (has-masks (a .plain) (a .hidden)),
-      bits-fit (a .plain) (a .hidden) (a .low) (a .word) (omega (arith, s .fits .plain .fits)) (omega (arith, s .fits .low .fits)) (p .result) (p .ensures),
+      rw (s .pre .0) (has-masks (a .plain) (a .hidden)),
+      bits-fit (a .plain) (a .hidden) (a .low) (a .before) (a .word) (s .pre .1) (omega (arith, s .fits .low .fits)) (p .result) (p .ensures),
     )
 
 returns : tie.Need-returns
@@ -23,25 +23,31 @@ returns c =
     let s = c .before .before .before .before .before .before in
     let a = s .args in
     let p = c .before .before .before .before .paint-of in
-    character-solid (a .plain) (a .hidden) (a .low) (a .word) (omega (arith, s .fits .plain .fits)) (omega (arith, s .fits .low .fits)) (p .result) (p .ensures) _
-    (c .all-solid .ensures) (sym (c .before .before .casts .ensures) ∙ not-true _ (c .before .if1 .taken))
+    character-solid (a .plain) (a .hidden) (a .low) (a .before) (a .word) (s .pre .1) (omega (arith, s .fits .low .fits)) (p .result) (p .ensures) _
+    (c .all-solid .ensures) (sym (c .before .before .takes-shadow .ensures) ∙ not-true _ (c .before .if1 .taken))
 
 all-shadowed-requires : tie.Need-all-shadowed-requires
 all-shadowed-requires c κs =
     let s = c .before .before .before .before .before in
     let a = s .args in
-    let p = c .before .before .before .paint-of in (
-      rw (s .pre) (has-masks (a .plain) (a .hidden)),
-      bits-fit (a .plain) (a .hidden) (a .low) (a .word) (omega (arith, s .fits .plain .fits)) (omega (arith, s .fits .low .fits)) (p .result) (p .ensures),
-    )
+    let p = c .before .before .before .paint-of in
+    let fit = bits-fit (a .plain) (a .hidden) (a .low) (a .before) (a .word) (s .pre .1) (omega (arith, s .fits .low .fits)) (p .result) (p .ensures) in
+    (rw (s .pre .0) (has-masks (a .plain) (a .hidden)), omega (arith, fit))
+
+add-all-shadowed : tie.Need-add-all-shadowed
+add-all-shadowed c =
+    let s = c .before .before .before .before .before in
+    let a = s .args in
+    let p = c .before .before .before .paint-of in
+    omega (arith, bits-fit (a .plain) (a .hidden) (a .low) (a .before) (a .word) (s .pre .1) (omega (arith, s .fits .low .fits)) (p .result) (p .ensures))
 
 returns-2 : tie.Need-returns-2
 returns-2 c =
     let s = c .before .before .before .before .before .before in
     let a = s .args in
     let p = c .before .before .before .before .paint-of in
-    character-shadowed (a .plain) (a .hidden) (a .low) (a .word) (omega (arith, s .fits .plain .fits)) (omega (arith, s .fits .low .fits)) (p .result) (p .ensures) _
-    (c .all-shadowed .ensures) (sym (c .before .before .casts .ensures) ∙ not-false _ (c .before .if1 .left))
+    character-shadowed (a .plain) (a .hidden) (a .low) (a .before) (a .word) (s .pre .1) (omega (arith, s .fits .low .fits)) (p .result) (p .ensures) _
+    (c .all-shadowed .ensures) (sym (c .before .before .takes-shadow .ensures) ∙ not-false _ (c .before .if1 .left))
 
 pub character-spec : {M : Type 1} → statement M
 character-spec =
@@ -51,5 +57,7 @@ character-spec =
     (λ c κs. search needs)
     all-solid-requires
     returns
+    (λ c. search needs)
+    add-all-shadowed
     all-shadowed-requires
     returns-2)

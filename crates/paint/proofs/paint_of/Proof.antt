@@ -19,8 +19,8 @@ shared-slice-read-t12 : tie.Need-shared-slice-read-t12
 shared-slice-read-t12 c =
     let s = c .before .before in omega (arith, ap length (s .pre), table-length (s .args .plain) (s .args .hidden))
 
-shared-slice-read-t18 : tie.Need-shared-slice-read-t18
-shared-slice-read-t18 c =
+shared-slice-read-t17 : tie.Need-shared-slice-read-t17
+shared-slice-read-t17 c =
     let s = c .before .before .before in omega (arith, ap length (s .pre), table-length (s .args .plain) (s .args .hidden))
 
 returns : tie.Need-returns
@@ -48,5 +48,5 @@ paint-of-spec =
     shared-slice-read-t12
     (λ c. search needs)
     (λ c. search needs)
-    shared-slice-read-t18
+    shared-slice-read-t17
     returns)
