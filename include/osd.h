@@ -219,14 +219,14 @@ typedef uint64_t osd_len;
  *     background, BK3 1, BK1 0: transparent  plain, so black with FBLK 1 where FBK is 1
  *     background, BK3 1, BK1 1: shadow       8 where the pixel to its left is foreground, else plain
  *
- * To the left of a character's first column stands the last column of the character just to its left, so that the shadow of a logo
- * crosses the seams between its characters. That one casts it whatever its own background, but not while it is hidden, nor where it is
- * blank; nothing stands to the left of the first character. Any shadowed character takes it, a blank, hidden or cut one too.
- *
  * With BK3 1, BK2 and BK0 do not count. Plain are spacing strips, strips with DE 0, the pixels before the first character and those
  * from the end of line on. In its hidden time a flashing character draws foreground as background and casts no shadow; its slice is
  * read all the same. By the frame number f, 0 to 63, mode FL of register 3FF3 shows it: 0 always, 1 with f below 32, 2 with f below
  * 16, 3 with f below 48.
+ *
+ * To the left of a character's leftmost column stands the last column of the character just to its left, whatever that one's
+ * background, so that the shadow of a logo crosses the seams between its characters. To the left of the first character stands nothing.
+ * A hidden character, or one of 26 to 126, gives no shadow; with BK3 1 and BK1 1 it takes one, and so does a cut character.
  */
 
 /*

@@ -17,7 +17,7 @@ FLASHING = 8                        # with a colour: shown in some frames only, 
 CLEAR, SHADOW = 8, 10               # BK: plain background, without and with a shadow
 RIGHT, BELL = '\x1a', '\x07'        # characters of the font
 OPEN_DOOR = '\x80\x81'              # user characters 0 and 1
-LOGO = '\x8e\x8f\x90'               # user characters 14 to 16; the shadow of its posts and its front falls across the seams
+LOGO = '\x8e\x8f\x90'               # user characters 14 to 16; shadow of posts, a wheel and the front falls across the seams
 
 DOOR = '''
 ........................

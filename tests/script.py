@@ -39,6 +39,16 @@ def mixed(total, values, factor, more=1, modulus=4294967291):
     return total
 
 
+def side_by_side(kinds):
+    """A row in which each of these kinds stands once just to the right of each."""
+    row = []
+    for i, left in enumerate(kinds):
+        row.append(left)
+        for right in kinds[i + 1:]:
+            row += (left, right)
+    return row + kinds[:1]
+
+
 def store(files):
     """Writes the files, bytes or text, below the folder that the command names."""
     if len(sys.argv) != 2:

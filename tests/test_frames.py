@@ -409,16 +409,6 @@ def by_hand(first, *rows, plain='0'):
         assert output[-1].split()[2] == expected + '..', (row, output[-1])
 
 
-def pairs(kinds):
-    """A row in which each of these kinds stands once just to the right of each."""
-    row = []
-    for i, left in enumerate(kinds):
-        row.append(left)
-        for right in kinds[i + 1:]:
-            row += (left, right)
-    return row + kinds[:1]
-
-
 @case
 def seams():
     # a shadowed character's first column takes the shadow of foreground in the last column of the one to its left, whatever its
@@ -479,7 +469,7 @@ def seams_of_hidden_characters():
 
 @case
 def seams_at_the_cut():
-    # a character that is cut takes it like any other, with 12, 9, 6 and 3 columns left of it; the code behind it is not read
+    # a character that is cut takes it like any other, with 12, 9, 6 and 3 of its columns on the line; the code behind it is not read
     seam_rows(
         ((0x58, LAST), (0x5A, MIDDLE), (0x5A, LAST)),
         ((0x51, USER + LAST), (0xDA, FIRST), (0x5A, LAST)),
@@ -521,7 +511,7 @@ def seams_over_cell_1023():
 def seams_of_every_two_backgrounds():
     # each BK beside each, in foreground of every colour; rows of 61 characters, each beginning with the one that ended the last
     seam_rows()
-    codes(256, *[(i % 8 << 4 | bk, LAST) for i, bk in enumerate(pairs(list(range(16))))])
+    codes(256, *[(i % 8 << 4 | bk, LAST) for i, bk in enumerate(script.side_by_side(list(range(16))))])
     for i in range(5):
         strip(2 * i, 256 + 120 * i)
     settings(ld=63, ch=1)
@@ -542,8 +532,9 @@ def every_pair_of_characters():
             (14, 0b011111000110, 0b101000011101), (18, 0b100001101101, 0b100111000110)):
         font_byte(36 * 7 + 2 * (s - 1), font_row & 255, font_row >> 8)
         user(10, s, user_row)
-    row = pairs([(0x50 | bk | flashing, high) for bk in (10, 8, 1)
-                 for high, flashing in ((7, 0), (7, 0x80), (USER + 10, 0), (USER + 10, 0x80), (BLANK, 0))])
+    row = script.side_by_side([
+        (0x50 | bk | flashing, high) for bk in (10, 8, 1)
+        for high, flashing in ((7, 0), (7, 0x80), (USER + 10, 0), (USER + 10, 0x80), (BLANK, 0))])
     n = len(row) - 1
     codes(898, *row)                # over cell 1023, with a seam there that is black
     assert (row[62], row[63]) == ((0x58, 7), (0x5A, USER + 10)) and 898 + 2 * 63 == 1024

@@ -97,16 +97,6 @@ def rows(base, first, n, spacings=0):
     return ram
 
 
-def pairs(kinds):
-    """A row in which each of these codes stands once just to the right of each."""
-    row = []
-    for i, left in enumerate(kinds):
-        row += left
-        for right in kinds[i + 1:]:
-            row += left + right
-    return row + kinds[0]
-
-
 def slices(first, rows):
     """The bytes of these slices, each of twelve bits, by where they lie; slice 1 lies at `first`."""
     return {first + 2 * (s - 1): [bits & 255, bits >> 8] for s, bits in rows.items()}
@@ -182,21 +172,21 @@ page(rows(script.noise(1024, 222), 384, 64, spacings=2), FONT, 10, 8, 0xC0, OSD 
 # and the codes go over cell 1023; mode 1 in a frame that hides
 KINDS = [code(number, bk | look) for bk in (10, 8, 1) for code, number, look in (
     (font_code, 7, 0x50), (font_code, 7, 0xD0), (user_code, 10, 0xD0), (user_code, 10, 0x50), (user_code, 26, 0x50))]
-PAIRS = pairs(KINDS)
+PAIRS = sum(script.side_by_side(KINDS), [])
 N, END = len(KINDS) ** 2, user_code(127, 0x5A)
-CUT_SHORT = [font_code(7, 0x51) + END + user_code(26, 0x5A), user_code(10, 0x58) + END + font_code(7, 0x5A),
-             user_code(10, 0x5A) + END + font_code(7, 0xDA), END + font_code(7, 0x5A) + user_code(26, 0x5A)]
+ENDED = [font_code(7, 0x51) + END + user_code(26, 0x5A), user_code(10, 0x58) + END + font_code(7, 0x5A),
+         user_code(10, 0x5A) + END + font_code(7, 0xDA), END + font_code(7, 0x5A) + user_code(26, 0x5A)]
 assert PAIRS[2 * 58:2 * 60] == user_code(10, 0x5A) + user_code(10, 0xDA) and 906 + 2 * 59 == 1024      # a black seam over cell 1023
 # the black seams by hand, in the two lines of each of CH 4's slices: 6 kinds cast a shadow, each in two slices; of the shadowed
 # ones two take it in one of them, where their first column is not set, the two hidden ones and the blank in both
 BLACK = 2 * 6 * (2 * 1 + 3 * 2)
 page(ram_with(RAM, {
     448: sum((characters((906 + 2 * i) % 1024, zoom=1) for i in range(N)), [])
-    + sum((characters(336 + 6 * i, zoom=1) for i in range(len(CUT_SHORT))), []),
-    906: PAIRS + PAIRS[2:4], 336: sum(CUT_SHORT, []),      # the first pair once more, for the cut
+    + sum((characters(336 + 6 * i, zoom=1) for i in range(len(ENDED))), []),
+    906: PAIRS + PAIRS[2:4], 336: sum(ENDED, []),      # the first pair once more, for the cut
     **slices(38 * 10 + 2, {5: 0b010110011010, 9: 0b011001100101, 14: 0b101000011101, 18: 0b100111000110})}),
      font_with(slices(36 * 7, {5: 0b010000110001, 9: 0b101110010010, 14: 0b011111000110, 18: 0b100001101101})),
-     5, 7, 4, OSD | flashing(1) | 7, 8 * (N + len(CUT_SHORT)), frame=40, black=((57, BLACK), (69, BLACK)))
+     5, 7, 4, OSD | flashing(1) | 7, 8 * (N + len(ENDED)), frame=40, black=((57, BLACK), (69, BLACK)))
 
 # what the questions are about: flashing rows of three characters, DD 0 taken as 4, a row with seams, and rows for 2,048 lines
 # behind them; mode 2; VSP and HSP set, which do not count in W

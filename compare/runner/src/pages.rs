@@ -66,7 +66,7 @@ pub fn random_page(random: &mut Random, ram: &mut [u8]) -> u8 {
 }
 
 /// A page on which characters meet: all of its strips show one row, often over the end of RAM, of every kind of character, most of them
-/// shadowed. Some rows end early. Answers its P.
+/// shadowed. One row in three ends early. Answers its P.
 pub fn seam_page(random: &mut Random, ram: &mut [u8]) -> u8 {
     random.fill(ram);
     let p = random.below(8) as u8;

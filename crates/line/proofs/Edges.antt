@@ -10,7 +10,7 @@ use Rattle.cells.specs.Reading.{code, cells, cellsAs}
 use Rattle.raster.specs.Raster.{sliceNumber, charactersOf, hiddenIn}
 use Rattle.glyph.specs.Glyph.{glyphOf, inRam}
 use Rattle.paint.specs.Pixels.{plainOf}
-use Rattle.line.specs.Line.{scan, bitsShown, character, painted, paint}
+use Rattle.line.specs.Line.{scan, shownOf, character, painted, paint}
 use Rattle.line.specs.Edges.{Holds, mostCodes, secondCut, userCells, table, Each, Edges}
 use Rattle.line.proofs.Laws.{character-length}
 use Rattle.line.proofs.Counts.{scan-codes}
@@ -26,7 +26,7 @@ second s fnt f p q l d o =
     (ap (λ (x : List ℕ). replicate 39 (plainOf (s .fbk)) ++ x)
     (ap₂ (λ (x y : List ℕ). x ++ y)
     (take-all 21 (character fnt (plainOf (s .fbk)) (hiddenIn (s .fl) f) 0 p) (omega (arith, character-length fnt (plainOf (s .fbk)) (hiddenIn (s .fl) f) 0 p)))
-    (append-nil (take 9 (character fnt (plainOf (s .fbk)) (hiddenIn (s .fl) f) (bitsShown fnt (hiddenIn (s .fl) f) p) q)))))
+    (append-nil (take 9 (character fnt (plainOf (s .fbk)) (hiddenIn (s .fl) f) (shownOf fnt (hiddenIn (s .fl) f) p) q)))))
 
 user-cells : Holds (userCells 25 18 986 987)
 unfolding Holds glyphOf inRam cells

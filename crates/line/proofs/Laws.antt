@@ -14,19 +14,19 @@ use Rattle.registers.proofs.Laws.{fbk-bound}
 use Rattle.raster.specs.Raster.{widthOf, firstPixelOf, hiddenIn}
 use Rattle.paint.specs.Pixels.{plainOf}
 use Rattle.paint.proofs.Laws.{Pixels, pixels-at, pixels-append, pixels-take, pixels-replicate, twelve-length, twelve-pixels}
-use Rattle.line.specs.Line.{Place, bitsShown, character, painted, paint}
+use Rattle.line.specs.Line.{Place, shownOf, character, painted, paint}
 
 -- ---- the width
 
 pub character-length : (font : List ℕ) (plain : ℕ) (hidden : Bool) (before : ℕ) (p : Place) → length (character font plain hidden before p) ≡ 12
 unfolding character
-character-length font plain hidden before p = twelve-length plain (p .low) before (bitsShown font hidden p)
+character-length font plain hidden before p = twelve-length plain (p .low) before (shownOf font hidden p)
 
 pub painted-length : (font : List ℕ) (plain : ℕ) (hidden : Bool) (before room : ℕ) (ps : List Place) → length (painted font plain hidden before room ps) ≡ room
 unfolding painted
 painted-length font plain hidden before room [] = length-replicate room plain
 painted-length font plain hidden before room (p ∷ ps) =
-    simp (length-append, length-take, character-length, painted-length font plain hidden (bitsShown font hidden p) (room - 12) ps) (omega arith)
+    simp (length-append, length-take, character-length, painted-length font plain hidden (shownOf font hidden p) (room - 12) ps) (omega arith)
 
 -- a drawn line has exactly W pixels
 pub paint-length : (s : Settings) (font : List ℕ) (f : ℕ) (row : List Place) → length (paint s font f row) ≡ widthOf (s .ld)
@@ -42,8 +42,8 @@ painted-pixels : (font : List ℕ) (plain : ℕ) (hidden : Bool) (before room : 
 unfolding painted character
 painted-pixels font plain hidden before room [] h = pixels-replicate room plain h
 painted-pixels font plain hidden before room (p ∷ ps) h =
-    pixels-append (pixels-take room (twelve-pixels plain (p .low) before (bitsShown font hidden p) h))
-    (painted-pixels font plain hidden (bitsShown font hidden p) (room - 12) ps h)
+    pixels-append (pixels-take room (twelve-pixels plain (p .low) before (shownOf font hidden p) h))
+    (painted-pixels font plain hidden (shownOf font hidden p) (room - 12) ps h)
 
 paint-pixels : (s : Settings) (font : List ℕ) (f : ℕ) (row : List Place) → s .fbk < 2 → Pixels (paint s font f row)
 unfolding paint

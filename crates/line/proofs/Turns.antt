@@ -28,7 +28,7 @@ use Rattle.line.proofs.Laws.{character-length, painted-length}
 use Rattle.line.proofs.Counts.{glyph-most, codes-most}
 use Rattle.line.specs.declared.Coded.{Coded}
 use Rattle.line.specs.Contracts.{placeAt, CodeShown, RowDrawn, rowIn, roomOf}
-use Rattle.line.specs.Line.{bitsShown, character, codesBy, codes, painted}
+use Rattle.line.specs.Line.{shownOf, character, codesBy, codes, painted}
 
 -- ---- filling
 
@@ -76,9 +76,9 @@ module _ (ram font : List ℕ) (at : ℕ) (pen : Pen) (before : ℕ) (w : Word) 
   pub code-shown : ((i : ℕ) → getD ram i 0 < 256) → ((i : ℕ) → getD font i 0 < 256) → w .ends ≡ false
       → (drawn : Drawn) → CharacterDrawn (pen .plain) (pen .hidden) (getD ram at 0) before (w .bits % 4096) drawn
       → CodeShown ram font at pen before (record { ended = false; cells = 2 + w .cells; drawn = drawn })
-  unfolding wordIn bitsShown character
+  unfolding wordIn shownOf character
   code-shown b f e drawn d =
-      let bits : shownBits (pen .hidden) (getD ram at 0) (w .bits % 4096) ≡ bitsShown font (pen .hidden) (placeAt ram pen at) =
+      let bits : shownBits (pen .hidden) (getD ram at 0) (w .bits % 4096) ≡ shownOf font (pen .hidden) (placeAt ram pen at) =
       ap (shownBits (pen .hidden) (getD ram at 0))
       (ap (λ (x : Word). x .bits % 4096) h ∙ word-low ram font (getD ram (at + 1) 0) (pen .slice) b f)
       in
@@ -152,7 +152,7 @@ module _ (ram font : List ℕ) (pen : Pen) (before room a : ℕ) (p : even a ≡
   pub room-on : endsLine (getD ram (a + 1) 0) ≡ false
       → (roomOf ram font pen before room a
       ≡ take room (character font (pen .plain) (pen .hidden) before (placeAt ram pen a))
-      ++ roomOf ram font pen (bitsShown font (pen .hidden) (placeAt ram pen a)) (room - 12) (even (a + 2)))
+      ++ roomOf ram font pen (shownOf font (pen .hidden) (placeAt ram pen a)) (room - 12) (even (a + 2)))
       × (length (cells ram (rowIn pen room a))
       ≡ 2 + length (cells ram (glyphOf (getD ram (a + 1) 0) (pen .slice))) + length (cells ram (rowIn pen (room - 12) (even (a + 2)))))
   unfolding painted
@@ -165,7 +165,7 @@ module _ (ram font : List ℕ) (pen : Pen) (before room a : ℕ) (p : even a ≡
 
 -- ---- a row of characters, one more at a time
 
--- a row up to w of which the pixels before x are drawn, the last character's of the bits that are given: what is left is the row from the even
+-- a row up to w of which the pixels before x are drawn, and the last character drawn shows these bits: what is left is the row from the even
 -- address a on
 pub record RowUpTo (ram font : List ℕ) (address : ℕ) (pen : Pen) (first w : ℕ) (out : List ℕ) (x a n bits : ℕ) (out′ : List ℕ) : Type 0 where
   pub upto : x ≤ w

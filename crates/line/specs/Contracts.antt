@@ -17,7 +17,7 @@ use Rattle.paint.specs.Tables.{columnPixels}
 use Rattle.line.specs.declared.Pen.{Pen}
 use Rattle.line.specs.declared.Coded.{Coded}
 use Rattle.line.specs.declared.Line.{Line}
-use Rattle.line.specs.Line.{Place, codes, shownRow, scan, bitsShown, character, painted, paint}
+use Rattle.line.specs.Line.{Place, codes, shownRow, scan, shownOf, character, painted, paint}
 
 -- what stands at the code of an even address
 abbrev pub placeAt : List ℕ → Pen → ℕ → Place
@@ -28,14 +28,14 @@ placeAt ram pen a = record { low = getD ram a 0; glyph = value ram (glyphOf (get
 pub record CodeShown (ram font : List ℕ) (at : ℕ) (pen : Pen) (before : ℕ) (c : Coded) : Type 0 where
   pub ends : c .ended ≡ endsLine (getD ram (at + 1) 0)
   pub reads : c .cells ≡ 2 + length (cells ram (glyphOf (getD ram (at + 1) 0) (pen .slice)))
-  pub bits : c .ended ≡ false → c .drawn .bits ≡ bitsShown font (pen .hidden) (placeAt ram pen at)
+  pub bits : c .ended ≡ false → c .drawn .bits ≡ shownOf font (pen .hidden) (placeAt ram pen at)
   pub pixels : c .ended ≡ false → columnPixels (c .drawn .columns) ≡ character font (pen .plain) (pen .hidden) before (placeAt ram pen at)
 
--- the codes that there is room for, and the pixels of that room, after the bits that the character to its left shows
+-- the codes that there is room for; the pixels of that room, after the bits that the character to the left of it shows
 abbrev pub rowIn : Pen → ℕ → ℕ → Reading (List Place)
 rowIn pen room a = codes (charactersIn room) (pen .slice) a
 
-abbrev pub roomOf : List ℕ → List ℕ → Pen → ℕ → ℕ → ℕ → List ℕ
+abbrev pub roomOf : List ℕ → List ℕ → Pen → (before room a : ℕ) → List ℕ
 roomOf ram font pen before room a = painted font (pen .plain) (pen .hidden) before room (value ram (rowIn pen room a))
 
 -- the room from pixel x to w holds the characters and then plain; the bytes before and after stay

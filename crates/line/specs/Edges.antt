@@ -12,7 +12,7 @@ use Rattle.raster.specs.Raster.{sliceNumber, firstPixelOf, hiddenIn}
 use Rattle.walk.specs.declared.Walk.{Walk}
 use Rattle.glyph.specs.Glyph.{glyphOf}
 use Rattle.paint.specs.Pixels.{plainOf}
-use Rattle.line.specs.Line.{Place, scan, bitsShown, character, paint}
+use Rattle.line.specs.Line.{Place, scan, shownOf, character, paint}
 
 pub data Row : Type 0 where
   -- slice for (CH, n)
@@ -37,7 +37,7 @@ Holds (secondCut ld dd n) =
     → paint s fnt f (p ∷ q ∷ [])
     ≡ replicate (firstPixelOf dd) (plainOf (s .fbk))
     ++ (character fnt (plainOf (s .fbk)) (hiddenIn (s .fl) f) 0 p
-    ++ take n (character fnt (plainOf (s .fbk)) (hiddenIn (s .fl) f) (bitsShown fnt (hiddenIn (s .fl) f) p) q))
+    ++ take n (character fnt (plainOf (s .fbk)) (hiddenIn (s .fl) f) (shownOf fnt (hiddenIn (s .fl) f) p) q))
 Holds (userCells number s a b) = (ram : List ℕ) → cells ram (glyphOf (128 + number) (record { 0 = s })) ≡ a ∷ b ∷ []
 
 -- LD 4 is W 60, LD 63 is W 768

@@ -68,18 +68,19 @@ scan = scanBy glyphOf
 -- ---- paint
 
 -- what a character shows of its glyph, PX11 to PX0
-unfoldable pub bitsShown : List ℕ → Bool → Place → ℕ
-bitsShown font hidden p = shownBits hidden (p .low) (bitsOf font (p .glyph))
+unfoldable pub shownOf : List ℕ → Bool → Place → ℕ
+shownOf font hidden p = shownBits hidden (p .low) (bitsOf font (p .glyph))
 
 -- its twelve pixels, after the bits that the character just to its left shows
-unfoldable pub character : List ℕ → ℕ → Bool → ℕ → Place → List ℕ
-character font plain hidden before p = twelveColumns plain (p .low) before (bitsShown font hidden p)
+unfoldable pub character : List ℕ → (plain : ℕ) (hidden : Bool) (before : ℕ) → Place → List ℕ
+character font plain hidden before p = twelveColumns plain (p .low) before (shownOf font hidden p)
 
--- the room that remains on a line, from a character's first pixel on: the characters, the last cut, then plain
-unfoldable pub painted : List ℕ → ℕ → Bool → ℕ → ℕ → List Place → List ℕ
+-- the room that remains on a line, from a character's first pixel on, after the bits that the character to its left shows: the characters, the last
+-- cut, then plain
+unfoldable pub painted : List ℕ → (plain : ℕ) (hidden : Bool) (before room : ℕ) → List Place → List ℕ
 painted font plain hidden before room [] = replicate room plain
 painted font plain hidden before room (p ∷ ps) =
-    take room (character font plain hidden before p) ++ painted font plain hidden (bitsShown font hidden p) (room - 12) ps
+    take room (character font plain hidden before p) ++ painted font plain hidden (shownOf font hidden p) (room - 12) ps
 
 -- a line of W pixels. OSD 0: every pixel 0. Else plain before the first character, to whose left no bits are shown
 unfoldable pub paint : Settings → List ℕ → ℕ → List Place → List ℕ

@@ -18,8 +18,8 @@ abbrev pub foreground : ℕ → ℕ
 foreground low = 8 + low / 16 % 8
 
 -- background with BK3 0: colour BK[2:0], FBLK 1. BK3 1 and BK1 0: plain. BK3 1 and BK1 1: black with FBLK 1 where the pixel to
--- the left is foreground (beside), in the same character or, for its leftmost column, in the last column of the character just to its
--- left (K7), else plain. BK2 and BK0 are then ignored (H)
+-- the left is foreground (beside), else plain; to the left of a leftmost column stands the last column of the character just to its left
+-- (K7). BK2 and BK0 are then ignored (H)
 abbrev pub background : ℕ → ℕ → Bool → ℕ
 background plain low beside =
     cond (eqb (low / 8 % 2) 0) (8 + low % 8) (cond (eqb (low / 2 % 2) 0) plain (cond beside 8 plain))
@@ -48,5 +48,5 @@ shownBits hidden low bits = cond (flashes low && hidden) 0 bits
 
 -- the twelve pixels of a code's low byte and the bits that its character shows, PX11 leftmost. To the left of PX11 stands PX0 of the bits that the
 -- character just to its left shows (K7): not foreground where that one is hidden or blank
-unfoldable pub twelveColumns : ℕ → ℕ → ℕ → ℕ → List ℕ
+unfoldable pub twelveColumns : (plain low before bits : ℕ) → List ℕ
 twelveColumns plain low before bits = columns 12 (inkOf plain low) bits (before % 2)

@@ -49,7 +49,7 @@ shows hidden i = cond (leb 8 i && hidden) 0 4095
 unfoldable pub maskTable : List ℕ
 maskTable = tabulate facing 0 32 ++ tabulate casting 0 32
 
--- a table begins with the masks
+-- a table begins with the masks and shadows
 abbrev pub HasMasks : List ℕ → Type 0
 HasMasks table = take 64 table ≡ maskTable
 
@@ -77,7 +77,7 @@ solid p i = bitXor (p .back) (bitAnd (facing i) (p .fore))
 unfoldable pub shadowed : Paint → ℕ → ℕ
 shadowed p i = bitOr (solid p i) (casting i)
 
--- a plain pixel: colour 0, so that black over it is black
+-- a plain pixel, 0 or 8: 8 laid over it by `or` is 8
 abbrev pub IsPlain : ℕ → Type 0
 IsPlain plain = (plain % 8 ≡ 0) × (plain < 16)
 

@@ -55,7 +55,7 @@ const YELLOW: u32 = 0x0E0E0E0E;
 
 const WHITE: u32 = 0x0F0F0F0F;
 
-// Where the parts of a row's table begin: masks of foreground, shadow, foreground and background colours, the bits that are shown.
+// Where the parts of a row's table begin: masks of foreground, shadows, colours of foreground and of background, the bits that are shown.
 const CASTING: usize = 32;
 
 const FORES: usize = 64;

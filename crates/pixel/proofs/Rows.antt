@@ -15,7 +15,7 @@ use Rattle.walk.specs.Walk.{even, next}
 use Rattle.glyph.specs.Glyph.{endsLine, bitsOf}
 use Rattle.paint.specs.Pixels.{Ink, flashes, foreground, background, inkOf, pixel, columns, shownBits, twelveColumns}
 use Rattle.line.specs.declared.Pen.{Pen}
-use Rattle.line.specs.Line.{bitsShown, character}
+use Rattle.line.specs.Line.{shownOf, character}
 use Rattle.line.specs.Contracts.{placeAt, roomOf}
 use Rattle.line.proofs.Laws.{character-length}
 use Rattle.line.proofs.Turns.{room-ended, room-on}
@@ -170,18 +170,18 @@ module _ (ram font : List ℕ) (pen : Pen) where
   module _ (a : ℕ) (p : even a ≡ a) (e : endsLine (getD ram (a + 1) 0) ≡ false) where
     -- a column of them
     shown-is : (before j : ℕ) → j < 12 → getD (characterAt before a) j 0 ≡ pixelAfter ram font (eqb (before % 2) 1) (rowOf pen a) j
-    unfolding character bitsShown
+    unfolding character shownOf
     shown-is before j h =
         rw (row-first ram font (rowOf pen a) (rw p e) (eqb (before % 2) 1) j h, p, bits-glyph ram font (getD ram (a + 1) 0) (pen .slice))
         (column-is (pen .plain) (pen .hidden) (getD ram a 0) _ before j h)
 
     -- the last one
-    last-is : eqb (bitsShown font (pen .hidden) (placeAt ram pen a) % 2) 1 ≡ foregroundAt ram font (rowOf pen a) 11
-    unfolding bitsShown
+    last-is : eqb (shownOf font (pen .hidden) (placeAt ram pen a) % 2) 1 ≡ foregroundAt ram font (rowOf pen a) 11
+    unfolding shownOf
     last-is =
         let whole : (n : ℕ) → n % 2 ≡ n / 2 ^ 0 % 2 = λ n. omega arith in
         rw (fore-first ram font (rowOf pen a) (rw p e) 11 (omega arith), p, bits-glyph ram font (getD ram (a + 1) 0) (pen .slice))
-        (ap (λ (n : ℕ). eqb n 1) (whole (bitsShown font (pen .hidden) (placeAt ram pen a)))
+        (ap (λ (n : ℕ). eqb n 1) (whole (shownOf font (pen .hidden) (placeAt ram pen a)))
         ∙ shown-bit (pen .hidden) (getD ram a 0) (bitsOf font (placeAt ram pen a .glyph)) 0 11 refl)
 
   -- where the line is ended, all of the room is plain
@@ -212,7 +212,7 @@ module _ (ram font : List ℕ) (pen : Pen) where
           → getD (roomOf ram font pen before room a) j 0 ≡ pixelAfter ram font (eqb (before % 2) 1) (rowOf pen a) j
       by true e ih = ended-pixel before j room a l p e
       by false e ih =
-          let bits : ℕ = bitsShown font (pen .hidden) (placeAt ram pen a) in
+          let bits : ℕ = shownOf font (pen .hidden) (placeAt ram pen a) in
           let past : j ≡ length (take room (characterAt before a)) + (j - 12) = simp (length-take, character-length) (omega arith) in
           let at : 12 + (j - 12) ≡ j = omega arith in
           ap₂ (λ (r : List ℕ) (i : ℕ). getD r i 0) (room-on ram font pen before room a p (omega arith) e .0) past

@@ -75,7 +75,7 @@ isForeground hidden low bits c = not (hidden && flashes low) && eqb (bits / 2 ^ 
 abbrev pub codeOf : List ℕ → Row → ℕ → Pair
 codeOf ram row j = pairAt ram (row .address + 2 * (j / 12))
 
--- is it foreground?
+-- is column j foreground? A blank or hidden character has none
 abbrev pub foregroundAt : List ℕ → List ℕ → Row → ℕ → Bool
 foregroundAt ram font row j =
     let code : Pair = codeOf ram row j in
@@ -86,7 +86,7 @@ foregroundAt ram font row j =
 abbrev pub besideAt : List ℕ → List ℕ → Row → ℕ → Bool
 besideAt ram font row j = ltb 0 j && foregroundAt ram font row (j - 1)
 
--- its pixel: plain from the end of line on. A blank or hidden character casts no shadow, and takes one if it is shadowed
+-- its pixel: plain from the end of line on
 unfoldable pub rowPixel : List ℕ → List ℕ → Row → ℕ → ℕ
 rowPixel ram font row j =
     let low : ℕ = codeOf ram row j .low in
@@ -94,8 +94,7 @@ rowPixel ram font row j =
     (row .plain)
     (cond (foregroundAt ram font row j) (foreground low) (background (row .plain) low (besideAt ram font row j)))
 
--- column x of a line of characters: plain before the first character, then twelve columns a code. x is below W, so its code is read; W cuts
--- the last
+-- column x of a line of characters: plain before the first character, then the row. x is below W, so its code is read; W cuts the last
 abbrev pub charactersPixel : Settings → List ℕ → List ℕ → ℕ → StripLine → ℕ → ℕ
 charactersPixel s ram font f at x =
     let first : ℕ = firstPixelOf (s .dd) in

@@ -145,7 +145,7 @@ fn foreground_at<'a>(ram: &'a [u8], font: &'a [u8], row: Row, column: u16) -> bo
     is_foreground(row.hidden, code.low, word.bits % 4096, column % 12)
 }
 
-// The pixel of a column of a row that is background. What stands to its left is looked up only where a shadow can fall.
+// The pixel of a background column of a row, by its code's low byte. What stands to its left is looked up only where a shadow can fall.
 fn background_at<'a>(ram: &'a [u8], font: &'a [u8], row: Row, low: u8, column: u16) -> u8
     requires { ⌜ Lent (now ram) (now font) ⌝ }
     requires { ⌜ OnScreen (row .slice) ⌝ }

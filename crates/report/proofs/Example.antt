@@ -8,12 +8,12 @@ use Rattle.raster.specs.Raster.{beforeFirst, following, isLast, interpolated, s
 use Rattle.walk.specs.Walk.{walkFrom, stripOf, over, begun, advanced, nextLine}
 use Rattle.glyph.specs.Glyph.{glyphOf, inRam, bitsOf}
 use Rattle.paint.specs.Pixels.{inkOf, columns, twelveColumns}
-use Rattle.line.specs.Line.{codesBy, rowBy, shownBy, scanBy, bitsShown, character, painted, paint}
+use Rattle.line.specs.Line.{codesBy, rowBy, shownBy, scanBy, shownOf, character, painted, paint}
 use Rattle.device.specs.Device.{freshDevice, inFrame, startFrame, pixelsOf, lineOn, lineDrawn, drawVerdict, drawBy, drawLine}
 use Rattle.report.specs.Report as report
 use Rattle.report.specs.Report.{benchDevice, digits, linesText, benchText}
 use Rattle.report.specs.Example.{exampleInput, exampleOutput, bytesOf, BenchExample}
 
 pub bench-example : BenchExample
-unfolding exampleInput exampleOutput bytesOf benchText linesText report.benchStart benchDevice digits freshDevice inFrame startFrame pixelsOf lineOn lineDrawn drawVerdict drawBy drawLine loaded zipWith settingsOf scanBy nextLine walkFrom over begun advanced stripOf rowBy shownBy codesBy glyphOf inRam bind fmap cells value beforeFirst following isLast interpolated sliceNumber paint painted character bitsShown twelveColumns inkOf columns bitsOf
+unfolding exampleInput exampleOutput bytesOf benchText linesText report.benchStart benchDevice digits freshDevice inFrame startFrame pixelsOf lineOn lineDrawn drawVerdict drawBy drawLine loaded zipWith settingsOf scanBy nextLine walkFrom over begun advanced stripOf rowBy shownBy codesBy glyphOf inRam bind fmap cells value beforeFirst following isLast interpolated sliceNumber paint painted character shownOf twelveColumns inkOf columns bitsOf
 bench-example = refl
