@@ -1,11 +1,12 @@
--- The laws of a line: it has W pixels, each below 16.
+-- The laws of a line: it has W pixels, each below 16; what stands at a column.
 -- Assumes nothing.
-use Prim.Native.Nat.{ℕ, _-_, _<_, min}
-use mathlib.Core.Path.{_≡_}
+use Prim.Native.Nat.{ℕ, _+_, _-_, _≤_, _<_, min}
+use mathlib.Core.Path.{_≡_, ap, _∙_}
 use mathlib.Core.Bool.{Bool}
-use mathlib.Core.List.{List, [], _∷_}
+use mathlib.Core.List.{List, [], _∷_, _++_}
 use native.Mathlib.Omega.{arith}
-use lib.ListN.{length, getD, length-append, length-take, length-replicate}
+use lib.ListN.{length, getD, take, length-append, length-take, length-replicate, List·getD-append}
+use lib.Seq.{getD-take, getD-append-add}
 use Rattle.facts.proofs.Choice.{either}
 use Rattle.registers.specs.declared.Settings.{Settings}
 use Rattle.registers.specs.declared.Registers.{Registers}
@@ -34,6 +35,32 @@ unfolding paint
 paint-length s font f row =
     either (λ (l : List ℕ). length l ≡ widthOf (s .ld)) (s .osd) _ _ (simp (length-append, length-replicate, painted-length) (omega arith))
     (length-replicate (widthOf (s .ld)) 0)
+
+-- ---- a column
+
+-- of w, which begin with n, as many as fit: one of the n, or of the rest
+module _ (front rest : List ℕ) (n w x : ℕ) (long : length front ≡ min n w) (h : x < w) where
+  pub at-front : x < n → getD (front ++ rest) x 0 ≡ getD front x 0
+  at-front l = List·getD-append front rest 0 x (omega arith)
+
+  pub at-rest : n ≤ x → getD (front ++ rest) x 0 ≡ getD rest (x - n) 0
+  at-rest l =
+      let past : x ≡ length front + (x - n) = omega arith in
+      ap (λ (i : ℕ). getD (front ++ rest) i 0) past ∙ getD-append-add front rest (x - n) 0
+
+-- of room that begins with a character: one of its twelve, or past it
+module _ (font : List ℕ) (plain : ℕ) (hidden : Bool) (before room : ℕ) (p : Place) (rest : List ℕ) (j : ℕ) (h : j < room) where
+  abbrev twelve : List ℕ
+  twelve = character font plain hidden before p
+
+  long : length (take room twelve) ≡ min 12 room
+  long = simp (length-take, character-length) (omega arith)
+
+  pub column-in : j < 12 → getD (take room twelve ++ rest) j 0 ≡ getD twelve j 0
+  column-in l = at-front (take room twelve) rest 12 room j long h l ∙ getD-take room twelve j 0 h
+
+  pub column-past : 12 ≤ j → getD (take room twelve ++ rest) j 0 ≡ getD rest (j - 12) 0
+  column-past = at-rest (take room twelve) rest 12 room j long h
 
 -- ---- the pixels
 

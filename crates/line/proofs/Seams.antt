@@ -4,18 +4,17 @@ use Prim.Native.Nat.{ℕ, zero, suc, _+_, _-_, _/_, _%_, _≤_, _<_, min}
 use mathlib.Core.Path.{_≡_, refl, sym, ap, _∙_}
 use mathlib.Core.Bool.{Bool, true, false, not, cond, _&&_}
 use mathlib.Core.List.{List, [], _∷_, _++_}
-use native.Mathlib.Decide.{ℕ-discrete, decLt}
+use native.Mathlib.Decide.{decLt}
 use native.Mathlib.Omega.{arith}
-use borrow.Author.Tests.{ne-eqb, lt-ltb, le-ltb, le-leb, lt-leb}
-use lib.Dec.{eqb, ltb, leb}
-use lib.ListN.{length, getD, take, replicate, length-take, length-replicate, List·getD-append}
-use lib.Seq.{getD-take, getD-append-add}
+use borrow.Author.Tests.{ne-eqb, le-leb, lt-leb}
+use lib.Dec.{eqb, leb}
+use lib.ListN.{length, getD, take, replicate, length-replicate}
 use Rattle.facts.proofs.Choice.{cond-same}
 use Rattle.raster.specs.Raster.{widthOf, firstPixelOf, hiddenIn}
 use Rattle.paint.specs.Pixels.{plainOf, foreground, inkOf, columns, twelveColumns}
 use Rattle.line.specs.Line.{Place, shownOf, character, painted, paint}
 use Rattle.line.specs.Seams.{apart, paintApart, crosses, inSeam, Seams}
-use Rattle.line.proofs.Laws.{character-length}
+use Rattle.line.proofs.Laws.{at-front, at-rest, column-in, column-past}
 
 -- a bit that is not 1 is 0
 bit-is : (n : ℕ) → eqb (n % 2) 0 ≡ not (eqb (n % 2) 1)
@@ -47,105 +46,67 @@ module _ (plain low before bits : ℕ) where
   unfolding twelveColumns columns
   later-column j = refl
 
--- ---- a row, after the bits that the character to its left shows
-
-module _ (font : List ℕ) (hidden : Bool) where
-  -- the shadow of such bits crosses into a character
-  crossesAfter : ℕ → Place → Bool
-  crossesAfter before p = eqb (shownOf font hidden p / 2048 % 2) 0 && (eqb (p .low / 8 % 2) 1 && (eqb (p .low / 2 % 2) 1 && eqb (before % 2) 1))
-
-  inSeamAfter : ℕ → List Place → ℕ → Bool
-  inSeamAfter before [] j = false
-  inSeamAfter before (p ∷ ps) j = cond (ltb j 12) (eqb j 0 && crossesAfter before p) (inSeamAfter (shownOf font hidden p) ps (j - 12))
-
-  -- no row has one at its first column
-  none-first : (row : List Place) → inSeam font hidden row 0 ≡ false
-  unfolding inSeam
-  none-first [] = refl
-  none-first (p ∷ []) = refl
-  none-first (p ∷ q ∷ ps) = none-first (q ∷ ps)
-
-  -- past the first character, whose bits stand to the left of the second
-  seam-later : (p : Place) (ps : List Place) (j : ℕ)
-      → cond (ltb j 12) false (inSeamAfter (shownOf font hidden p) ps (j - 12)) ≡ inSeam font hidden (p ∷ ps) j
-  unfolding inSeam inSeamAfter crosses crossesAfter
-  seam-later p [] j = cond-same (ltb j 12) false
-  seam-later p (q ∷ ps) j = by (decLt j 12) (ℕ-discrete j 12) (seam-later q ps (j - 12))
-    where
-      by : Dec (j < 12) → Dec (j ≡ 12)
-          → cond (ltb (j - 12) 12) false (inSeamAfter (shownOf font hidden q) ps (j - 12 - 12)) ≡ inSeam font hidden (q ∷ ps) (j - 12)
-          → cond (ltb j 12) false
-          (cond (ltb (j - 12) 12) (eqb (j - 12) 0 && crossesAfter (shownOf font hidden p) q) (inSeamAfter (shownOf font hidden q) ps (j - 12 - 12)))
-          ≡ cond (eqb j 12) (crosses font hidden p q) (inSeam font hidden (q ∷ ps) (j - 12))
-      by (yes l) d ih =
-          let zero : j - 12 ≡ 0 = omega arith in
-          rw (lt-ltb j 12 l, ne-eqb j 12 (omega arith), zero) (sym (none-first (q ∷ ps)))
-      by (no l) (yes e) ih = rw e
-      by (no l) (no n) ih = rw (le-ltb j 12 (omega arith), ne-eqb j 12 n, ne-eqb (j - 12) 0 (omega arith)) ih
-
-  -- with nothing to the left of the first
-  seam-first : (row : List Place) (j : ℕ) → inSeamAfter 0 row j ≡ inSeam font hidden row j
-  unfolding inSeam inSeamAfter crossesAfter
-  seam-first [] j = refl
-  seam-first (p ∷ ps) j =
-      ap (λ (t : Bool). cond (ltb j 12) t (inSeamAfter (shownOf font hidden p) ps (j - 12)))
-      (none (eqb j 0) (eqb (shownOf font hidden p / 2048 % 2) 0) (eqb (p .low / 8 % 2) 1) (eqb (p .low / 2 % 2) 1))
-      ∙ seam-later p ps j
-    where
-      none : (a b c d : Bool) → (a && (b && (c && (d && false)))) ≡ false
-      none false b c d = refl
-      none true false c d = refl
-      none true true false d = refl
-      none true true true false = refl
-      none true true true true = refl
+-- ---- a row
 
 module _ (font : List ℕ) (plain : ℕ) (hidden : Bool) where
-  -- column j of a character
-  column-is : (before : ℕ) (p : Place) (j : ℕ)
-      → getD (character font plain hidden before p) j 0
-      ≡ cond (eqb j 0 && crossesAfter font hidden before p) 8 (getD (character font plain hidden 0 p) j 0)
-  unfolding character crossesAfter
-  column-is before p zero = first-column plain (p .low) before (shownOf font hidden p)
-  column-is before p (suc j) = rw (ne-eqb (suc j) 0 (omega arith)) (later-column plain (p .low) before (shownOf font hidden p) j)
+  -- no shadow crosses into a row's first character
+  none-first : (p : Place) (ps : List Place) (j : ℕ) → j < 12 → inSeam font hidden (p ∷ ps) j ≡ false
+  unfolding inSeam
+  none-first p [] j h = refl
+  none-first p (q ∷ ps) j h = rw (ne-eqb j 12 (omega arith)) (none-first q ps (j - 12) (omega arith))
 
-  -- a row, after what stands to its left
-  row-is : (before room : ℕ) (row : List Place) (j : ℕ) → j < room
-      → getD (painted font plain hidden before room row) j 0 ≡ cond (inSeamAfter font hidden before row j) 8 (getD (apart font plain hidden room row) j 0)
-  unfolding painted apart inSeamAfter
-  row-is before room [] j h = refl
-  row-is before room (p ∷ ps) j h = by (decLt j 12) (λ l. row-is (shownOf font hidden p) (room - 12) ps (j - 12) l)
+  -- column j of the second, q
+  column-is : (p q : Place) (ps : List Place) (j : ℕ) → j < 12
+      → getD (character font plain hidden (shownOf font hidden p) q) j 0
+      ≡ cond (inSeam font hidden (p ∷ q ∷ ps) (12 + j)) 8 (getD (character font plain hidden 0 q) j 0)
+  unfolding character inSeam crosses
+  column-is p q ps zero h = first-column plain (q .low) (shownOf font hidden p) (shownOf font hidden q)
+  column-is p q ps (suc j) h =
+      rw (ne-eqb (12 + suc j) 12 (omega arith), none-first q ps (12 + suc j - 12) (omega arith))
+      (later-column plain (q .low) (shownOf font hidden p) (shownOf font hidden q) j)
+
+  -- the row past p
+  past-is : (p : Place) (ps : List Place) (room j : ℕ) → j < room
+      → getD (painted font plain hidden (shownOf font hidden p) room ps) j 0
+      ≡ cond (inSeam font hidden (p ∷ ps) (12 + j)) 8 (getD (apart font plain hidden room ps) j 0)
+  unfolding painted apart inSeam
+  past-is p [] room j h = refl
+  past-is p (q ∷ ps) room j h = by (decLt j 12) (past-is q ps (room - 12) (j - 12))
     where
-      shown : ℕ
-      shown = shownOf font hidden p
-
-      at : (b : ℕ) (rest : List ℕ) → j < 12 → getD (take room (character font plain hidden b p) ++ rest) j 0 ≡ getD (character font plain hidden b p) j 0
-      at b rest l =
-          List·getD-append (take room (character font plain hidden b p)) rest 0 j (simp (length-take, character-length) (omega arith))
-          ∙ getD-take room (character font plain hidden b p) j 0 h
-
-      past : (b : ℕ) (rest : List ℕ) → 12 ≤ j → getD (take room (character font plain hidden b p) ++ rest) j 0 ≡ getD rest (j - 12) 0
-      past b rest l =
-          let twelve : j ≡ length (take room (character font plain hidden b p)) + (j - 12) = simp (length-take, character-length) (omega arith) in
-          ap (λ (i : ℕ). getD (take room (character font plain hidden b p) ++ rest) i 0) twelve
-          ∙ getD-append-add (take room (character font plain hidden b p)) rest (j - 12) 0
+      before : ℕ
+      before = shownOf font hidden p
 
       by : Dec (j < 12)
-          → (j - 12 < room - 12 → getD (painted font plain hidden shown (room - 12) ps) (j - 12) 0
-          ≡ cond (inSeamAfter font hidden shown ps (j - 12)) 8 (getD (apart font plain hidden (room - 12) ps) (j - 12) 0))
-          → getD (take room (character font plain hidden before p) ++ painted font plain hidden shown (room - 12) ps) j 0
-          ≡ cond (cond (ltb j 12) (eqb j 0 && crossesAfter font hidden before p) (inSeamAfter font hidden shown ps (j - 12))) 8
-          (getD (take room (character font plain hidden 0 p) ++ apart font plain hidden (room - 12) ps) j 0)
-      by (yes l) later = rw (lt-ltb j 12 l) (at before _ l ∙ column-is before p j ∙ ap (cond (eqb j 0 && crossesAfter font hidden before p) 8) (sym (at 0 _ l)))
+          → (j - 12 < room - 12 → getD (painted font plain hidden (shownOf font hidden q) (room - 12) ps) (j - 12) 0
+          ≡ cond (inSeam font hidden (q ∷ ps) (12 + (j - 12))) 8 (getD (apart font plain hidden (room - 12) ps) (j - 12) 0))
+          → getD (take room (character font plain hidden before q) ++ painted font plain hidden (shownOf font hidden q) (room - 12) ps) j 0
+          ≡ cond (inSeam font hidden (p ∷ q ∷ ps) (12 + j)) 8 (getD (take room (character font plain hidden 0 q) ++ apart font plain hidden (room - 12) ps) j 0)
+      by (yes l) later =
+          column-in font plain hidden before room q _ j h l
+          ∙ column-is p q ps j l
+          ∙ ap (cond (inSeam font hidden (p ∷ q ∷ ps) (12 + j)) 8) (sym (column-in font plain hidden 0 room q _ j h l))
       by (no l) later =
-          let m : 12 ≤ j = omega arith in
-          rw (le-ltb j 12 m)
-          (past before _ m ∙ later (omega arith) ∙ ap (cond (inSeamAfter font hidden shown ps (j - 12)) 8) (sym (past 0 _ m)))
+          let same : 12 + (j - 12) ≡ 12 + j - 12 = omega arith in
+          column-past font plain hidden before room q _ j h (omega arith)
+          ∙ later (omega arith)
+          ∙ rw (ne-eqb (12 + j) 12 (omega arith), same, column-past font plain hidden 0 room q (apart font plain hidden (room - 12) ps) j h (omega arith))
 
-  -- nothing stands to the left of the first
-  row-seams : (room : ℕ) (row : List Place) (j : ℕ) → j < room
+  row-is : (room : ℕ) (row : List Place) (j : ℕ) → j < room
       → getD (painted font plain hidden 0 room row) j 0 ≡ cond (inSeam font hidden row j) 8 (getD (apart font plain hidden room row) j 0)
-  row-seams room row j h =
-      row-is 0 room row j h ∙ ap (λ (t : Bool). cond t 8 (getD (apart font plain hidden room row) j 0)) (seam-first font hidden row j)
+  unfolding painted apart inSeam
+  row-is room [] j h = refl
+  row-is room (p ∷ ps) j h = by (decLt j 12)
+    where
+      by : Dec (j < 12)
+          → getD (take room (character font plain hidden 0 p) ++ painted font plain hidden (shownOf font hidden p) (room - 12) ps) j 0
+          ≡ cond (inSeam font hidden (p ∷ ps) j) 8 (getD (take room (character font plain hidden 0 p) ++ apart font plain hidden (room - 12) ps) j 0)
+      by (yes l) =
+          rw (none-first p ps j l) (column-in font plain hidden 0 room p _ j h l ∙ sym (column-in font plain hidden 0 room p _ j h l))
+      by (no l) =
+          let same : 12 + (j - 12) ≡ j = omega arith in
+          column-past font plain hidden 0 room p _ j h (omega arith)
+          ∙ past-is p ps (room - 12) (j - 12) (omega arith)
+          ∙ rw (same, column-past font plain hidden 0 room p (apart font plain hidden (room - 12) ps) j h (omega arith))
 
 -- ---- a line
 
@@ -156,6 +117,9 @@ seams s font f row x h = by (s .osd)
     first : ℕ
     first = firstPixelOf (s .dd)
 
+    w : ℕ
+    w = widthOf (s .ld)
+
     plain : ℕ
     plain = plainOf (s .fbk)
 
@@ -163,29 +127,24 @@ seams s font f row x h = by (s .osd)
     hidden = hiddenIn (s .fl) f
 
     margin : List ℕ
-    margin = replicate (min first (widthOf (s .ld))) plain
+    margin = replicate (min first w) plain
 
-    long : length margin ≡ min first (widthOf (s .ld))
-    long = length-replicate (min first (widthOf (s .ld))) plain
+    long : length margin ≡ min first w
+    long = length-replicate (min first w) plain
 
     drawn : Dec (x < first)
-        → getD (margin ++ painted font plain hidden 0 (widthOf (s .ld) - first) row) x 0
-        ≡ cond (leb first x && inSeam font hidden row (x - first)) 8 (getD (margin ++ apart font plain hidden (widthOf (s .ld) - first) row) x 0)
-    drawn (yes l) =
-        let before : x < length margin = omega (arith, long) in
-        rw (lt-leb first x l) (List·getD-append margin _ 0 x before ∙ sym (List·getD-append margin _ 0 x before))
+        → getD (margin ++ painted font plain hidden 0 (w - first) row) x 0
+        ≡ cond (leb first x && inSeam font hidden row (x - first)) 8 (getD (margin ++ apart font plain hidden (w - first) row) x 0)
+    drawn (yes l) = rw (lt-leb first x l) (at-front margin _ first w x long h l ∙ sym (at-front margin _ first w x long h l))
     drawn (no l) =
-        let past : x ≡ length margin + (x - first) = omega (arith, long) in
-        let after : (rest : List ℕ) → getD (margin ++ rest) x 0 ≡ getD rest (x - first) 0 =
-        λ rest. ap (λ (i : ℕ). getD (margin ++ rest) i 0) past ∙ getD-append-add margin rest (x - first) 0 in
-        rw (le-leb first x (omega arith))
-        (after _
-        ∙ row-seams font plain hidden (widthOf (s .ld) - first) row (x - first) (omega arith)
-        ∙ ap (cond (inSeam font hidden row (x - first)) 8) (sym (after _)))
+        let past : first ≤ x = omega arith in
+        rw (le-leb first x past)
+        (at-rest margin _ first w x long h past
+        ∙ row-is font plain hidden (w - first) row (x - first) (omega arith)
+        ∙ ap (cond (inSeam font hidden row (x - first)) 8) (sym (at-rest margin _ first w x long h past)))
 
     by : (o : Bool)
-        → getD (cond o (margin ++ painted font plain hidden 0 (widthOf (s .ld) - first) row) (replicate (widthOf (s .ld)) 0)) x 0
-        ≡ cond (o && (leb first x && inSeam font hidden row (x - first))) 8
-        (getD (cond o (margin ++ apart font plain hidden (widthOf (s .ld) - first) row) (replicate (widthOf (s .ld)) 0)) x 0)
+        → getD (cond o (margin ++ painted font plain hidden 0 (w - first) row) (replicate w 0)) x 0
+        ≡ cond (o && (leb first x && inSeam font hidden row (x - first))) 8 (getD (cond o (margin ++ apart font plain hidden (w - first) row) (replicate w 0)) x 0)
     by true = drawn (decLt x first)
     by false = refl

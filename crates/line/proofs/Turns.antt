@@ -21,7 +21,6 @@ use Rattle.glyph.specs.Glyph.{endsLine, glyphOf, inRam}
 use Rattle.glyph.specs.Words.{wordIn}
 use Rattle.glyph.proofs.Laws.{word-low}
 use Rattle.paint.specs.declared.Drawn.{Drawn}
-use Rattle.paint.specs.Pixels.{shownBits, twelveColumns}
 use Rattle.paint.specs.Tables.{columnPixels, CharacterDrawn}
 use Rattle.line.specs.declared.Pen.{Pen}
 use Rattle.line.proofs.Laws.{character-length, painted-length}
@@ -48,7 +47,7 @@ unfolding glyphOf inRam cells
 no-slice high s ram e = rw (eqb-true high 255 e)
 
 -- a code whose word was looked up
-module _ (ram font : List ℕ) (at : ℕ) (pen : Pen) (before : ℕ) (w : Word) (h : w ≡ wordIn ram font (getD ram (at + 1) 0) (pen .slice)) where
+module _ (ram font : List ℕ) (at : ℕ) (pen : Pen) (w : Word) (h : w ≡ wordIn ram font (getD ram (at + 1) 0) (pen .slice)) where
   ends-line : w .ends ≡ endsLine (getD ram (at + 1) 0)
   unfolding wordIn
   ends-line = ap (λ (x : Word). x .ends) h
@@ -62,8 +61,8 @@ module _ (ram font : List ℕ) (at : ℕ) (pen : Pen) (before : ℕ) (w : Word) 
   word-fits = omega (arith, word-reads, glyph-most (getD ram (at + 1) 0) (pen .slice) ram)
 
   -- the end of line
-  pub code-ended : (drawn : Drawn) → w .ends ≡ true → CodeShown ram font at pen before (record { ended = true; cells = 2; drawn = drawn })
-  code-ended drawn e =
+  pub code-ended : (before : ℕ) (drawn : Drawn) → w .ends ≡ true → CodeShown ram font at pen before (record { ended = true; cells = 2; drawn = drawn })
+  code-ended before drawn e =
       let end : endsLine (getD ram (at + 1) 0) ≡ true = sym ends-line ∙ e in
       record {
         ends = sym end;
@@ -74,20 +73,12 @@ module _ (ram font : List ℕ) (at : ℕ) (pen : Pen) (before : ℕ) (w : Word) 
 
   -- a character, of the word's low twelve bits
   pub code-shown : ((i : ℕ) → getD ram i 0 < 256) → ((i : ℕ) → getD font i 0 < 256) → w .ends ≡ false
-      → (drawn : Drawn) → CharacterDrawn (pen .plain) (pen .hidden) (getD ram at 0) before (w .bits % 4096) drawn
+      → (before : ℕ) (drawn : Drawn) → CharacterDrawn (pen .plain) (pen .hidden) (getD ram at 0) before (w .bits % 4096) drawn
       → CodeShown ram font at pen before (record { ended = false; cells = 2 + w .cells; drawn = drawn })
   unfolding wordIn shownOf character
-  code-shown b f e drawn d =
-      let bits : shownBits (pen .hidden) (getD ram at 0) (w .bits % 4096) ≡ shownOf font (pen .hidden) (placeAt ram pen at) =
-      ap (shownBits (pen .hidden) (getD ram at 0))
-      (ap (λ (x : Word). x .bits % 4096) h ∙ word-low ram font (getD ram (at + 1) 0) (pen .slice) b f)
-      in
-      record {
-        ends = sym e ∙ ends-line;
-        reads = ap (λ (n : ℕ). 2 + n) word-reads;
-        bits = λ n. d .bits ∙ bits;
-        pixels = λ n. d .pixels ∙ ap (twelveColumns (pen .plain) (getD ram at 0) before) bits;
-      }
+  code-shown b f e before drawn d =
+      let shown = rw (ap (λ (x : Word). x .bits % 4096) h ∙ word-low ram font (getD ram (at + 1) 0) (pen .slice) b f) at d in
+      record { ends = sym e ∙ ends-line; reads = ap (λ (n : ℕ). 2 + n) word-reads; bits = λ n. shown .bits; pixels = λ n. shown .pixels }
 
 -- a row from an address is the row from the even address of its two bytes
 codes-even : (n : ℕ) (s : Slice) (a : ℕ) → codes n s (even a) ≡ codes n s a
@@ -202,11 +193,11 @@ module _ (ram font : List ℕ) (address : ℕ) (pen : Pen) (first w : ℕ) (out�
 
   module _ (x a n bits : ℕ) (out : List ℕ) (i : RowUpTo ram font address pen first w out₀ x a n bits out) (fits : w ≤ length out₀) where
     -- the room that was left is written: a part up to e, and what is left then
-    written : (e b m now : ℕ) (part : List ℕ) → x ≤ e → e ≤ w → length part ≡ e - x → even b ≡ b
-        → roomOf ram font pen bits (w - x) a ≡ part ++ roomOf ram font pen now (w - e) b
+    written : (e b m shown : ℕ) (part : List ℕ) → x ≤ e → e ≤ w → length part ≡ e - x → even b ≡ b
+        → roomOf ram font pen bits (w - x) a ≡ part ++ roomOf ram font pen shown (w - e) b
         → length (cells ram (rowIn pen (w - x) a)) ≡ m + length (cells ram (rowIn pen (w - e) b))
-        → RowUpTo ram font address pen first w out₀ e b (n + m) now (putMid x (e - x) out part)
-    written e b m now part h k l p room reads =
+        → RowUpTo ram font address pen first w out₀ e b (n + m) shown (putMid x (e - x) out part)
+    written e b m shown part h k l p room reads =
         let long : length (take x out ++ part) ≡ e = simp (length-append, length-take, l) (omega (arith, i .long)) in
         let before : take e (putMid x (e - x) out part) ≡ take x out ++ part =
         ap (take e) (sym (append-assoc (take x out) part (drop (e - x) (drop x out)))) ∙ take-at (take x out ++ part) (drop (e - x) (drop x out)) e long
@@ -216,8 +207,8 @@ module _ (ram font : List ℕ) (address : ℕ) (pen : Pen) (first w : ℕ) (out�
           long = same-len-mid x (e - x) out part (l ∙ sym (mid-len x e out (omega (arith, i .long)))) ∙ i .long;
           paired = p;
           front =
-              ap (λ (y : List ℕ). y ++ roomOf ram font pen now (w - e) b) before
-              ∙ append-assoc (take x out) part (roomOf ram font pen now (w - e) b)
+              ap (λ (y : List ℕ). y ++ roomOf ram font pen shown (w - e) b) before
+              ∙ append-assoc (take x out) part (roomOf ram font pen shown (w - e) b)
               ∙ ap (λ (y : List ℕ). take x out ++ y) (sym room)
               ∙ i .front;
           back =
@@ -256,9 +247,7 @@ module _ (ram font : List ℕ) (address : ℕ) (pen : Pen) (first w : ℕ) (out�
         here : (roomOf ram font pen bits (w - x) a ≡ take (w - x) twelve ++ roomOf ram font pen (c .drawn .bits) (w - x - 12) (even (a + 2)))
             × (length (cells ram (rowIn pen (w - x) a)) ≡ c .cells + length (cells ram (rowIn pen (w - x - 12) (even (a + 2)))))
         unfolding twelve
-        here =
-            let r = room-on ram font pen bits (w - x) a (i .paired) (omega arith) (sym (d .ends) ∙ on) in
-            (r .0 ∙ ap (λ (b : ℕ). take (w - x) twelve ++ roomOf ram font pen b (w - x - 12) (even (a + 2))) (sym (d .bits on)), r .1 ∙ ap (λ (m : ℕ). m + length (cells ram (rowIn pen (w - x - 12) (even (a + 2))))) (sym (d .reads)))
+        here = rw (d .bits on, d .reads) (room-on ram font pen bits (w - x) a (i .paired) (omega arith) (sym (d .ends) ∙ on))
 
         long : length twelve ≡ 12
         unfolding twelve

@@ -1,8 +1,8 @@
 -- Four columns at a time: the bytes of the numbers that the tables make are the columns.
 -- Assumes nothing.
 use Prim.Native.Nat.{ℕ, zero, suc, _+_, _-_, _*_, _/_, _%_, _^_, _≤_, _<_}
-use mathlib.Core.Path.{_≡_, refl, sym, ap, ap₂, _∙_, subst}
-use mathlib.Core.Bool.{Bool, true, false, cond, _&&_, true≢false, false≢true}
+use mathlib.Core.Path.{_≡_, refl, sym, ap, ap₂, _∙_}
+use mathlib.Core.Bool.{Bool, true, false, cond, _&&_}
 use mathlib.Core.List.{List, [], _∷_, _++_}
 use native.Mathlib.Nat.{div-div-eq-div-mul}
 use native.Mathlib.Omega.{arith}
@@ -58,14 +58,10 @@ xor-again = bin-ind (λ (a : ℕ). (b : ℕ) → bitXor a (bitXor a b) ≡ b) ba
 abbrev lane : ℕ → ℕ → ℕ
 lane k n = n / 2 ^ k % 2 ^ 8
 
-lane-xor : (k a b : ℕ) → lane k (bitXor a b) ≡ bitXor (lane k a) (lane k b)
-lane-xor k a b = ap (λ (n : ℕ). n % 2 ^ 8) (xor-shr a b k) ∙ xor-mod (a / 2 ^ k) (b / 2 ^ k) 8
-
-lane-or : (k a b : ℕ) → lane k (bitOr a b) ≡ bitOr (lane k a) (lane k b)
-lane-or k a b = ap (λ (n : ℕ). n % 2 ^ 8) (or-shr a b k) ∙ or-mod (a / 2 ^ k) (b / 2 ^ k) 8
-
-lane-and : (k a b : ℕ) → lane k (bitAnd a b) ≡ bitAnd (lane k a) (lane k b)
-lane-and k a b = ap (λ (n : ℕ). n % 2 ^ 8) (and-shr a b k) ∙ and-mod (a / 2 ^ k) (b / 2 ^ k) 8
+-- of an operation that goes bit by bit
+lane-of : (op : ℕ → ℕ → ℕ) → ((a b k : ℕ) → op a b / 2 ^ k ≡ op (a / 2 ^ k) (b / 2 ^ k)) → ((a b k : ℕ) → op a b % 2 ^ k ≡ op (a % 2 ^ k) (b % 2 ^ k))
+    → (k a b : ℕ) → lane k (op a b) ≡ op (lane k a) (lane k b)
+lane-of op shr low k a b = ap (λ (n : ℕ). n % 2 ^ 8) (shr a b k) ∙ low (a / 2 ^ k) (b / 2 ^ k) 8
 
 -- the bytes of a number that is made of four
 module _ (a b c d : ℕ) (ha : a < 256) (hb : b < 256) (hc : c < 256) (hd : d < 256) where
@@ -106,11 +102,8 @@ module _ (a b c d : ℕ) (ha : a < 256) (hb : b < 256) (hc : c < 256) (hd : d < 
 of-four : (p : ℕ) → ofPixel p ≡ inFour p p p p
 of-four p = omega arith
 
-times-four : (a b c d : ℕ) → 255 * inFour a b c d ≡ inFour (255 * a) (255 * b) (255 * c) (255 * d)
-times-four a b c d = omega arith
-
-blacks-four : (a b c d : ℕ) → 8 * inFour a b c d ≡ inFour (8 * a) (8 * b) (8 * c) (8 * d)
-blacks-four a b c d = omega arith
+times-four : (n a b c d : ℕ) → n * inFour a b c d ≡ inFour (n * a) (n * b) (n * c) (n * d)
+times-four n a b c d = omega arith
 
 -- a whole mask keeps a byte
 and-whole : (a : ℕ) → a < 256 → bitAnd 255 a ≡ a
@@ -136,10 +129,8 @@ shaded : (fore plain : ℕ) → IsPlain plain → (bit left : ℕ) → bit < 2 �
     → bitOr (cond (eqb bit 1) fore plain) (8 * (left - bit)) ≡ cond (eqb bit 1) fore (cond (eqb left 1) 8 plain)
 shaded fore plain p zero zero h k = or-zero-r plain
 shaded fore plain p zero (suc zero) h k = black-over plain p
-shaded fore plain p (suc zero) zero h k = or-zero-r fore
-shaded fore plain p (suc zero) (suc zero) h k = or-zero-r fore
 shaded fore plain p zero (suc (suc n)) h k = absurd (omega arith)
-shaded fore plain p (suc zero) (suc (suc n)) h k = absurd (omega arith)
+shaded fore plain p (suc zero) left h k = let none : left - 1 ≡ 0 = omega arith in rw none (or-zero-r fore)
 shaded fore plain p (suc (suc n)) left h k = absurd (omega arith)
 
 -- ---- four columns
@@ -176,11 +167,11 @@ module _ (i : ℕ) where
       record {
         of-pixel = λ p h. ap (lane k) (of-four p) ∙ byte p p p p h h h h ∙ same p;
         faces =
-            ap (lane k) (times-four (i / 8 % 2) (i / 4 % 2) (i / 2 % 2) (i % 2))
+            ap (lane k) (times-four 255 (i / 8 % 2) (i / 4 % 2) (i / 2 % 2) (i % 2))
             ∙ byte _ _ _ _ (bit-mask (i / 8)) (bit-mask (i / 4)) (bit-mask (i / 2)) (bit-mask i)
             ∙ f;
         casts =
-            ap (lane k) (blacks-four (i / 16 % 2 - i / 8 % 2) (i / 8 % 2 - i / 4 % 2) (i / 4 % 2 - i / 2 % 2) (i / 2 % 2 - i % 2))
+            ap (lane k) (times-four 8 (i / 16 % 2 - i / 8 % 2) (i / 8 % 2 - i / 4 % 2) (i / 4 % 2 - i / 2 % 2) (i / 2 % 2 - i % 2))
             ∙ byte _ _ _ _ (beside-mask (i / 16) (i / 8)) (beside-mask (i / 8) (i / 4)) (beside-mask (i / 4) (i / 2)) (beside-mask (i / 2) i)
             ∙ g;
         one = h;
@@ -207,6 +198,10 @@ four-columns ink i n h =
     ap₂ (λ (x : ℕ) (l : List ℕ). x ∷ l) (first ∙ h 0 _ _ (column-0 i))
     (ap₂ (λ (x : ℕ) (l : List ℕ). x ∷ l) (h 8 _ _ (column-1 i)) (ap₂ (λ (x y : ℕ). x ∷ y ∷ []) (h 16 _ _ (column-2 i)) (h 24 _ _ (column-3 i))))
 
+-- where shadow is no other pixel than background, the bit to the left does not matter
+pixel-same : (ink : Ink) (bit left : ℕ) → ink .cast ≡ ink .back → pixel ink bit left ≡ cond (eqb bit 1) (ink .fore) (ink .back)
+pixel-same ink bit left e = rw (e, cond-same (eqb left 1))
+
 -- the paint of an ink, and the bits that are shown
 abbrev painting : Ink → ℕ → Paint
 painting ink kept =
@@ -216,26 +211,24 @@ module _ (ink : Ink) (kept : ℕ) (below : Inks 256 ink) where
   lane-solid : (k i bit left : ℕ) → Column k i bit left → lane k (solid (painting ink kept) i) ≡ cond (eqb bit 1) (ink .fore) (ink .back)
   unfolding solid
   lane-solid k i bit left c =
-      lane-xor k _ _
+      lane-of bitXor xor-shr xor-mod k _ _
       ∙ ap₂ bitXor (c .of-pixel (ink .back) (below .back))
-      (lane-and k _ _
+      (lane-of bitAnd and-shr and-mod k _ _
       ∙ ap₂ bitAnd (c .faces)
-      (lane-xor k (ofPixel (ink .back)) (ofPixel (ink .fore))
+      (lane-of bitXor xor-shr xor-mod k (ofPixel (ink .back)) (ofPixel (ink .fore))
       ∙ ap₂ bitXor (c .of-pixel (ink .back) (below .back)) (c .of-pixel (ink .fore) (below .fore))))
       ∙ chosen (ink .fore) (ink .back) (below .fore) (below .back) bit (c .one)
 
   -- where shadow is no other pixel than background
   lane-same : (k i bit left : ℕ) → ink .cast ≡ ink .back → Column k i bit left → lane k (solid (painting ink kept) i) ≡ pixel ink bit left
-  lane-same k i bit left e c =
-      lane-solid k i bit left c
-      ∙ ap (cond (eqb bit 1) (ink .fore)) (sym (ap (λ (x : ℕ). cond (eqb left 1) x (ink .back)) e ∙ cond-same (eqb left 1) (ink .back)))
+  lane-same k i bit left e c = lane-solid k i bit left c ∙ sym (pixel-same ink bit left e)
 
   -- where shadow is black, over plain
   lane-shadowed : (k i bit left : ℕ) → ink .cast ≡ 8 → IsPlain (ink .back) → Column k i bit left
       → lane k (shadowed (painting ink kept) i) ≡ pixel ink bit left
   unfolding shadowed
   lane-shadowed k i bit left e p c =
-      lane-or k _ _
+      lane-of bitOr or-shr or-mod k _ _
       ∙ ap₂ bitOr (lane-solid k i bit left c) (c .casts)
       ∙ shaded (ink .fore) (ink .back) p bit left (c .one) (c .two)
       ∙ ap (λ (x : ℕ). cond (eqb bit 1) (ink .fore) (cond (eqb left 1) x (ink .back))) (sym e)
@@ -277,8 +270,7 @@ twelve-columns ink four bits left n h k e f =
 left-same : (n : ℕ) (ink : Ink) (bits left : ℕ) → ink .cast ≡ ink .back → columns (suc n) ink bits 0 ≡ columns (suc n) ink bits left
 unfolding columns
 left-same n ink bits left e =
-    ap (λ (x : ℕ). cond (eqb (bits / 2 ^ n % 2) 1) (ink .fore) x ∷ columns n ink bits (bits / 2 ^ n % 2))
-    (sym (ap (λ (x : ℕ). cond (eqb left 1) x (ink .back)) e ∙ cond-same (eqb left 1) (ink .back)))
+    ap (λ (x : ℕ). x ∷ columns n ink bits (bits / 2 ^ n % 2)) (sym (pixel-same ink (bits / 2 ^ n % 2) left e))
 
 -- ---- what a code draws with
 
@@ -297,45 +289,44 @@ module _ (plain : ℕ) (hidden : Bool) (low : ℕ) where
   paint-is = ap (λ (b : ℕ). record { back = b; fore = bitXor b (ofPixel (8 + low / 16 % 8)); kept = shows hidden (low / 16) }) back-is
 
   -- a shadowed character's shadow is black, over plain; with another there is none
-  takes-shadow : takesShadow low ≡ true → (inkOf plain low .cast ≡ 8) × (inkOf plain low .back ≡ plain)
+  shadow-is : cond (takesShadow low)
+      ((inkOf plain low .cast ≡ 8) × (inkOf plain low .back ≡ plain))
+      (inkOf plain low .cast ≡ inkOf plain low .back)
   unfolding inkOf
-  takes-shadow = by (eqb (low / 8 % 2) 0) (eqb (low / 2 % 2) 0)
+  shadow-is = by (eqb (low / 8 % 2) 0) (eqb (low / 2 % 2) 0)
     where
-      by : (s t : Bool) → cond s false (cond t false true) ≡ true
-          → (cond s (8 + low % 8) (cond t plain 8) ≡ 8) × (cond s (8 + low % 8) (cond t plain plain) ≡ plain)
-      by true t e = absurd (false≢true e)
-      by false true e = absurd (false≢true e)
-      by false false e = (refl, refl)
+      by : (s t : Bool)
+          → cond (cond s false (cond t false true))
+          ((cond s (8 + low % 8) (cond t plain 8) ≡ 8) × (cond s (8 + low % 8) (cond t plain plain) ≡ plain))
+          (cond s (8 + low % 8) (cond t plain 8) ≡ cond s (8 + low % 8) (cond t plain plain))
+      by true t = refl
+      by false true = refl
+      by false false = (refl, refl)
 
-  takes-none : takesShadow low ≡ false → inkOf plain low .cast ≡ inkOf plain low .back
-  unfolding inkOf
-  takes-none = by (eqb (low / 8 % 2) 0) (eqb (low / 2 % 2) 0)
-    where
-      by : (s t : Bool) → cond s false (cond t false true) ≡ false → cond s (8 + low % 8) (cond t plain 8) ≡ cond s (8 + low % 8) (cond t plain plain)
-      by true t e = refl
-      by false true e = refl
-      by false false e = absurd (true≢false e)
-
-  module _ (h : IsPlain plain) (bits left : ℕ) (k : bits < 4096) (l : left < 2) where
+  module _ (h : IsPlain plain) (bits left : ℕ) (k : bits < 4096) where
     below : Inks 256 (inkOf plain low)
     below = ink-below 256 plain low (omega arith) (omega (arith, h .1))
 
-    drawn-shadowed : takesShadow low ≡ true
+    drawn-shadowed : takesShadow low ≡ true → left < 2
         → columnPixels (inFours (shadowed (paintOf plain hidden low)) (bits + left * 4096)) ≡ columns 12 (inkOf plain low) bits left
-    drawn-shadowed e =
-        let t = takes-shadow e in
+    drawn-shadowed e l =
+        let t : (inkOf plain low .cast ≡ 8) × (inkOf plain low .back ≡ plain) = rw e at shadow-is in
         ap (λ (p : Paint). columnPixels (inFours (shadowed p) (bits + left * 4096))) paint-is
         ∙ twelve-columns (inkOf plain low) _ bits left _ k l refl
-        (λ i n bit beside. lane-shadowed (inkOf plain low) (shows hidden (low / 16)) below n i bit beside (t .0) (subst IsPlain (sym (t .1)) h))
+        (λ i n bit beside. lane-shadowed (inkOf plain low) (shows hidden (low / 16)) below n i bit beside (t .0) (rw (t .1) h))
 
     drawn-solid : takesShadow low ≡ false → columnPixels (inFours (solid (paintOf plain hidden low)) bits) ≡ columns 12 (inkOf plain low) bits left
     drawn-solid e =
+        let none : inkOf plain low .cast ≡ inkOf plain low .back = rw e at shadow-is in
         ap (λ (p : Paint). columnPixels (inFours (solid p) bits)) paint-is
         ∙ twelve-columns (inkOf plain low) _ bits 0 bits k (omega arith) (omega arith)
-        (λ i n bit beside. lane-same (inkOf plain low) (shows hidden (low / 16)) below n i bit beside (takes-none e))
-        ∙ left-same 11 (inkOf plain low) bits left (takes-none e)
+        (λ i n bit beside. lane-same (inkOf plain low) (shows hidden (low / 16)) below n i bit beside none)
+        ∙ left-same 11 (inkOf plain low) bits left none
 
 -- ---- the bits that are shown
+
+bits-most : (hidden : Bool) (low word : ℕ) → shownBits hidden low (word % 4096) < 4096
+bits-most hidden low word = either (λ (n : ℕ). n < 4096) (eqb (low / 128 % 2) 1 && hidden) _ _ (omega arith) (omega arith)
 
 module _ (hidden : Bool) (low word : ℕ) (h : low < 256) where
   -- FL is the low byte's top bit
@@ -357,15 +348,12 @@ module _ (hidden : Bool) (low word : ℕ) (h : low < 256) where
       by true = and-zero-r word
       by false = and-mask word 12
 
-  bits-most : shownBits hidden low (word % 4096) < 4096
-  bits-most = either (λ (n : ℕ). n < 4096) (eqb (low / 128 % 2) 1 && hidden) _ _ (omega arith) (omega arith)
+  pub bits-fit : (plain : ℕ) (p : Paint) → p ≡ paintOf plain hidden low → bitAnd word (p .kept) < 4096
+  bits-fit plain p e = rw (bits-are plain p e) (bits-most hidden low word)
 
 -- ---- a character
 
 module _ (plain : ℕ) (hidden : Bool) (low before word : ℕ) (h : IsPlain plain) (k : low < 256) (p : Paint) (e : p ≡ paintOf plain hidden low) where
-  pub bits-fit : bitAnd word (p .kept) < 4096
-  bits-fit = subst (λ (n : ℕ). n < 4096) (sym (bits-are hidden low word k plain p e)) (bits-most hidden low word k)
-
   -- the code's paint, and the bits that are shown
   drawn-with : (made : Paint → ℕ → Fours) (c : Fours) → c ≡ made p (bitAnd word (p .kept))
       → columnPixels (made (paintOf plain hidden low) (shownBits hidden low (word % 4096)))
@@ -379,13 +367,13 @@ module _ (plain : ℕ) (hidden : Bool) (low before word : ℕ) (h : IsPlain plai
       → CharacterDrawn plain hidden low before (word % 4096) (record { bits = bitAnd word (p .kept); columns = c })
   character-shadowed c q s =
       drawn-with (λ (x : Paint) (b : ℕ). inFours (shadowed x) (b + before % 2 * 4096)) c q
-      (unfold twelveColumns in drawn-shadowed plain hidden low h _ (before % 2) (bits-most hidden low word k) (omega arith) s)
+      (unfold twelveColumns in drawn-shadowed plain hidden low h _ (before % 2) (bits-most hidden low word) s (omega arith))
 
   pub character-solid : (c : Fours) → c ≡ inFours (solid p) (bitAnd word (p .kept)) → takesShadow low ≡ false
       → CharacterDrawn plain hidden low before (word % 4096) (record { bits = bitAnd word (p .kept); columns = c })
   character-solid c q s =
       drawn-with (λ (x : Paint) (b : ℕ). inFours (solid x) b) c q
-      (unfold twelveColumns in drawn-solid plain hidden low h _ (before % 2) (bits-most hidden low word k) (omega arith) s)
+      (unfold twelveColumns in drawn-solid plain hidden low h _ (before % 2) (bits-most hidden low word) s)
 
 -- ---- four stores, and three parts of four
 

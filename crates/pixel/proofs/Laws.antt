@@ -123,10 +123,9 @@ module _ (ram : List ℕ) (a : ℕ) where
   unfolding ended
   end-last = refl
 
-  pub end-later : (k : ℕ) → endsLine (pairAt ram a .high) ≡ false → 1 ≤ k → ended (k - 1) ram (next a) ≡ ended k ram a
+  pub end-later : (k : ℕ) → endsLine (pairAt ram a .high) ≡ false → ended (suc k) ram a ≡ ended k ram (next a)
   unfolding ended
-  end-later zero e h = absurd (omega arith)
-  end-later (suc k) e h = let at : suc k - 1 ≡ k = omega arith in rw (e, at)
+  end-later k e = rw e
 
 -- what the glyph lookup gives of a code
 pub bits-glyph : (ram f : List ℕ) (high : ℕ) (s : Slice) → sliceBits ram f high (s .0) ≡ bitsOf f (value ram (glyphOf high s))

@@ -9,8 +9,7 @@ use native.Mathlib.Decide.{decLt}
 use native.Mathlib.Omega.{arith}
 use borrow.Author.Tests.{lt-ltb, le-ltb}
 use lib.Dec.{ltb}
-use lib.ListN.{length, getD, replicate, length-replicate, getD-replicate, List·getD-append}
-use lib.Seq.{getD-append-add}
+use lib.ListN.{length, getD, replicate, length-replicate, getD-replicate}
 use Rattle.cells.specs.Reading.{Reading, done, value}
 use Rattle.registers.specs.declared.Registers.{Registers}
 use Rattle.registers.specs.declared.Settings.{Settings}
@@ -28,6 +27,7 @@ use Rattle.paint.specs.Pixels.{plainOf}
 use Rattle.line.specs.declared.Pen.{Pen}
 use Rattle.line.specs.Line.{Place, Scanned, rowBy, shownBy, shownRow, scan, paint}
 use Rattle.line.specs.Contracts.{roomOf}
+use Rattle.line.proofs.Laws.{at-front, at-rest}
 use Rattle.line.proofs.Strips.{paint-none, hasRow, no-row, still-row, scan-value}
 use Rattle.pixel.specs.declared.Pair.{Pair}
 use Rattle.pixel.specs.declared.StripLine.{StripLine}
@@ -181,6 +181,9 @@ module _ (ram font : List ℕ) (s : Settings) (f x : ℕ) (inside : x < widthOf 
         margin : List ℕ
         margin = replicate (min first (widthOf (s .ld))) (plainOf (s .fbk))
 
+        long : length margin ≡ min first (widthOf (s .ld))
+        long = length-replicate (min first (widthOf (s .ld))) (plainOf (s .fbk))
+
         room : List ℕ
         room = roomOf ram font pen 0 (widthOf (s .ld) - first) address
 
@@ -190,14 +193,12 @@ module _ (ram font : List ℕ) (s : Settings) (f x : ℕ) (inside : x < widthOf 
             (rowPixel ram font (rowOf pen address) (x - first))
         by (yes l) =
             rw (lt-ltb x first l)
-            (List·getD-append margin room 0 x (omega (arith, length-replicate (min first (widthOf (s .ld))) (plainOf (s .fbk))))
+            (at-front margin room first (widthOf (s .ld)) x long inside l
             ∙ getD-replicate (min first (widthOf (s .ld))) x (plainOf (s .fbk)) 0 (omega arith))
         by (no l) =
-            let past : x ≡ length margin + (x - first) = omega (arith, length-replicate (min first (widthOf (s .ld))) (plainOf (s .fbk))) in
             rw (le-ltb x first (omega arith))
-            (ap (λ (i : ℕ). getD (margin ++ room) i 0) past
-            ∙ getD-append-add margin room (x - first) 0
-            ∙ room-pixel ram font pen (x - first) (widthOf (s .ld) - first) address (omega arith) paired)
+            (at-rest margin room first (widthOf (s .ld)) x long inside (omega arith)
+            ∙ room-pixel ram font pen address (x - first) (widthOf (s .ld) - first) (omega arith) paired)
 
   characters-pixel : (at : StripLine) → s .osd ≡ true → showsCodes (at .descriptor .high) ≡ true
       → getD (paint s font f (value ram (shownRow s (shownStrip ram (s .ch) at)))) x 0 ≡ charactersPixel s ram font f at x

@@ -1,28 +1,28 @@
 -- The pixel of a row is the one that the painted row has there.
 -- Assumes nothing.
-use Prim.Native.Nat.{ℕ, zero, suc, _+_, _-_, _*_, _/_, _%_, _^_, _<_}
+use Prim.Native.Nat.{ℕ, zero, suc, _+_, _-_, _*_, _/_, _%_, _^_, _≤_, _<_}
 use mathlib.Core.Path.{_≡_, refl, sym, ap, ap₂, _∙_}
 use mathlib.Core.Bool.{Bool, true, false, not, cond, _&&_}
 use mathlib.Core.List.{List}
 use native.Mathlib.Nat.{div-eq-of-lt}
+use native.Mathlib.Decide.{decLt}
 use native.Mathlib.Omega.{arith}
 use borrow.Author.Tests.{lt-ltb}
-use lib.Dec.{eqb, ltb}
-use lib.ListN.{length, getD, take, length-take, getD-replicate, List·getD-append}
+use lib.Dec.{eqb}
+use lib.ListN.{getD, getD-replicate}
 use lib.Pow.{pow-pos}
-use lib.Seq.{getD-take, getD-append-add}
 use Rattle.walk.specs.Walk.{even, next}
 use Rattle.glyph.specs.Glyph.{endsLine, bitsOf}
 use Rattle.paint.specs.Pixels.{Ink, flashes, foreground, background, inkOf, pixel, columns, shownBits, twelveColumns}
 use Rattle.line.specs.declared.Pen.{Pen}
 use Rattle.line.specs.Line.{shownOf, character}
 use Rattle.line.specs.Contracts.{placeAt, roomOf}
-use Rattle.line.proofs.Laws.{character-length}
+use Rattle.line.proofs.Laws.{column-in, column-past}
 use Rattle.line.proofs.Turns.{room-ended, room-on}
 use Rattle.pixel.specs.declared.Pair.{Pair}
 use Rattle.pixel.specs.declared.Row.{Row}
-use Rattle.pixel.specs.Pixel.{pairAt, ended, sliceBits, isForeground, codeOf, foregroundAt, rowPixel}
-use Rattle.pixel.proofs.Laws.{pair-same, end-here, end-later, bits-glyph}
+use Rattle.pixel.specs.Pixel.{ended, sliceBits, isForeground, codeOf, foregroundAt, besideAt, rowPixel}
+use Rattle.pixel.proofs.Laws.{end-here, end-last, end-later, bits-glyph}
 
 -- ---- the columns of a character
 
@@ -59,102 +59,23 @@ unfolding inkOf
 inked plain low bit left fore true e f = rw (e, f)
 inked plain low bit left fore false e f = rw (e, f)
 
--- a column of a character's twelve, after the bits to their left
-column-is : (plain : ℕ) (hidden : Bool) (low bits before c : ℕ) → c < 12
-    → getD (twelveColumns plain low before (shownBits hidden low bits)) c 0
-    ≡ cond (isForeground hidden low bits c) (foreground low)
-    (background plain low (cond (ltb 0 c) (isForeground hidden low bits (c - 1)) (eqb (before % 2) 1)))
-unfolding twelveColumns columns
-column-is plain hidden low bits before zero h =
-    inked plain low (shownBits hidden low bits / 2 ^ 11 % 2) (before % 2) _ _ (shown-bit hidden low bits 11 0 refl) refl
-column-is plain hidden low bits before (suc c) h =
-    let shows : ℕ = shownBits hidden low bits in
-    rw (lt-ltb 0 (suc c) (omega arith))
-    (columns-later 12 c (10 - c) (inkOf plain low) shows (before % 2) (omega arith)
-    ∙ inked plain low (shows / 2 ^ (10 - c) % 2) (shows / 2 ^ suc (10 - c) % 2) _ _
-    (shown-bit hidden low bits (10 - c) (suc c) (omega arith))
-    (shown-bit hidden low bits (suc (10 - c)) (suc c - 1) (omega arith)))
+-- a character's columns: the first, after the bits to its left, and those after it
+module _ (plain : ℕ) (hidden : Bool) (low before bits : ℕ) where
+  abbrev shown : ℕ
+  shown = shownBits hidden low bits
 
--- ---- the columns of a row
+  column-first : getD (twelveColumns plain low before shown) 0 0
+      ≡ cond (isForeground hidden low bits 0) (foreground low) (background plain low (eqb (before % 2) 1))
+  unfolding twelveColumns columns
+  column-first = inked plain low (shown / 2 ^ 11 % 2) (before % 2) _ _ (shown-bit hidden low bits 11 0 refl) refl
 
--- the row from its second code on
-abbrev later : Row → Row
-later row = record { address = next (row .address); slice = row .slice; plain = row .plain; hidden = row .hidden }
-
-module _ (ram font : List ℕ) where
-  -- is the line ended, which code is it, is it foreground, and is that to its left?
-  abbrev told : ℕ → Bool → Pair → Bool → Bool → ℕ
-  told plain end code fore beside = cond end plain (cond fore (foreground (code .low)) (background plain (code .low) beside))
-
-  same-told : (plain : ℕ) (s t : Bool) (c d : Pair) (f g b h : Bool) → s ≡ t → c ≡ d → f ≡ g → b ≡ h → told plain s c f b ≡ told plain t d g h
-  same-told plain s t c d f g b h p q r u = cc
-
-  -- the pixel of a row's column, where foreground stands to the left of the first one or not
-  abbrev pixelAfter : Bool → Row → ℕ → ℕ
-  pixelAfter left row j =
-      told (row .plain) (ended (j / 12) ram (row .address)) (codeOf ram row j) (foregroundAt ram font row j)
-      (cond (ltb 0 j) (foregroundAt ram font row (j - 1)) left)
-
-  after-none : (row : Row) (j : ℕ) → pixelAfter false row j ≡ rowPixel ram font row j
-  unfolding rowPixel
-  after-none row j =
-      ap (told (row .plain) (ended (j / 12) ram (row .address)) (codeOf ram row j) (foregroundAt ram font row j))
-      (by (ltb 0 j) (foregroundAt ram font row (j - 1)))
-    where
-      by : (t u : Bool) → cond t u false ≡ (t && u)
-      by true u = refl
-      by false u = refl
-
-  -- a row of which the first code ends the line
-  row-ended : (left : Bool) (row : Row) (j : ℕ) → endsLine (pairAt ram (row .address) .high) ≡ true → pixelAfter left row j ≡ row .plain
-  row-ended left row j e = rw (end-here ram (row .address) (j / 12) e)
-
-  -- a row of which the first code is a character
-  module _ (row : Row) (e : endsLine (pairAt ram (row .address) .high) ≡ false) where
-    abbrev isFore : ℕ → Bool
-    isFore = isForeground (row .hidden) (pairAt ram (row .address) .low) (sliceBits ram font (pairAt ram (row .address) .high) (row .slice .0))
-
-    -- in that character
-    fore-first : (j : ℕ) → j < 12 → foregroundAt ram font row j ≡ isFore j
-    fore-first j h =
-        let code : j / 12 ≡ 0 = omega arith in
-        let column : j % 12 ≡ j = omega arith in
-        let at : row .address + 2 * 0 ≡ row .address = omega arith in
-        rw (code, column, at)
-
-    row-first : (left : Bool) (j : ℕ) → j < 12
-        → pixelAfter left row j
-        ≡ cond (isFore j) (foreground (pairAt ram (row .address) .low))
-        (background (row .plain) (pairAt ram (row .address) .low) (cond (ltb 0 j) (isFore (j - 1)) left))
-    unfolding ended
-    row-first left j h =
-        let code : j / 12 ≡ 0 = omega arith in
-        let at : row .address + 2 * 0 ≡ row .address = omega arith in
-        rw (fore-first j h, fore-first (j - 1) (omega arith), code, at, e)
-
-    -- past it: its last column stands to the left of the next one's first
-    code-later : (i : ℕ) → codeOf ram row (12 + i) ≡ codeOf ram (later row) i
-    code-later i = pair-same ram (row .address + 2 * ((12 + i) / 12)) (next (row .address) + 2 * (i / 12)) (omega arith)
-
-    fore-later : (i : ℕ) → foregroundAt ram font row (12 + i) ≡ foregroundAt ram font (later row) i
-    fore-later i =
-        ap₂ (λ (d : Pair) (c : ℕ). isForeground (row .hidden) (d .low) (sliceBits ram font (d .high) (row .slice .0)) c) (code-later i) (omega arith)
-
-    beside-later : (left : Bool) (i : ℕ)
-        → cond (ltb 0 (12 + i)) (foregroundAt ram font row (12 + i - 1)) left
-        ≡ cond (ltb 0 i) (foregroundAt ram font (later row) (i - 1)) (foregroundAt ram font row 11)
-    beside-later left zero = refl
-    beside-later left (suc i) =
-        let here : 12 + suc i - 1 ≡ 12 + i = omega arith in
-        let there : suc i - 1 ≡ i = omega arith in
-        rw (lt-ltb 0 (12 + suc i) (omega arith), lt-ltb 0 (suc i) (omega arith), here, there) (fore-later i)
-
-    row-later : (left : Bool) (i : ℕ) → pixelAfter left row (12 + i) ≡ pixelAfter (foregroundAt ram font row 11) (later row) i
-    row-later left i =
-        let code : (12 + i) / 12 - 1 ≡ i / 12 = omega arith in
-        same-told (row .plain) _ _ _ _ _ _ _ _
-        (sym (end-later ram (row .address) ((12 + i) / 12) e (omega arith)) ∙ ap (λ (k : ℕ). ended k ram (next (row .address))) code)
-        (code-later i) (fore-later i) (beside-later left i)
+  column-later : (c : ℕ) → c < 11 → getD (twelveColumns plain low before shown) (suc c) 0
+      ≡ cond (isForeground hidden low bits (suc c)) (foreground low) (background plain low (isForeground hidden low bits c))
+  unfolding twelveColumns
+  column-later c h =
+      columns-later 12 c (10 - c) (inkOf plain low) shown (before % 2) (omega arith)
+      ∙ inked plain low (shown / 2 ^ (10 - c) % 2) (shown / 2 ^ suc (10 - c) % 2) _ _
+      (shown-bit hidden low bits (10 - c) (suc c) (omega arith)) (shown-bit hidden low bits (suc (10 - c)) c (omega arith))
 
 -- ---- the room of a row
 
@@ -162,65 +83,116 @@ module _ (ram font : List ℕ) where
 abbrev pub rowOf : Pen → ℕ → Row
 rowOf pen a = record { address = a; slice = pen .slice; plain = pen .plain; hidden = pen .hidden }
 
-module _ (ram font : List ℕ) (pen : Pen) where
-  -- the twelve pixels of the character at an even address
-  abbrev characterAt : ℕ → ℕ → List ℕ
-  characterAt before a = character font (pen .plain) (pen .hidden) before (placeAt ram pen a)
+module _ (ram font : List ℕ) (pen : Pen) (address : ℕ) where
+  abbrev row : Row
+  row = rowOf pen address
 
-  module _ (a : ℕ) (p : even a ≡ a) (e : endsLine (getD ram (a + 1) 0) ≡ false) where
-    -- a column of them
-    shown-is : (before j : ℕ) → j < 12 → getD (characterAt before a) j 0 ≡ pixelAfter ram font (eqb (before % 2) 1) (rowOf pen a) j
-    unfolding character shownOf
-    shown-is before j h =
-        rw (row-first ram font (rowOf pen a) (rw p e) (eqb (before % 2) 1) j h, p, bits-glyph ram font (getD ram (a + 1) 0) (pen .slice))
-        (column-is (pen .plain) (pen .hidden) (getD ram a 0) _ before j h)
+  -- to the left of a column stands the one before it
+  beside-left : (i : ℕ) → besideAt ram font row (suc i) ≡ foregroundAt ram font row i
+  beside-left i = let left : suc i - 1 ≡ i = omega arith in rw (lt-ltb 0 (suc i) (omega arith), left)
 
-    -- the last one
-    last-is : eqb (shownOf font (pen .hidden) (placeAt ram pen a) % 2) 1 ≡ foregroundAt ram font (rowOf pen a) 11
-    unfolding shownOf
-    last-is =
-        let whole : (n : ℕ) → n % 2 ≡ n / 2 ^ 0 % 2 = λ n. omega arith in
-        rw (fore-first ram font (rowOf pen a) (rw p e) 11 (omega arith), p, bits-glyph ram font (getD ram (a + 1) 0) (pen .slice))
-        (ap (λ (n : ℕ). eqb n 1) (whole (shownOf font (pen .hidden) (placeAt ram pen a)))
-        ∙ shown-bit (pen .hidden) (getD ram a 0) (bitsOf font (placeAt ram pen a .glyph)) 0 11 refl)
+  -- code k of the row lies at the even address a, no code before it ends the line, and to its left stand these bits
+  record From (k a before : ℕ) : Type 0 where
+    at : even (address + 2 * k) ≡ a
+    on : (m : ℕ) → ended (k + m) ram address ≡ ended m ram a
+    beside : besideAt ram font row (12 * k) ≡ eqb (before % 2) 1
 
-  -- where the line is ended, all of the room is plain
-  ended-pixel : (before j room a : ℕ) → j < room → even a ≡ a → endsLine (getD ram (a + 1) 0) ≡ true
-      → getD (roomOf ram font pen before room a) j 0 ≡ pixelAfter ram font (eqb (before % 2) 1) (rowOf pen a) j
-  ended-pixel before j room a l p e =
-      ap (λ (r : List ℕ). getD r j 0) (room-ended ram font pen before room a p (omega arith) e .0)
-      ∙ getD-replicate room j (pen .plain) 0 l
-      ∙ sym (row-ended ram font (eqb (before % 2) 1) (rowOf pen a) j (rw p e))
+  module _ (k a before : ℕ) (f : From k a before) where
+    paired : even a ≡ a
+    paired = omega (arith, f .at)
 
-  -- a column of the room; k is the number of its code
-  room-after : (k before j room a : ℕ) → j / 12 ≡ k → j < room → even a ≡ a
-      → getD (roomOf ram font pen before room a) j 0 ≡ pixelAfter ram font (eqb (before % 2) 1) (rowOf pen a) j
-  room-after zero before j room a q l p = by (endsLine (getD ram (a + 1) 0)) refl
-    where
-      by : (t : Bool) → endsLine (getD ram (a + 1) 0) ≡ t → getD (roomOf ram font pen before room a) j 0 ≡ pixelAfter ram font (eqb (before % 2) 1) (rowOf pen a) j
-      by true e = ended-pixel before j room a l p e
-      by false e =
-          ap (λ (r : List ℕ). getD r j 0) (room-on ram font pen before room a p (omega arith) e .0)
-          ∙ List·getD-append (take room (characterAt before a)) _ 0 j (simp (length-take, character-length) (omega arith))
-          ∙ getD-take room (characterAt before a) j 0 l
-          ∙ shown-is a p e before j (omega arith)
-  room-after (suc k) before j room a q l p =
-      by (endsLine (getD ram (a + 1) 0)) refl (λ b. room-after k b (j - 12) (room - 12) (next a) (omega arith) (omega arith) (omega arith))
-    where
-      by : (t : Bool) → endsLine (getD ram (a + 1) 0) ≡ t
-          → ((b : ℕ) → getD (roomOf ram font pen b (room - 12) (next a)) (j - 12) 0 ≡ pixelAfter ram font (eqb (b % 2) 1) (rowOf pen (next a)) (j - 12))
-          → getD (roomOf ram font pen before room a) j 0 ≡ pixelAfter ram font (eqb (before % 2) 1) (rowOf pen a) j
-      by true e ih = ended-pixel before j room a l p e
-      by false e ih =
-          let bits : ℕ = shownOf font (pen .hidden) (placeAt ram pen a) in
-          let past : j ≡ length (take room (characterAt before a)) + (j - 12) = simp (length-take, character-length) (omega arith) in
-          let at : 12 + (j - 12) ≡ j = omega arith in
-          ap₂ (λ (r : List ℕ) (i : ℕ). getD r i 0) (room-on ram font pen before room a p (omega arith) e .0) past
-          ∙ getD-append-add (take room (characterAt before a)) (roomOf ram font pen bits (room - 12) (next a)) (j - 12) 0
-          ∙ ih bits
-          ∙ ap (λ (t : Bool). pixelAfter ram font t (rowOf pen (next a)) (j - 12)) (last-is a p e)
-          ∙ sym (row-later ram font (rowOf pen a) (rw p e) (eqb (before % 2) 1) (j - 12))
-          ∙ ap (pixelAfter ram font (eqb (before % 2) 1) (rowOf pen a)) at
+    end-from : (j : ℕ) → ended ((12 * k + j) / 12) ram address ≡ ended (j / 12) ram a
+    end-from j = let code : (12 * k + j) / 12 ≡ k + j / 12 = omega arith in ap (λ (n : ℕ). ended n ram address) code ∙ f .on (j / 12)
 
-  pub room-pixel : (j room a : ℕ) → j < room → even a ≡ a → getD (roomOf ram font pen 0 room a) j 0 ≡ rowPixel ram font (rowOf pen a) j
-  room-pixel j room a l p = room-after (j / 12) 0 j room a refl l p ∙ after-none ram font (rowOf pen a) j
+    -- where code k ends the line, all of the room is plain
+    ended-pixel : (j room : ℕ) → j < room → endsLine (getD ram (a + 1) 0) ≡ true
+        → getD (roomOf ram font pen before room a) j 0 ≡ rowPixel ram font row (12 * k + j)
+    unfolding rowPixel
+    ended-pixel j room l e =
+        ap (λ (r : List ℕ). getD r j 0) (room-ended ram font pen before room a paired (omega arith) e .0)
+        ∙ getD-replicate room j (pen .plain) 0 l
+        ∙ rw (end-from j, end-here ram a (j / 12) (rw paired e))
+
+    -- code k, and its twelve columns
+    code-is : (j : ℕ) → j < 12 → codeOf ram row (12 * k + j) ≡ record { low = getD ram a 0; high = getD ram (a + 1) 0 }
+    code-is j h = ap (λ (i : ℕ). record { low = getD ram i 0; high = getD ram (i + 1) 0 }) (omega (arith, f .at))
+
+    abbrev isFore : ℕ → Bool
+    isFore = isForeground (pen .hidden) (getD ram a 0) (bitsOf font (placeAt ram pen a .glyph))
+
+    fore-is : (j : ℕ) → j < 12 → foregroundAt ram font row (12 * k + j) ≡ isFore j
+    fore-is j h =
+        ap₂ (λ (d : Pair) (c : ℕ). isForeground (pen .hidden) (d .low) (sliceBits ram font (d .high) (pen .slice .0)) c) (code-is j h) (omega arith)
+        ∙ ap (λ (b : ℕ). isForeground (pen .hidden) (getD ram a 0) b j) (bits-glyph ram font (getD ram (a + 1) 0) (pen .slice))
+
+    -- where it is a character
+    module _ (e : endsLine (getD ram (a + 1) 0) ≡ false) where
+      -- its pixels
+      pixel-is : (j : ℕ) (left : Bool) → j < 12 → besideAt ram font row (12 * k + j) ≡ left
+          → cond (isFore j) (foreground (getD ram a 0)) (background (pen .plain) (getD ram a 0) left) ≡ rowPixel ram font row (12 * k + j)
+      unfolding rowPixel
+      pixel-is j left h q =
+          let first : j / 12 ≡ 0 = omega arith in
+          let low : codeOf ram row (12 * k + j) .low ≡ getD ram a 0 = ap (λ (d : Pair). d .low) (code-is j h) in
+          sym (rw (end-from j, first, end-last ram a, paired, e, fore-is j h, q, low))
+
+      shown-is : (j : ℕ) → j < 12 → getD (character font (pen .plain) (pen .hidden) before (placeAt ram pen a)) j 0 ≡ rowPixel ram font row (12 * k + j)
+      unfolding character shownOf
+      shown-is zero h =
+          let first : 12 * k + 0 ≡ 12 * k = omega arith in
+          column-first (pen .plain) (pen .hidden) (getD ram a 0) before _ ∙ pixel-is 0 _ h (ap (besideAt ram font row) first ∙ f .beside)
+      shown-is (suc j) h =
+          let later : 12 * k + suc j ≡ suc (12 * k + j) = omega arith in
+          column-later (pen .plain) (pen .hidden) (getD ram a 0) before _ j (omega arith)
+          ∙ pixel-is (suc j) _ h (ap (besideAt ram font row) later ∙ beside-left (12 * k + j) ∙ fore-is j (omega arith))
+
+      -- and the code after it
+      from-next : From (suc k) (next a) (shownOf font (pen .hidden) (placeAt ram pen a))
+      unfolding shownOf
+      from-next =
+          let code : (m : ℕ) → suc k + m ≡ k + suc m = λ m. omega arith in
+          let last : 12 * suc k ≡ suc (12 * k + 11) = omega arith in
+          let whole : (n : ℕ) → n / 2 ^ 0 % 2 ≡ n % 2 = λ n. omega arith in
+          record {
+            at = omega (arith, f .at);
+            on = λ m. ap (λ (n : ℕ). ended n ram address) (code m) ∙ f .on (suc m) ∙ end-later ram a m (rw paired e);
+            beside =
+                ap (besideAt ram font row) last
+                ∙ beside-left (12 * k + 11)
+                ∙ fore-is 11 (omega arith)
+                ∙ sym (shown-bit (pen .hidden) (getD ram a 0) (bitsOf font (placeAt ram pen a .glyph)) 0 11 refl)
+                ∙ ap (λ (n : ℕ). eqb n 1) (whole (shownOf font (pen .hidden) (placeAt ram pen a)));
+          }
+
+    -- a column of the room from code k on, given those of the room after it
+    room-turn : (j room : ℕ) → j < room
+        → ((b : ℕ) → 12 ≤ j → From (suc k) (next a) b → getD (roomOf ram font pen b (room - 12) (next a)) (j - 12) 0 ≡ rowPixel ram font row (12 * suc k + (j - 12)))
+        → getD (roomOf ram font pen before room a) j 0 ≡ rowPixel ram font row (12 * k + j)
+    room-turn j room l later = by (endsLine (getD ram (a + 1) 0)) (decLt j 12) refl
+      where
+        by : (t : Bool) → Dec (j < 12) → endsLine (getD ram (a + 1) 0) ≡ t → getD (roomOf ram font pen before room a) j 0 ≡ rowPixel ram font row (12 * k + j)
+        by true h e = ended-pixel j room l e
+        by false (yes h) e =
+            ap (λ (r : List ℕ). getD r j 0) (room-on ram font pen before room a paired (omega arith) e .0)
+            ∙ column-in font (pen .plain) (pen .hidden) before room (placeAt ram pen a) _ j l h
+            ∙ shown-is e j h
+        by false (no h) e =
+            let same : 12 * suc k + (j - 12) ≡ 12 * k + j = omega arith in
+            ap (λ (r : List ℕ). getD r j 0) (room-on ram font pen before room a paired (omega arith) e .0)
+            ∙ column-past font (pen .plain) (pen .hidden) before room (placeAt ram pen a) _ j l (omega arith)
+            ∙ later _ (omega arith) (from-next e)
+            ∙ ap (rowPixel ram font row) same
+
+  -- n bounds the column
+  room-from : (n k a before j room : ℕ) → j ≤ n → j < room → From k a before
+      → getD (roomOf ram font pen before room a) j 0 ≡ rowPixel ram font row (12 * k + j)
+  room-from zero k a before j room q l f = room-turn k a before f j room l (λ b h g. absurd (omega arith))
+  room-from (suc n) k a before j room q l f =
+      room-turn k a before f j room l (λ b h. room-from n (suc k) (next a) b (j - 12) (room - 12) (omega arith) (omega arith))
+
+  pub room-pixel : (j room : ℕ) → j < room → even address ≡ address → getD (roomOf ram font pen 0 room address) j 0 ≡ rowPixel ram font row j
+  room-pixel j room l p =
+      let first : (m : ℕ) → 0 + m ≡ m = λ m. omega arith in
+      let from : From 0 address 0 = record { at = omega arith; on = λ m. ap (λ (n : ℕ). ended n ram address) (first m); beside = refl } in
+      let same : 12 * 0 + j ≡ j = omega arith in
+      room-from j 0 address 0 j room (omega arith) l from ∙ ap (rowPixel ram font row) same

@@ -82,7 +82,7 @@ foregroundAt ram font row j =
     isForeground (row .hidden) (code .low) (sliceBits ram font (code .high) (row .slice .0)) (j % 12)
 
 -- is there foreground just to its left? That is column j − 1, of the same character or, for a leftmost column, the last of the character just to its
--- left (K7). The first character has none
+-- left (K7). The row's first column has none
 abbrev pub besideAt : List ℕ → List ℕ → Row → ℕ → Bool
 besideAt ram font row j = ltb 0 j && foregroundAt ram font row (j - 1)
 

@@ -12,41 +12,29 @@ use Rattle.paint.proofs.character.Tie as tie
 all-solid-requires : tie.Need-all-solid-requires
 all-solid-requires c κs =
     let s = c .before .before .before .before .before in
-    let a = s .args in
-    let p = c .before .before .before .paint-of in (
-      rw (s .pre .0) (has-masks (a .plain) (a .hidden)),
-      bits-fit (a .plain) (a .hidden) (a .low) (a .before) (a .word) (s .pre .1) (omega (arith, s .fits .low .fits)) (p .result) (p .ensures),
-    )
+    (rw (s .pre .0) (has-masks _ _), bits-fit _ _ (s .args .word) (omega (arith, s .fits .low .fits)) _ _ (c .before .before .before .paint-of .ensures))
 
 returns : tie.Need-returns
 returns c =
     let s = c .before .before .before .before .before .before in
-    let a = s .args in
-    let p = c .before .before .before .before .paint-of in
-    character-solid (a .plain) (a .hidden) (a .low) (a .before) (a .word) (s .pre .1) (omega (arith, s .fits .low .fits)) (p .result) (p .ensures) _
+    character-solid _ _ _ _ _ (s .pre .1) (omega (arith, s .fits .low .fits)) _ (c .before .before .before .before .paint-of .ensures) _
     (c .all-solid .ensures) (sym (c .before .before .takes-shadow .ensures) ∙ not-true _ (c .before .if1 .taken))
-
-all-shadowed-requires : tie.Need-all-shadowed-requires
-all-shadowed-requires c κs =
-    let s = c .before .before .before .before .before in
-    let a = s .args in
-    let p = c .before .before .before .paint-of in
-    let fit = bits-fit (a .plain) (a .hidden) (a .low) (a .before) (a .word) (s .pre .1) (omega (arith, s .fits .low .fits)) (p .result) (p .ensures) in
-    (rw (s .pre .0) (has-masks (a .plain) (a .hidden)), omega (arith, fit))
 
 add-all-shadowed : tie.Need-add-all-shadowed
 add-all-shadowed c =
     let s = c .before .before .before .before .before in
-    let a = s .args in
-    let p = c .before .before .before .paint-of in
-    omega (arith, bits-fit (a .plain) (a .hidden) (a .low) (a .before) (a .word) (s .pre .1) (omega (arith, s .fits .low .fits)) (p .result) (p .ensures))
+    omega (arith, bits-fit _ _ (s .args .word) (omega (arith, s .fits .low .fits)) _ _ (c .before .before .before .paint-of .ensures))
+
+all-shadowed-requires : tie.Need-all-shadowed-requires
+all-shadowed-requires c κs =
+    let s = c .before .before .before .before .before in
+    let fit = bits-fit _ _ (s .args .word) (omega (arith, s .fits .low .fits)) _ _ (c .before .before .before .paint-of .ensures) in
+    (rw (s .pre .0) (has-masks _ _), omega (arith, fit))
 
 returns-2 : tie.Need-returns-2
 returns-2 c =
     let s = c .before .before .before .before .before .before in
-    let a = s .args in
-    let p = c .before .before .before .before .paint-of in
-    character-shadowed (a .plain) (a .hidden) (a .low) (a .before) (a .word) (s .pre .1) (omega (arith, s .fits .low .fits)) (p .result) (p .ensures) _
+    character-shadowed _ _ _ _ _ (s .pre .1) (omega (arith, s .fits .low .fits)) _ (c .before .before .before .before .paint-of .ensures) _
     (c .all-shadowed .ensures) (sym (c .before .before .takes-shadow .ensures) ∙ not-false _ (c .before .if1 .left))
 
 pub character-spec : {M : Type 1} → statement M

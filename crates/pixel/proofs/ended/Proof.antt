@@ -1,6 +1,6 @@
 -- `ended`: each turn passes a code that does not end the line.
 -- Assumes nothing.
-use Prim.Native.Nat.{ℕ, _≤_}
+use Prim.Native.Nat.{ℕ, suc, _-_, _≤_}
 use mathlib.Core.Path.{_≡_, refl, sym, ap, _∙_}
 use native.Mathlib.Omega.{arith}
 use borrow.Author.Tests.{eq-eqb, ne-eqb}
@@ -31,9 +31,11 @@ loop-again : tie.Need-loop-again Inv-loop μ-loop
 loop-again c =
     let d = c .before .before .before in
     let l = d .before .before .loop in
-    let n = rw (d .pair-at .ensures) at (c .before .if1 .left) in (
+    let ram = now (d .before .before .before .before .args .ram) in
+    let n = rw (d .pair-at .ensures) at (c .before .if1 .left) in
+    let one : suc (l .left - 1) ≡ l .left = omega (arith, d .before .loop-test .taken) in (
       rw (c .even-address .ensures)
-          (end-later (now (d .before .before .before .before .args .ram)) (l .at) (l .left) (ne-eqb _ _ n) (omega (arith, d .before .loop-test .taken)) ∙ l .inv .0),
+          (sym (end-later ram (l .at) (l .left - 1) (ne-eqb _ _ n)) ∙ ap (λ (k : ℕ). ended k ram (l .at)) one ∙ l .inv .0),
       search needs,
     )
 
