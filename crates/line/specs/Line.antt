@@ -82,10 +82,14 @@ painted font plain hidden before room [] = replicate room plain
 painted font plain hidden before room (p ∷ ps) =
     take room (character font plain hidden before p) ++ painted font plain hidden (shownOf font hidden p) (room - 12) ps
 
--- a line of W pixels. OSD 0: every pixel 0. Else plain before the first character, to whose left no bits are shown
+-- a line of W pixels around the room from the first character on. OSD 0: every pixel 0. Else plain before that character
+abbrev pub inLine : Settings → (room : List ℕ) → List ℕ
+inLine s room =
+    cond (s .osd)
+    (replicate (min (firstPixelOf (s .dd)) (widthOf (s .ld))) (plainOf (s .fbk)) ++ room)
+    (replicate (widthOf (s .ld)) 0)
+
+-- a line and its characters. To the left of the first no bits are shown
 unfoldable pub paint : Settings → List ℕ → ℕ → List Place → List ℕ
 paint s font f row =
-    cond (s .osd)
-    (replicate (min (firstPixelOf (s .dd)) (widthOf (s .ld))) (plainOf (s .fbk))
-    ++ painted font (plainOf (s .fbk)) (hiddenIn (s .fl) f) 0 (widthOf (s .ld) - firstPixelOf (s .dd)) row)
-    (replicate (widthOf (s .ld)) 0)
+    inLine s (painted font (plainOf (s .fbk)) (hiddenIn (s .fl) f) 0 (widthOf (s .ld) - firstPixelOf (s .dd)) row)

@@ -1,7 +1,7 @@
 -- Request K7: what it changes of document 01's line, and that it changes nothing else.
 -- For every record of settings, font, frame number and row, made-up ones too.
 -- Assumes nothing.
-use Prim.Native.Nat.{ℕ, _-_, _/_, _%_, _<_, min}
+use Prim.Native.Nat.{ℕ, _-_, _/_, _%_, _<_}
 use mathlib.Core.Path.{_≡_}
 use mathlib.Core.Bool.{Bool, false, cond, _&&_}
 use mathlib.Core.List.{List, [], _∷_, _++_}
@@ -10,20 +10,16 @@ use lib.ListN.{getD, take, replicate}
 use Rattle.registers.specs.declared.Settings.{Settings}
 use Rattle.raster.specs.Raster.{widthOf, firstPixelOf, hiddenIn}
 use Rattle.paint.specs.Pixels.{plainOf}
-use Rattle.line.specs.Line.{Place, shownOf, character, paint}
+use Rattle.line.specs.Line.{Place, shownOf, character, inLine, paint}
 
 -- document 01's row: each character is drawn by itself, with nothing to its left
 unfoldable pub apart : List ℕ → (plain : ℕ) (hidden : Bool) (room : ℕ) → List Place → List ℕ
 apart font plain hidden room [] = replicate room plain
 apart font plain hidden room (p ∷ ps) = take room (character font plain hidden 0 p) ++ apart font plain hidden (room - 12) ps
 
--- document 01's line: `paint`, with the characters of its row apart
+-- document 01's line
 unfoldable pub paintApart : Settings → List ℕ → ℕ → List Place → List ℕ
-paintApart s font f row =
-    cond (s .osd)
-    (replicate (min (firstPixelOf (s .dd)) (widthOf (s .ld))) (plainOf (s .fbk))
-    ++ apart font (plainOf (s .fbk)) (hiddenIn (s .fl) f) (widthOf (s .ld) - firstPixelOf (s .dd)) row)
-    (replicate (widthOf (s .ld)) 0)
+paintApart s font f row = inLine s (apart font (plainOf (s .fbk)) (hiddenIn (s .fl) f) (widthOf (s .ld) - firstPixelOf (s .dd)) row)
 
 -- the shadow of p crosses the seam into q, just to its right: q's leftmost column, PX11, is background, or drawn as such while q is hidden; q is
 -- shadowed (BK3 1 and BK1 1); and p drew foreground in its last column, PX0, so it is neither hidden nor blank

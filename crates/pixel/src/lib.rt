@@ -8,8 +8,7 @@ ghost use Rattle.raster.specs.Raster.{InStrip, OnScreen};
 ghost use Rattle.walk.specs.Walk.{atLeastOne, zoomedBy};
 ghost use Rattle.glyph.specs.Glyph.{Lent};
 ghost use Rattle.paint.specs.Pixels.{foreground, background};
-ghost use Rattle.pixel.specs.Pixel as rules;
-ghost use Rattle.pixel.specs.Pixel.{pairAt, linesOf, fallsIn, sliceOf, isForeground, codeOf, foregroundAt, besideAt, rowPixel, pixelAt};
+ghost use Rattle.pixel.specs.Pixel.{pairAt, linesOf, fallsIn, sliceOf, ended, isForeground, codeOf, foregroundAt, besideAt, rowPixel, pixelAt};
 ghost use Rattle.pixel.specs.Ask.{pixelReply, askPixel};
 use device::Device;
 use raster::ScanLine;
@@ -105,10 +104,10 @@ fn is_foreground(hidden: bool, low: u8, bits: u16, column: u16) -> bool
 }
 
 // Is one of a row's first codes, up to the one with this number, the end of line?
-fn ended(ram: &[u8], first: u16, number: u16) -> bool
+fn ended_by(ram: &[u8], first: u16, number: u16) -> bool
     requires { ⌜ length (now ram) ≡ ramLength ⌝ }
     requires { ⌜ first ≤ 1022 ⌝ }
-    ensures { λ r. ⌜ r ≡ rules.ended number (now (ram .entry)) first ⌝ }
+    ensures { λ r. ⌜ r ≡ ended number (now (ram .entry)) first ⌝ }
 {
     let mut at = first;
     let mut left = number;
@@ -175,7 +174,7 @@ fn row_pixel<'a>(ram: &'a [u8], font: &'a [u8], row: Row, column: u16) -> u8
     requires { ⌜ row .address ≤ 1022 ⌝ }
     ensures { λ r. ⌜ r ≡ rowPixel (now (ram .entry)) (now (font .entry)) row column ⌝ }
 {
-    if ended(ram, row.address, column / 12) {
+    if ended_by(ram, row.address, column / 12) {
         return row.plain;
     }
     let code = code_of(ram, row, column);

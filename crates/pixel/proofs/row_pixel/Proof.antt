@@ -8,14 +8,14 @@ use Rattle.pixel.proofs.row_pixel.Tie as tie
 
 returns : tie.Need-returns
 unfolding rowPixel
-returns c = rw (sym (c .before .ended .ensures) ∙ c .if1 .taken)
+returns c = rw (sym (c .before .ended-by .ensures) ∙ c .if1 .taken)
 
 returns-2 : tie.Need-returns-2
 unfolding rowPixel
 returns-2 c =
     let f = c .before .before in
     let d = f .before in
-    rw (sym (d .before .before .ended .ensures) ∙ d .before .if1 .left, sym (f .foreground-at .ensures) ∙ c .before .if2 .taken)
+    rw (sym (d .before .before .ended-by .ensures) ∙ d .before .if1 .left, sym (f .foreground-at .ensures) ∙ c .before .if2 .taken)
     (rw (d .code-of .ensures) at (c .foreground-pixel .ensures))
 
 returns-3 : tie.Need-returns-3
@@ -23,7 +23,7 @@ unfolding rowPixel
 returns-3 c =
     let f = c .before .before in
     let d = f .before in
-    rw (sym (d .before .before .ended .ensures) ∙ d .before .if1 .left, sym (f .foreground-at .ensures) ∙ c .before .if2 .left)
+    rw (sym (d .before .before .ended-by .ensures) ∙ d .before .if1 .left, sym (f .foreground-at .ensures) ∙ c .before .if2 .left)
     (rw (d .code-of .ensures) at (c .background-at .ensures))
 
 pub row-pixel-spec : {M : Type 1} → statement M

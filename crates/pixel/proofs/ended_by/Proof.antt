@@ -1,4 +1,4 @@
--- `ended`: each turn passes a code that does not end the line.
+-- `ended_by`: each turn passes a code that does not end the line.
 -- Assumes nothing.
 use Prim.Native.Nat.{ℕ, suc, _-_, _≤_}
 use mathlib.Core.Path.{_≡_, refl, sym, ap, _∙_}
@@ -8,8 +8,8 @@ use denote.Ref.{now}
 use Rattle.pixel.specs.Pixel.{ended}
 use Rattle.pixel.proofs.Laws.{end-here, end-last, end-later}
 use borrow.Author.Needs.{needs}
-use Rattle.pixel.proofs.ended.Statement.{statement}
-use Rattle.pixel.proofs.ended.Tie as tie
+use Rattle.pixel.proofs.ended_by.Statement.{statement}
+use Rattle.pixel.proofs.ended_by.Tie as tie
 
 abbrev Inv-loop : tie.InvT-loop
 Inv-loop ram first number at₀ left₀ at left = (ended left ram at ≡ ended number ram first) × (at ≤ 1022)
@@ -47,8 +47,8 @@ returns-2 c =
     let none : l .left ≡ 0 = omega (arith, d .before .loop-test .left) in
     rw (d .pair-at2 .ensures) (sym (end-last ram (l .at)) ∙ ap (λ (k : ℕ). ended k ram (l .at)) (sym none) ∙ l .inv .0)
 
-pub ended-spec : {M : Type 1} → statement M
-ended-spec =
+pub ended-by-spec : {M : Type 1} → statement M
+ended-by-spec =
     tie.close
     (tie.spec
     Inv-loop
