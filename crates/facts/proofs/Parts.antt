@@ -65,6 +65,10 @@ module _ {A : Type 0} where
       ∙ drop-drop (length vs) at xs in
       rw (e, take-length vs, append-assoc vs, behind, sets-eq vs xs at h) (sym (append-assoc (take at xs) vs _))
 
+  -- as many as the k elements from `at` on are put in their place
+  pub put-mid : (xs vs : List A) (at k : ℕ) → length vs ≡ k → at + k ≤ length xs → take at xs ++ (vs ++ drop k (drop at xs)) ≡ sets xs at vs
+  put-mid xs vs at k l h = rw (← l, drop-drop (length vs) at xs, sets-eq vs xs at (omega arith)) (sym (append-assoc (take at xs) vs _))
+
   -- ---- two that do not overlap are put in either order
 
   set-first : (xs vs : List A) (at k : ℕ) (w : A) → at + length vs ≤ k → set (sets xs at vs) k w ≡ sets (set xs k w) at vs
@@ -85,10 +89,16 @@ module _ {A : Type 0} where
       let e : at + suc (length vs) ≡ suc at + length vs = omega arith in
       ap (λ (k : ℕ). sets (sets (set xs at v) (suc at) vs) k ws) e ∙ sets-append (set xs at v) vs ws (suc at)
 
+  -- up to the end: nothing stays behind them
+  pub sets-end : (xs vs : List A) (at : ℕ) → at + length vs ≡ length xs → sets xs at vs ≡ take at xs ++ vs
+  sets-end xs vs at l =
+      sets-eq vs xs at (omega arith)
+      ∙ ap (λ (r : List A). take at xs ++ vs ++ r) (drop-of-length-le xs {i = at + length vs} (omega arith))
+      ∙ append-nil (take at xs ++ vs)
+
   -- as many as there are: nothing stays
   pub sets-all : (xs vs : List A) → length vs ≡ length xs → sets xs 0 vs ≡ vs
-  sets-all xs vs l =
-      sets-eq vs xs 0 (omega arith) ∙ ap (λ (r : List A). vs ++ r) (drop-of-length-le xs {i = 0 + length vs} (omega arith)) ∙ append-nil vs
+  sets-all xs vs l = sets-end xs vs 0 (omega arith)
 
   -- ---- a part that is put where it stands
 

@@ -25,6 +25,7 @@ use mathlib.Core.List.{List, [], _∷_, _++_}
 use lib.Dec.{eqb}
 use lib.ListN.{length, getD, take, drop}
 use lib.Seq.{sets}
+use Rattle.buffers.specs.Buffers.{word}
 use Rattle.registers.specs.declared.Registers.{Registers}
 use Rattle.bus.specs.declared.BusState.{BusState}
 use Rattle.bus.specs.declared.BusState.the-variants.{Idle, Deaf, Slave, High, Low, Write, Read}
@@ -80,10 +81,6 @@ PutInPlace =
     → put at bytes xs ≡ take at xs ++ (bytes ++ drop (at + length bytes) xs)
 
 -- Below, each part has its own bytes, and is read from its own bytes: no part's definitions know where it stands.
-
--- a number from its two bytes
-abbrev pub word : List ℕ → ℕ → ℕ
-word bytes i = getD bytes i 0 + 256 * getD bytes (i + 1) 0
 
 -- ---- the bus
 

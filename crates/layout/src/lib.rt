@@ -4,7 +4,7 @@ ghost use mathlib.Core.Bool.{cond};
 ghost use mathlib.Core.List.{[], _∷_};
 ghost use Prim.Native.Nat.{_+_, _*_, _/_, _%_, _≤_, _<_};
 ghost use lib.ListN.{length};
-ghost use Rattle.layout.specs.Layout.{busAt, busLength, registersAt, registersLength, nextAt, frameAt, frameLength, recordLength, put, word, stateNumber, heldHigh, stateOf, busBytes, busIn, registersIn, nextBytes, packed, stripIn, frameWith, frameBytes, frameIn, deviceBytes, deviceIn};
+ghost use Rattle.layout.specs.Layout.{busAt, busLength, registersAt, registersLength, nextAt, frameAt, frameLength, recordLength, put, stateNumber, heldHigh, stateOf, busBytes, busIn, registersIn, nextBytes, packed, stripIn, frameWith, frameBytes, frameIn, deviceBytes, deviceIn};
 ghost use Rattle.layout.specs.FeedLayout.{feedLength, feedState, feedBytes, feedOf, feedIn};
 use bus::Bus;
 use bus::BusState;
@@ -39,27 +39,6 @@ pub struct Packed {
     pub lines: u8,
     pub address: u16,
     pub line: u16,
-}
-
-fn word(low: u8, high: u8) -> u16
-    ensures { λ r. ⌜ r ≡ low + 256 * high ⌝ }
-{
-    low as u16 + 256 * high as u16
-}
-
-fn word_at(bytes: &[u8], i: usize) -> u16
-    requires { ⌜ i + 1 < length (now bytes) ⌝ }
-    ensures { λ r. ⌜ r ≡ word (now (bytes .entry)) i ⌝ }
-{
-    word(bytes[i], bytes[i + 1])
-}
-
-// Bytes put at an offset; all others stay.
-fn put(device: &mut [u8], at: usize, bytes: &[u8])
-    requires { ⌜ at + length (now bytes) ≤ length (now device) ⌝ }
-    ensures { λ _. ⌜ now (device .exit) ≡ put at (now (bytes .entry)) (now (device .entry)) ⌝ }
-{
-    bytes::copy(bytes, &mut device[at..]);
 }
 
 // ---- the bus
@@ -112,7 +91,7 @@ fn bus_in(bytes: &[u8]) -> Bus
 {
     Bus {
         state: state_of(bytes[0], bytes[1]),
-        counter: word_at(bytes, 2),
+        counter: buffers::word_at(bytes, 2),
     }
 }
 
@@ -127,7 +106,7 @@ pub fn counter_of(device: &[u8]) -> u16
     requires { ⌜ length (now device) ≡ recordLength ⌝ }
     ensures { λ r. ⌜ r ≡ deviceIn (now (device .entry)) .bus .counter ⌝ }
 {
-    word_at(&device[BUS_AT..BUS_AT + BUS_LENGTH], 2)
+    buffers::word_at(&device[BUS_AT..BUS_AT + BUS_LENGTH], 2)
 }
 
 // The bus as numbers, put in its place.
@@ -172,7 +151,7 @@ fn write_registers(device: &mut [u8], registers: Registers)
     ensures { λ _. ⌜ now (device .exit) ≡ put registersAt (registers .bytes) (now (device .entry)) ⌝ }
 {
     let bytes = registers.bytes;
-    put(device, REGISTERS_AT, &bytes);
+    buffers::put(device, REGISTERS_AT, &bytes);
 }
 
 // ---- the frame
@@ -196,13 +175,13 @@ fn frame_in(bytes: &[u8]) -> Frame
     requires { ⌜ length (now bytes) ≡ frameLength ⌝ }
     ensures { λ r. ⌜ r ≡ frameIn (now (bytes .entry)) ⌝ }
 {
-    let address = word_at(bytes, 7);
-    let line = word_at(bytes, 9);
+    let address = buffers::word_at(bytes, 7);
+    let line = buffers::word_at(bytes, 9);
     Frame {
-        left: word_at(bytes, 1),
+        left: buffers::word_at(bytes, 1),
         number: bytes[0],
         walk: Walk {
-            descriptor: word_at(bytes, 3),
+            descriptor: buffers::word_at(bytes, 3),
             strip: strip_in(bytes[5], bytes[6], address, line),
         },
     }
@@ -276,7 +255,7 @@ pub fn write_frame(device: &mut [u8], frame: Frame)
     let walk = frame.walk;
     let strip = walk.strip;
     let bytes = frame_bytes(frame, pack(strip));
-    put(device, FRAME_AT, &bytes);
+    buffers::put(device, FRAME_AT, &bytes);
 }
 
 // The frame with the number that the next one takes.

@@ -29,12 +29,6 @@ use Rattle.line.specs.declared.Coded.{Coded}
 use Rattle.line.specs.Contracts.{placeAt, CodeShown, RowDrawn, rowIn, roomOf}
 use Rattle.line.specs.Line.{shownOf, character, codesBy, codes, painted}
 
--- ---- filling
-
-pub fill-done : (out out₀ : List ℕ) (i v : ℕ) → i ≡ length out₀ → out ≡ replicate i v ++ drop i out₀ → out ≡ replicate (length out₀) v
-fill-done out out₀ i v e h =
-    h ∙ ap (λ (n : ℕ). replicate n v ++ drop n out₀) e ∙ ap (λ (l : List ℕ). replicate (length out₀) v ++ l) (drop-length out₀) ∙ append-nil (replicate (length out₀) v)
-
 -- ---- the codes of a row
 
 -- a code reads at most four cells

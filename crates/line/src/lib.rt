@@ -39,16 +39,6 @@ pub struct Line {
     pub cells: u16,
 }
 
-fn fill(out: &mut [u8], pixel: u8)
-    ensures { λ _. ⌜ now (out .exit) ≡ replicate (length (now (out .entry))) pixel ⌝ }
-{
-    let mut i = 0;
-    while i < out.len() {
-        out[i] = pixel;
-        i += 1;
-    }
-}
-
 // The code at an even address, after the bits that the character to its left shows.
 fn code_at<'a>(
     ram: &'a [u8],
@@ -108,7 +98,7 @@ fn draw_row<'a>(
         let code = code_at(ram, font, &table, a, pen, before);
         cells += code.cells;
         if code.ended {
-            fill(&mut out[x..w], pen.plain);
+            buffers::fill(&mut out[x..w], pen.plain);
             return cells;
         }
         let drawn = code.drawn;
@@ -130,7 +120,7 @@ fn fill_line(out: &mut [u8], w: usize, pixel: u8)
     requires { ⌜ w ≤ length (now out) ⌝ }
     ensures { λ _. ⌜ now (out .exit) ≡ replicate w pixel ++ drop w (now (out .entry)) ⌝ }
 {
-    fill(&mut out[..w], pixel);
+    buffers::fill(&mut out[..w], pixel);
 }
 
 // A line of a strip of characters: plain up to the first character, then the row.

@@ -1,0 +1,13 @@
+-- Bytes in buffers: numbers of two bytes, low byte first.
+-- Assumes nothing.
+use Prim.Native.Nat.{ℕ, _+_, _*_, _/_, _%_}
+use mathlib.Core.List.{List, [], _∷_}
+use lib.ListN.{getD}
+
+-- the number that stands in two bytes of a list, from place i on
+abbrev pub word : List ℕ → ℕ → ℕ
+word bytes i = getD bytes i 0 + 256 * getD bytes (i + 1) 0
+
+-- a number below 65,536 as its two bytes
+abbrev pub wordBytes : ℕ → List ℕ
+wordBytes n = n % 256 ∷ n / 256 ∷ []
