@@ -5,10 +5,10 @@ CARGO = CARGO_TARGET_DIR=target/cargo cargo
 MANIFEST = --quiet --offline --manifest-path compare/Cargo.toml
 
 # the scripts of tests/ that make stored inputs and outputs, and where they put them
-STORED = test_bus test_feed test_frames test_pages test_pixel test_bench demo door_monitor
+STORED = test_bus test_feed test_frames test_pages test_pixel test_bench demo depot door_monitor
 INTO = .
 
-.PHONY: demo claims stored stored-check library divisions example model comparison speed ports port-known ports-refusals ports-test
+.PHONY: demo depot bdf claims stored stored-check library divisions example model comparison speed ports port-known ports-refusals ports-test
 
 # the picture: proves, builds and runs it, and shows it as text
 demo:
@@ -17,6 +17,15 @@ demo:
 	target/bin/demo < crates/demo/stdin > target/demo/frame.ppm
 	@echo "the picture: $(CURDIR)/target/demo/frame.ppm"
 	@target/bin/preview < target/demo/frame.ppm
+
+# the depot's programs: proves and builds them, and runs them over good files, bad ones of each kind and wrong lengths
+depot:
+	rt check font_pack font_check font_unpack
+	python3 -B tests/depot_runs.py
+
+# fonts in BDF, which font editors read and write: tools/bdf.py both ways
+bdf:
+	@python3 -B tests/bdf.py
 
 # every claim of specs/ is tied to its proof, and docs/PROMISES.md lists it
 claims:

@@ -20,7 +20,9 @@
  *     device   OSD_DEVICE_LEN bytes, any alignment: the device's record. Make it with osd_fresh. It may be copied, saved and
  *              restored byte by byte. Bytes that were corrupted are some other device, and cause no fault.
  *     ram      OSD_RAM_LEN bytes; any bytes will do. Changed by osd_bus and osd_feed alone.
- *     font     OSD_FONT_LEN bytes, only read: 128 characters of 18 slices of two bytes.
+ *     font     OSD_FONT_LEN bytes: 128 characters of 18 slices of two bytes. Written by osd_font_read alone.
+ *     file     OSD_FONT_FILE_LEN bytes: a font file, that is a font in blocks with checks, so that a bad byte on a card is noticed before
+ *              it is drawn (table "Font file" below). Written by osd_font_write alone.
  *     line     at least as many bytes as the line has pixels, 12 * (LD + 1): OSD_LINE_MAX is always enough. One byte a pixel,
  *              OSD_FBLK | OSD_R | OSD_G | OSD_B. Bytes after the line's last pixel stay as they are.
  *     feed     OSD_FEED_LEN bytes: the record of a feed, where bus traffic comes as a logger's capture. Make it with
@@ -29,8 +31,8 @@
  *     out      two bytes for each event that a chunk would complete, whatever their kinds; one byte more than the chunk has is always
  *              enough. It must not lie in the chunk. Later bytes stay.
  *
- * Give each buffer with its true length. A device, RAM, font or feed of any other length is refused, and so is a chunk that is too
- * long and a line or an output that is too short; a length that is larger than the buffer cannot be noticed. A pointer may be NULL
+ * Give each buffer with its true length. A device, RAM, font, font file or feed of any other length is refused, and so is a chunk that
+ * is too long and a line or an output that is too short; a length that is larger than the buffer cannot be noticed. A pointer may be NULL
  * where its length is 0. A buffer that a call may write (no const) must overlap no other buffer of that call.
  *
  * Calls on different buffers may run at the same time. While a call runs, nobody else may write its buffers, or read those that it
@@ -38,11 +40,12 @@
  *
  * Answers. Every function but osd_device_len and osd_feed_len answers one number, refusal * 65,536 + value: OSD_REFUSAL(answer) is 0
  * where the call was accepted, OSD_VALUE(answer) is then its value. With a refusal the value is 0, but 255 where a bus event is not
- * acknowledged (OSD_IDLE, OSD_NOT_ADDRESSED, OSD_READING, OSD_WRITING), and with OSD_FEED_SHUT the number of output bytes that a
- * feed wrote before a bad kind. A refused call changes no byte of any buffer, with two exceptions: an unknown slave address
- * (OSD_NOT_ADDRESSED) sets byte 0 of the device's record to 1, deaf until the next start or stop, where a device that is deaf already
- * stays as it is; and a feed that meets a bad kind has taken the events before it, and is shut. Where several refusals fit, the one
- * that is named first at the function is given.
+ * acknowledged (OSD_IDLE, OSD_NOT_ADDRESSED, OSD_READING, OSD_WRITING), with OSD_FEED_SHUT the number of output bytes that a
+ * feed wrote before a bad kind, and with OSD_BLOCK_CHECKS and OSD_BLOCK_FORMAT the place of the bad block in its file, 0 to 9. A
+ * refused call changes no byte of any buffer, with two exceptions: an unknown slave address (OSD_NOT_ADDRESSED) sets byte 0 of the
+ * device's record to 1, deaf until the next start or stop, where a device that is deaf already stays as it is; and a feed that meets a
+ * bad kind has taken the events before it, and is shut. Where several refusals fit, the one that is named first at the function is
+ * given.
  *
  * Formats. What a host writes over the bus (registers, descriptors, codes, user characters) and the lent font have the formats of
  * the tables below the refusals. They are close to those of the STV9425/26, but not the same: ZY in a descriptor, the low byte of a
@@ -89,6 +92,7 @@ typedef uint64_t osd_len;
 #define OSD_DEVICE_LEN 32
 #define OSD_RAM_LEN 1024
 #define OSD_FONT_LEN 4608
+#define OSD_FONT_FILE_LEN 5120
 #define OSD_LINE_MAX 768
 #define OSD_FEED_LEN 2
 #define OSD_CHUNK_MAX 65534 /* since a value has 16 bits */
@@ -119,7 +123,7 @@ typedef uint64_t osd_len;
 /* Refusals. */
 #define OSD_ACCEPTED 0
 #define OSD_RAM_LENGTH 1     /* ram is not OSD_RAM_LEN bytes */
-#define OSD_FONT_LENGTH 2    /* font is not OSD_FONT_LEN bytes */
+#define OSD_FONT_LENGTH 2    /* font is not OSD_FONT_LEN bytes (osd_draw, osd_pixel) */
 #define OSD_LINE_LENGTH 3    /* line is shorter than the line's pixels */
 #define OSD_NO_LINE 4        /* no frame, or all its lines are drawn */
 #define OSD_IDLE 5           /* not acknowledged, as the bus is idle: a byte or a fetch */
@@ -132,6 +136,9 @@ typedef uint64_t osd_len;
 #define OSD_NOT_ADDRESSED 12 /* not acknowledged: an unknown slave address, or a byte or a fetch while deaf after one */
 #define OSD_READING 13       /* not acknowledged, as the device is read: a byte from the host after OSD_SLAVE_READ */
 #define OSD_WRITING 14       /* not acknowledged, as an address or write data is due: a fetch */
+#define OSD_FILE_LENGTH 15   /* file is not OSD_FONT_FILE_LEN bytes, or font not OSD_FONT_LEN (osd_font_write, osd_font_read) */
+#define OSD_BLOCK_CHECKS 16  /* a block's checks are wrong (value: its place in the file) */
+#define OSD_BLOCK_FORMAT 17  /* its checks hold, but its number, used length or padding is wrong for its place (value: that place) */
 #define OSD_NOT_TAKEN 255    /* a record's length is wrong, osd_bus's kind is above OSD_STOP, or chunk is too long */
 
 /*
@@ -227,6 +234,20 @@ typedef uint64_t osd_len;
  * To the left of a character's leftmost column stands the last column of the character just to its left, whatever that one's
  * background, so that the shadow of a logo crosses the seams between its characters. To the left of the first character stands nothing.
  * A hidden character, or one of 26 to 126, gives no shadow; with BK3 1 and BK1 1 it takes one, and so does a cut character.
+ *
+ * Font file. Ten blocks of 512 bytes, one after the other, with the font's bytes in their order, 504 (14 characters) a block and the last
+ * 72 (two characters) in block 9. Numbers of two bytes have their low byte first.
+ *
+ *     byte of a block  blocks 0 to 8       block 9
+ *     0, 1             the block's number  9
+ *     2, 3             used length: 504    72
+ *     4 - 507          504 bytes of font   72 bytes of font (4 - 75), then unused bytes, all 0 (76 - 507)
+ *     508, 509         check: the sum of bytes 0 to 507, modulo 65,536
+ *     510, 511         check: the sum of each of bytes 0 to 507 times its position counted from 1, so byte 0 times 1 and byte 507
+ *                      times 508, modulo 65,536
+ *
+ * Example, bytes in hexadecimal: where characters 42 to 55 of a font (bytes 1,512 to 2,015) are all 0, block 3 begins 03 00 F8 01 and
+ * ends with the checks FC 00 EF 02 (252 and 751).
  */
 
 /*
@@ -337,6 +358,27 @@ uint32_t osd_cell(const uint8_t *device, osd_len device_len, const uint8_t *ram,
  */
 uint32_t osd_pixel(const uint8_t *device, osd_len device_len, const uint8_t *ram, osd_len ram_len, const uint8_t *font, osd_len font_len,
                    uint32_t lines, uint32_t frame, uint32_t x, uint32_t y);
+
+/*
+ * Writes `font` as a font file: all OSD_FONT_FILE_LEN bytes of `file`. (What is read comes first, then what is written, as in
+ * osd_font_read.)
+ * Refusal: OSD_FILE_LENGTH. Value 0.
+ */
+uint32_t osd_font_write(const uint8_t *font, osd_len font_len, uint8_t *file, osd_len file_len);
+
+/*
+ * Reads a font file into `font`. The blocks are tested in turn, each for OSD_BLOCK_CHECKS and then for OSD_BLOCK_FORMAT, all of them before
+ * the first byte of `font` is written: a bad file leaves it as it is.
+ * A font that is written and read back is the same font, and a file that is accepted is, byte for byte, the one that osd_font_write gives
+ * for the font read from it. A file from osd_font_write with any one byte changed is refused with OSD_BLOCK_CHECKS and that byte's block. So
+ * is one with two unequal neighbouring bytes of font or padding (bytes 4 to 507 of a block) exchanged, also byte 507 of a block with byte 4
+ * of the next; the first of the two blocks is named. Damage that goes further can by chance meet the checks again.
+ * Do not read into the font that a running frame is drawn with, not even between two draws: the lines before and after would show letters
+ * of two fonts.
+ * Refusals: OSD_FILE_LENGTH; then, of the first bad block, OSD_BLOCK_CHECKS or OSD_BLOCK_FORMAT, with its place in the file, 0 to 9, as the
+ * value. Value where it is accepted: 0.
+ */
+uint32_t osd_font_read(const uint8_t *file, osd_len file_len, uint8_t *font, osd_len font_len);
 
 #ifdef __cplusplus
 }

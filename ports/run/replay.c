@@ -7,9 +7,9 @@
 #include "print.h"
 
 #define GUARD 24
-#define SLOTS 11
-#define ROOM 32768
-#define FUNCTIONS 11
+#define SLOTS 13
+#define ROOM 49152
+#define FUNCTIONS 13
 #define ARGUMENTS 7
 
 /* The functions and their arguments, as the trace must have them. */
@@ -17,7 +17,7 @@ static const char *const functions[FUNCTIONS][2] = {
     {"osd_device_len", ""}, {"osd_fresh", "w"},     {"osd_reset", "w"}, {"osd_bus", "wwbb"},
     {"osd_frame_start", "wn"}, {"osd_draw", "wrrw"}, {"osd_cell", "rrn"},
     {"osd_feed_len", ""}, {"osd_feed_fresh", "w"}, {"osd_feed", "wwwrw"},
-    {"osd_pixel", "rrrnnnn"},
+    {"osd_pixel", "rrrnnnn"}, {"osd_font_write", "rw"}, {"osd_font_read", "rw"},
 };
 
 /* A slot: bytes between guards, and what they must be. */
@@ -157,11 +157,14 @@ static uint32_t make(const struct call *call)
     case 7: return osd_feed_len();
     case 8: return osd_feed_fresh(at[0], len[0]);
     case 9: return osd_feed(at[0], len[0], at[1], len[1], at[2], len[2], at[3], len[3], at[4], len[4]);
-    default: return osd_pixel(at[0], len[0], at[1], len[1], at[2], len[2], numbers[3], numbers[4], numbers[5], numbers[6]);
+    case 10: return osd_pixel(at[0], len[0], at[1], len[1], at[2], len[2], numbers[3], numbers[4], numbers[5], numbers[6]);
+    case 11: return osd_font_write(at[0], len[0], at[1], len[1]);
+    default: return osd_font_read(at[0], len[0], at[1], len[1]);
     }
 }
 
-static int expect_changes(void)
+/* Bytes that change by a call; or by the lender, between calls: then they are in the slot too. */
+static int expect_changes(int by_lender)
 {
     for (uint8_t which = byte(); which != 255; which = byte()) {
         uint32_t first = (uint32_t)number(2), n = (uint32_t)number(2);
@@ -169,6 +172,8 @@ static int expect_changes(void)
             return differs("the trace changes more than a slot holds");
         for (uint32_t i = 0; i < n; i++)
             slots[which].expected_start[slots[which].before + first + i] = byte();
+        if (by_lender)
+            memcpy(bytes_of(&slots[which]) + first, slots[which].expected_start + slots[which].before + first, n);
     }
     return 0;
 }
@@ -200,7 +205,7 @@ static int compare_call(int made_up)
             put("\n");
             return differs("another answer");
         }
-        if (expect_changes())
+        if (expect_changes(0))
             return 1;
     }
     for (int i = 0; i < ARGUMENTS; i++) {
@@ -221,7 +226,7 @@ static int compare_call(int made_up)
 
 static int begin(void)
 {
-    if (!says("osd trace 1\n", 12) || byte() != FUNCTIONS)
+    if (!says("osd trace 2\n", 12) || byte() != FUNCTIONS)
         return differs("no trace, or of other functions");
     for (int i = 0; i < FUNCTIONS; i++)
         if (!says(functions[i][0], strlen(functions[i][0]) + 1) || !says(functions[i][1], strlen(functions[i][1]) + 1))
@@ -262,6 +267,7 @@ int replay(void)
         case 3: bad = lend(1); break;
         case 4: bad = compare_call(0); break;
         case 5: bad = compare_call(1); break;
+        case 6: bad = expect_changes(1); break;
         default: bad = differs("no record of a trace");
         }
         if (bad)

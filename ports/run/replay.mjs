@@ -36,10 +36,11 @@ function number(value) {
 }
 
 function sample(page) {
-  const [device, ram, font, line] = [ROOM, ROOM + 100, ROOM + 2000, ROOM + 7000]
-  page.copy(bytes, font, 0, 4608)
+  const [device, ram, font, line, stored, file] = [ROOM, ROOM + 100, ROOM + 2000, ROOM + 7000, ROOM + 8000, ROOM + 13000]
+  page.copy(bytes, stored, 0, 4608)
   const parts = []
-  let refused = library.osd_fresh(device, 32n)
+  let refused = library.osd_font_write(stored, 4608n, file, 5120n) | library.osd_font_read(file, 5120n, font, 4608n)
+  refused |= library.osd_fresh(device, 32n)
   for (let at = 4608; at + 1 < page.length; at += 2) refused |= library.osd_bus(device, 32n, ram, 1024n, page[at], page[at + 1])
   refused |= library.osd_frame_start(device, 32n, 216)
   for (let drawn = 0; drawn < 216; drawn++) {
@@ -119,6 +120,17 @@ function differs(what) {
   fail(`session ${seed} call ${calls}: ${what}`)
 }
 
+// Bytes that change by a call; or by the lender, between calls: then they are in the slot too.
+function expectChanges(byLender) {
+  for (let which = byte(); which !== 255; which = byte()) {
+    const { start, before, expected } = slots[which]
+    const first = before + two()
+    const n = two()
+    at += trace.copy(expected, first, at, at + n)
+    if (byLender) expected.copy(bytes, start + first, first, first + n)
+  }
+}
+
 function compareCall(functions, madeUp) {
   const { name, run, form } = functions[byte()]
   const words = []
@@ -136,11 +148,7 @@ function compareCall(functions, madeUp) {
   calls++
   if (!madeUp) {
     if (answer !== four()) differs(`${name} answers ${answer}`)
-    for (let which = byte(); which !== 255; which = byte()) {
-      const first = slots[which].before + two()
-      const n = two()
-      at += trace.copy(slots[which].expected, first, at, at + n)
-    }
+    expectChanges(false)
   }
   for (const [slot, argument] of lent) {
     const end = slot.before + slot.length
@@ -151,7 +159,7 @@ function compareCall(functions, madeUp) {
 }
 
 function replay() {
-  if (trace.toString('latin1', 0, 12) !== 'osd trace 1\n') fail('no trace')
+  if (trace.toString('latin1', 0, 12) !== 'osd trace 2\n') fail('no trace')
   at = 12
   const functions = Array.from({ length: byte() }, () => ({ name: text(), form: text() }))
   if (Object.keys(library).sort().join() !== functions.map(({ name }) => name).sort().join())
@@ -167,6 +175,7 @@ function replay() {
     if (record === 1) seed = eight()
     else if (record === 2 || record === 3) lend(record === 3)
     else if (record === 4 || record === 5) compareCall(functions, record === 5)
+    else if (record === 6) expectChanges(true)
     else fail('no record of a trace')
   }
   if (calls !== four() || calls === 0) fail('not all calls of the trace were made')

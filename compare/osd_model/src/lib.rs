@@ -4,9 +4,10 @@
 //! walks a frame strip by strip over 1,024 lent RAM cells and draws each scan
 //! line from those and a lent font. A pixel of a frame can be asked for by
 //! itself. A logger's capture of the bus is fed to it in chunks, with a
-//! [`Feed`] between them. Every call checks the lent buffers first; a refused
-//! call changes nothing, but an unknown slave address leaves the device deaf,
-//! and a bad kind in a capture leaves what came before it and shuts the feed.
+//! [`Feed`] between them. A font is kept as a [`font_file`]. Every call checks
+//! the lent buffers first; a refused call changes nothing, but an unknown slave
+//! address leaves the device deaf, and a bad kind in a capture leaves what came
+//! before it and shuts the feed.
 
 #![no_std]
 #![forbid(unsafe_code)]
@@ -17,6 +18,7 @@ mod bytes;
 mod cell;
 mod draw;
 mod feed;
+pub mod font_file;
 mod frame;
 mod pixel;
 mod registers;
@@ -78,6 +80,12 @@ pub enum Refusal {
     Reading = 13,
     /// A fetch while an address or write data is due.
     Writing = 14,
+    /// A font file or its font is not as long as it must be.
+    FileLength = 15,
+    /// The checks of a font file's block are wrong.
+    BlockChecks = 16,
+    /// A font file's block has another number, used length or padding.
+    BlockFormat = 17,
 }
 
 impl Refusal {

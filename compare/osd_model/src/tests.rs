@@ -392,6 +392,9 @@ fn numbers_and_bus_bytes_of_refusals() {
         (Refusal::NotAddressed, 12, 255),
         (Refusal::Reading, 13, 255),
         (Refusal::Writing, 14, 255),
+        (Refusal::FileLength, 15, 0),
+        (Refusal::BlockChecks, 16, 0),
+        (Refusal::BlockFormat, 17, 0),
     ] {
         assert_eq!((refusal.number(), refusal.bus_byte()), (number, byte));
     }
@@ -473,7 +476,7 @@ impl Noise {
         let mut bytes = [0; DEVICE_LEN];
         bytes.fill_with(|| self.byte());
         bytes[0] %= 9;
-        if round % 3 == 0 {
+        if round.is_multiple_of(3) {
             (bytes[2], bytes[3]) = (0xF0 | bytes[2], 0xFF);
         }
         bytes

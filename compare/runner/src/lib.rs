@@ -1,6 +1,7 @@
 //! What the comparison, the traces and the race share: the library's calls, and random sessions of them.
 
 pub mod captures;
+pub mod font_files;
 pub mod frames;
 pub mod lent;
 pub mod library;

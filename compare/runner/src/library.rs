@@ -30,6 +30,8 @@ pub trait Library {
     fn pixel(&mut self, device: &Lent, ram: &Lent, font: &Lent, place: Place) -> u32;
     fn feed_fresh(&mut self, feed: &mut Lent) -> u32;
     fn feed(&mut self, device: &mut Lent, feed: &mut Lent, ram: &mut Lent, chunk: &Lent, out: &mut Lent) -> u32;
+    fn font_write(&mut self, font: &Lent, file: &mut Lent) -> u32;
+    fn font_read(&mut self, file: &Lent, font: &mut Lent) -> u32;
 
     /// The calls that follow belong to this seed's session; with `made_up`, nobody says what all of them answer and leave.
     fn session(&mut self, seed: u64, made_up: bool);
@@ -76,6 +78,14 @@ impl Library for Linked {
 
     fn feed(&mut self, device: &mut Lent, feed: &mut Lent, ram: &mut Lent, chunk: &Lent, out: &mut Lent) -> u32 {
         linked::feed(device.get_mut(), feed.get_mut(), ram.get_mut(), chunk.get(), out.get_mut())
+    }
+
+    fn font_write(&mut self, font: &Lent, file: &mut Lent) -> u32 {
+        linked::font_write(font.get(), file.get_mut())
+    }
+
+    fn font_read(&mut self, file: &Lent, font: &mut Lent) -> u32 {
+        linked::font_read(file.get(), font.get_mut())
     }
 
     fn session(&mut self, _seed: u64, _made_up: bool) {}

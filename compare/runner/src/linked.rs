@@ -46,6 +46,8 @@ mod c {
             out: *mut u8,
             out_len: usize,
         ) -> u32;
+        pub fn osd_font_write(font: *const u8, font_len: usize, file: *mut u8, file_len: usize) -> u32;
+        pub fn osd_font_read(file: *const u8, file_len: usize, font: *mut u8, font_len: usize) -> u32;
     }
 }
 
@@ -136,4 +138,14 @@ pub fn feed(device: &mut [u8], feed: &mut [u8], ram: &mut [u8], chunk: &[u8], ou
             out.len(),
         )
     }
+}
+
+#[inline]
+pub fn font_write(font: &[u8], file: &mut [u8]) -> u32 {
+    unsafe { c::osd_font_write(pointer(font), font.len(), pointer_mut(file), file.len()) }
+}
+
+#[inline]
+pub fn font_read(file: &[u8], font: &mut [u8]) -> u32 {
+    unsafe { c::osd_font_read(pointer(file), file.len(), pointer_mut(font), font.len()) }
 }

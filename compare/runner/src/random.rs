@@ -8,6 +8,8 @@ impl Random {
         Random(seed)
     }
 
+    // No iterator: it has no end.
+    #[allow(clippy::should_implement_trait)]
     pub fn next(&mut self) -> u64 {
         self.0 = self.0.wrapping_add(0x9E37_79B9_7F4A_7C15);
         let mut z = self.0;

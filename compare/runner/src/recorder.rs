@@ -5,7 +5,7 @@
 //!
 //! | Bytes | Content |
 //! |---|---|
-//! | `osd trace 1\n` | |
+//! | `osd trace 2\n` | |
 //! | 1 | number of functions; then each one's name, a zero, its arguments and a zero |
 //! | 1 | number of slots; then the most bytes that each one holds, in 4 bytes |
 //! | | records, the first byte of which says which they are |
@@ -20,21 +20,23 @@
 //! | 3 | random bytes are lent in a slot: slot, length (4 bytes), the state that they follow from (8 bytes) |
 //! | 4 | a call: function; its arguments, a buffer by its slot; the answer (4 bytes); the bytes that it changes |
 //! | 5 | a call on a made-up record: function; its arguments. Nobody says what it answers, or leaves where it may write |
+//! | 6 | the lender changes bytes of slots, between calls: the bytes that change |
 //!
 //! Bus events and chunks on a made-up record are calls as others (4), as long as no other call has been made on it.
 //!
-//! Changed bytes are a list of: slot, first place (2 bytes), number (2 bytes), the bytes; its end is a slot of 255.
+//! Changed bytes are a list of: slot, first place (2 bytes), number (2 bytes), the bytes; its end is a slot of 255. Font files alone are
+//! changed by their lender, who damages them.
 
 use crate::lent::Lent as Buffer;
 use crate::library::{Library, Place};
 use crate::model;
 use crate::random::Random;
 use crate::sessions::packed;
-use osd_model::{pixel_bytes, Device, Feed, DEVICE_LEN, FEED_LEN, NOT_TAKEN};
+use osd_model::{font_file, pixel_bytes, Device, Feed, DEVICE_LEN, FEED_LEN, NOT_TAKEN};
 use std::io::{Result, Write};
 use Argument::{Byte, Lent, Number};
 
-const FUNCTIONS: [(&str, &str); 11] = [
+const FUNCTIONS: [(&str, &str); 13] = [
     ("osd_device_len", ""),
     ("osd_fresh", "w"),
     ("osd_reset", "w"),
@@ -46,10 +48,12 @@ const FUNCTIONS: [(&str, &str); 11] = [
     ("osd_feed_fresh", "w"),
     ("osd_feed", "wwwrw"),
     ("osd_pixel", "rrrnnnn"),
+    ("osd_font_write", "rw"),
+    ("osd_font_read", "rw"),
 ];
 
 /// What a buffer is for. Each use has its slots, so that a second buffer does not displace the first.
-#[derive(Clone, Copy)]
+#[derive(Clone, Copy, PartialEq)]
 enum Use {
     Device,
     Ram,
@@ -58,9 +62,13 @@ enum Use {
     Feed,
     Chunk,
     Output,
+    FontFile,
 }
 
-const SLOTS: [usize; 11] = [64, 64, 2048, 2048, 9216, 9216, 2048, 32, 32, 256, 256];
+const SLOTS: [usize; 13] = [64, 64, 2048, 2048, 9216, 9216, 2048, 32, 32, 256, 256, 10_240, 10_240];
+
+/// Bytes before those of each run of changed bytes.
+const RUN_HEAD: usize = 5;
 
 impl Use {
     fn slots(self) -> std::ops::Range<usize> {
@@ -72,6 +80,7 @@ impl Use {
             Use::Feed => 7..9,
             Use::Chunk => 9..10,
             Use::Output => 10..11,
+            Use::FontFile => 11..13,
         }
     }
 }
@@ -82,6 +91,8 @@ struct Slot {
     number: u64,
     content: Vec<u8>,
     last_used: u64,
+    /// To lend it again takes all its bytes, since they are not random, or no longer.
+    is_dear: bool,
 }
 
 pub struct Recorder<W> {
@@ -101,7 +112,7 @@ enum Argument {
 
 impl<W: Write> Recorder<W> {
     pub fn new(mut to: W) -> Result<Recorder<W>> {
-        to.write_all(b"osd trace 1\n")?;
+        to.write_all(b"osd trace 2\n")?;
         to.write_all(&[FUNCTIONS.len() as u8])?;
         for (name, arguments) in FUNCTIONS {
             write!(to, "{name}\0{arguments}\0")?;
@@ -130,14 +141,20 @@ impl<W: Write> Recorder<W> {
         self.to.write_all(bytes).expect("the trace can be written");
     }
 
-    /// The slot of this buffer: the one that holds it, or else the one that was unused for longest, which is filled with it.
+    /// The slot of this buffer: the one that holds it, or else the one that was unused for longest, if possible of those that are not dear,
+    /// which is filled with it.
     fn lend(&mut self, buffer: &Buffer, used_as: Use) -> u8 {
         self.uses += 1;
         let held = used_as.slots().find(|&slot| self.slots[slot].number == buffer.number());
-        let slot = held.or(used_as.slots().min_by_key(|&slot| self.slots[slot].last_used)).unwrap();
+        let keep = |slot: &Slot| (slot.is_dear, slot.last_used);
+        let slot = held.or(used_as.slots().min_by_key(|&slot| keep(&self.slots[slot]))).unwrap();
         self.slots[slot].last_used = self.uses;
         if held.is_none() {
             self.fill(slot, buffer);
+        } else if used_as == Use::FontFile && self.slots[slot].content != buffer.get() {
+            self.put(&[6]);
+            self.changes(slot as u8, buffer);
+            self.put(&[255]);
         }
         assert_eq!(self.slots[slot].content, buffer.get());
         slot as u8
@@ -159,6 +176,7 @@ impl<W: Write> Recorder<W> {
         }
         self.slots[slot].number = buffer.number();
         self.slots[slot].content = content.to_vec();
+        self.slots[slot].is_dear = !is_random;
     }
 
     fn call<const N: usize>(&mut self, function: &str, arguments: [Argument; N]) {
@@ -178,19 +196,25 @@ impl<W: Write> Recorder<W> {
     fn answered<const N: usize>(&mut self, answer: u32, written: [(u8, &Buffer); N]) -> u32 {
         self.put(&answer.to_le_bytes());
         for (slot, buffer) in written {
-            let before = std::mem::replace(&mut self.slots[usize::from(slot)].content, buffer.get().to_vec());
-            let differs = |place: &usize| before[*place] != buffer.get()[*place];
-            let mut places = 0..before.len();
-            if let Some(first) = places.find(differs) {
-                let changed = &buffer.get()[first..=places.rfind(differs).unwrap_or(first)];
-                self.put(&[slot]);
-                self.put(&(first as u16).to_le_bytes());
-                self.put(&(changed.len() as u16).to_le_bytes());
-                self.put(changed);
-            }
+            self.changes(slot, buffer);
         }
         self.put(&[255]);
         answer
+    }
+
+    /// What has changed in a buffer since its slot was written down, in runs that are worth a head of their own.
+    fn changes(&mut self, slot: u8, buffer: &Buffer) {
+        let now = buffer.get();
+        let before = std::mem::replace(&mut self.slots[usize::from(slot)].content, now.to_vec());
+        let places: Vec<usize> = (0..now.len()).filter(|&place| before[place] != now[place]).collect();
+        self.slots[usize::from(slot)].is_dear |= !places.is_empty();
+        for run in places.chunk_by(|first, second| second - first <= RUN_HEAD) {
+            let changed = &now[run[0]..=run[run.len() - 1]];
+            self.put(&[slot]);
+            self.put(&(run[0] as u16).to_le_bytes());
+            self.put(&(changed.len() as u16).to_le_bytes());
+            self.put(changed);
+        }
     }
 }
 
@@ -307,6 +331,26 @@ impl<W: Write> Library for Recorder<W> {
         }
         let answer = model::feed(device.get_mut(), feed.get_mut(), ram.get_mut(), chunk.get(), out.get_mut());
         self.answered(answer, [(slot, device), (feed_slot, feed), (ram_slot, ram), (out_slot, out)])
+    }
+
+    fn font_write(&mut self, font: &Buffer, file: &mut Buffer) -> u32 {
+        let (font_slot, file_slot) = (self.lend(font, Use::Font), self.lend(file, Use::FontFile));
+        self.call("osd_font_write", [Lent(font_slot), Lent(file_slot)]);
+        if self.made_up {
+            return 0;
+        }
+        let answer = font_file::write_bytes(font.get(), file.get_mut());
+        self.answered(answer, [(file_slot, file)])
+    }
+
+    fn font_read(&mut self, file: &Buffer, font: &mut Buffer) -> u32 {
+        let (file_slot, font_slot) = (self.lend(file, Use::FontFile), self.lend(font, Use::Font));
+        self.call("osd_font_read", [Lent(file_slot), Lent(font_slot)]);
+        if self.made_up {
+            return 0;
+        }
+        let answer = font_file::read_bytes(file.get(), font.get_mut());
+        self.answered(answer, [(font_slot, font)])
     }
 
     fn session(&mut self, seed: u64, made_up: bool) {

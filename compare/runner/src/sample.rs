@@ -1,5 +1,7 @@
-//! The sample page: the demo's font and bus traffic (crates/demo/stdin), drawn as one frame. ports/run/sample.c does the same in C.
+//! The sample page: the demo's font and bus traffic (crates/demo/stdin), drawn as one frame with the font by way of a font file.
+//! ports/run/sample.c does the same in C.
 
+use crate::font_files::FILE;
 use crate::lent::Lent;
 use crate::library::{Library, Place};
 use crate::pages::{FONT, RAM};
@@ -31,9 +33,13 @@ pub fn play<L: Library>(library: &mut L, page: &[u8]) -> u32 {
     let mut random = Random::new(0);
     let mut device = Lent::new(&mut random, 32);
     let mut ram = Lent::copy_of(&mut random, &[0; RAM]);
-    let font = Lent::copy_of(&mut random, font);
+    let stored = Lent::copy_of(&mut random, font);
+    let mut file = Lent::new(&mut random, FILE);
+    let mut font = Lent::new(&mut random, FONT);
     let mut digest = Digest(!0);
     library.session(0, false);
+    assert_eq!(library.font_write(&stored, &mut file), 0);
+    assert_eq!(library.font_read(&file, &mut font), 0);
     assert_eq!(library.fresh(&mut device), 0);
     for event in traffic.chunks_exact(2) {
         assert_eq!(library.bus(&mut device, &mut ram, event[0], event[1]), 0);

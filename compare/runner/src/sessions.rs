@@ -3,10 +3,12 @@
 //! Every answer, every byte of every buffer (the device's record too) and every byte around the buffers is compared after every call.
 
 mod corrupted;
+mod font_files;
 mod pixels;
 
 pub use corrupted::{corrupted, Corrupted};
 
+use crate::font_files::FILE;
 use crate::lent::Lent;
 use crate::library::Library;
 use crate::pages::{random_page, FONT, RAM};
@@ -45,6 +47,7 @@ struct Session<'a, L> {
     model: Device,
     model_ram: Vec<u8>,
     model_font: Vec<u8>,
+    model_file: Vec<u8>,
     model_feed: [u8; FEED_LEN],
     /// Bytes of a capture that were not fed yet.
     arrived: Vec<u8>,
@@ -52,6 +55,7 @@ struct Session<'a, L> {
     feed: Lent,
     ram: Lent,
     font: Lent,
+    file: Lent,
     counts: [u64; 256],
 }
 
@@ -69,6 +73,7 @@ impl<L: Library> Session<'_, L> {
         assert_eq!(library.feed_fresh(&mut feed), 0);
         let ram = Lent::copy_of(&mut random, &page);
         let font = Lent::new(&mut random, FONT);
+        let file = Lent::new(&mut random, FILE);
         Session {
             library,
             random,
@@ -77,12 +82,14 @@ impl<L: Library> Session<'_, L> {
             model: Device::fresh(),
             model_ram: page,
             model_font: font.get().to_vec(),
+            model_file: file.get().to_vec(),
             model_feed: Feed::fresh().to_bytes(),
             arrived: vec![],
             device,
             feed,
             ram,
             font,
+            file,
             counts: [0; 256],
         }
     }
@@ -98,14 +105,15 @@ impl<L: Library> Session<'_, L> {
         }
     }
 
-    /// After every call: the answer, the records, the RAM, the font and what lies around them.
+    /// After every call: the answer, the records, the RAM, the font, the font file and what lies around them.
     fn check(&mut self, what: &str, ours: u32, model: u32) {
         self.same(what, ours, model);
         self.same("record", self.device.get(), &self.model.to_bytes()[..]);
         self.same("feed record", self.feed.get(), &self.model_feed[..]);
         self.same("RAM", self.ram.get(), &self.model_ram[..]);
         self.same("font", self.font.get(), &self.model_font[..]);
-        let held = [&self.device, &self.feed, &self.ram, &self.font].iter().all(|lent| lent.guards_hold());
+        self.same("font file", self.file.get(), &self.model_file[..]);
+        let held = [&self.device, &self.feed, &self.ram, &self.font, &self.file].iter().all(|lent| lent.guards_hold());
         self.same("bytes around the buffers", held, true);
         self.counts[(ours >> 16) as usize] += 1;
         self.call += 1;
@@ -403,7 +411,7 @@ impl<L: Library> Session<'_, L> {
         self.display();
         self.frame_start();
         while self.call < CALLS {
-            match self.random.below(31) {
+            match self.random.below(32) {
                 0..=3 => self.transfer(),
                 4 if self.random.one_in(4) => self.display(),
                 4 => self.transfer(),
@@ -416,6 +424,7 @@ impl<L: Library> Session<'_, L> {
                 27 if self.model_feed[0] > 1 || self.random.one_in(3) => self.other_feed(),
                 27 => self.feed(),
                 28..=30 => self.pixel(),
+                31 => self.font_file(),
                 _ if self.random.one_in(10) => self.reset(),
                 _ => self.any_event(),
             }
@@ -425,6 +434,7 @@ impl<L: Library> Session<'_, L> {
         }
         self.tall_letters();
         self.refused_pixels();
+        self.font_files();
         self.still_frame();
         self.seams();
         self.each_state();

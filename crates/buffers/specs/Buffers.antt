@@ -1,6 +1,8 @@
--- Bytes in buffers: numbers of two bytes, low byte first.
+-- Bytes in buffers: numbers of two bytes, low byte first, and texts.
 -- Assumes nothing.
 use Prim.Native.Nat.{ℕ, _+_, _*_, _/_, _%_}
+use Prim.Native.Char.{code}
+use Prim.Native.String.{String, [] as empty, _∷_ as _then_}
 use mathlib.Core.List.{List, [], _∷_}
 use lib.ListN.{getD}
 
@@ -11,3 +13,8 @@ word bytes i = getD bytes i 0 + 256 * getD bytes (i + 1) 0
 -- a number below 65,536 as its two bytes
 abbrev pub wordBytes : ℕ → List ℕ
 wordBytes n = n % 256 ∷ n / 256 ∷ []
+
+-- a text as its bytes; each character here is one, its ASCII code
+unfoldable pub bytesOf : String → List ℕ
+bytesOf empty = []
+bytesOf (c then s) = code c ∷ bytesOf s

@@ -54,6 +54,12 @@ module _ {A : Type 0} where
   pub getD-part : (xs : List A) (at n i : ℕ) (d : A) → i < n → getD (take n (drop at xs)) i d ≡ getD xs (at + i) d
   getD-part xs at n i d h = getD-take n (drop at xs) i d h ∙ getD-drop at xs i d
 
+  -- the rest of a front is the front of a rest
+  pub drop-take : (m n : ℕ) (xs : List A) → drop m (take (m + n) xs) ≡ take n (drop m xs)
+  drop-take zero n xs = rw zero-add
+  drop-take (suc m) n [] = rw (take-nil (suc m + n), take-nil n)
+  drop-take (suc m) n (x ∷ xs) = rw suc-add (drop-take m n xs)
+
   -- a list that is copied to the front of the k elements from `at` on is put there
   pub copied : (xs vs : List A) (at k : ℕ) (mid : List A) → at + length vs ≤ length xs → length vs ≤ k
       → mid ≡ take (length vs) vs ++ drop (length vs) (take k (drop at xs)) → take at xs ++ (mid ++ drop k (drop at xs)) ≡ sets xs at vs

@@ -14,6 +14,7 @@ use Rattle.refusals.specs.declared.Unheard.the-variants as unheard
 use Rattle.refusals.specs.declared.Refusal.{Refusal}
 use Rattle.refusals.specs.declared.Refusal.the-variants.{NotAcknowledged}
 use Rattle.refusals.specs.Refusals.{numberOf, Reply, refused, Verdict, passed, failed}
+use Rattle.font_file.specs.FontFile.{WriteOutcome, writeFont, ReadOutcome, readFont}
 use Rattle.bus.specs.declared.BusState.{BusState}
 use Rattle.bus.specs.declared.BusState.the-variants.{Slave}
 use Rattle.bus.specs.Bus.{eventOf, BusOutcome}
@@ -202,6 +203,23 @@ feedOn xs fs ram chunk out =
 unfoldable pub fedEventsOn : List ℕ → List ℕ → List ℕ → List ℕ → List ℕ → List Logged
 fedEventsOn xs fs ram chunk out = cond (rightLengths xs fs chunk) (eventsBy (verdictOn fs ram chunk out) (feedIn fs) chunk) []
 
+-- ---- font files (document 02, K8): no record is lent, so nothing is refused with 255
+
+-- the bytes of the buffer that a call may write, and its answer
+pub record WriteDone : Type 0 where
+  pub file : List ℕ
+  pub answer : ℕ
+
+unfoldable pub fontWriteOn : (font file : List ℕ) → WriteDone
+fontWriteOn font file = let o : WriteOutcome = writeFont font file in record { file = o .file; answer = answerOf (o .reply) }
+
+pub record ReadDone : Type 0 where
+  pub font : List ℕ
+  pub answer : ℕ
+
+unfoldable pub fontReadOn : (file font : List ℕ) → ReadDone
+fontReadOn file font = let o : ReadOutcome = readFont file font in record { font = o .font; answer = answerOf (o .reply) }
+
 -- ---- the record after an event that is not acknowledged (document 02, K6)
 
 -- by the reason: byte 0 is 1, deaf, after 12; else every byte stays
@@ -230,6 +248,12 @@ pub record Crossing : Type 0 where
       → let o : FeedOutcome = feedChunk (chip (deviceIn xs) ram) (feedIn fs) chunk out in
       let r : FeedDone = feedOn xs fs ram chunk out in
       (deviceIn (r .device) ≡ o .chip .device) × (feedIn (r .feed) ≡ o .feed) × (r .ram ≡ o .chip .ram) × (r .out ≡ o .out) × (r .answer ≡ answerOf (o .reply))
+  pub font-write : (font file : List ℕ)
+      → let o : WriteOutcome = writeFont font file in
+      let r : WriteDone = fontWriteOn font file in (r .file ≡ o .file) × (r .answer ≡ answerOf (o .reply))
+  pub font-read : (file font : List ℕ)
+      → let o : ReadOutcome = readFont file font in
+      let r : ReadDone = fontReadOn file font in (r .font ≡ o .font) × (r .answer ≡ answerOf (o .reply))
   -- of the record's bytes a question about a pixel looks at the registers' alone
   pub pixel-alone : (xs ys ram font : List ℕ) (lines frame x y : ℕ) → length xs ≡ length ys
       → part registersAt registersLength xs ≡ part registersAt registersLength ys
@@ -257,6 +281,8 @@ pub record Crossing : Type 0 where
   pub length-feed : (xs fs ram chunk out : List ℕ)
       → (length (feedOn xs fs ram chunk out .device) ≡ length xs) × (length (feedOn xs fs ram chunk out .feed) ≡ length fs)
       × (length (feedOn xs fs ram chunk out .ram) ≡ length ram) × (length (feedOn xs fs ram chunk out .out) ≡ length out)
+  pub length-font-write : (font file : List ℕ) → length (fontWriteOn font file .file) ≡ length file
+  pub length-font-read : (file font : List ℕ) → length (fontReadOn file font .font) ≡ length font
   -- a feed's value fits 16 bits, so that OSD_REFUSAL and OSD_VALUE take its answer apart
   pub value-feed : (xs fs ram chunk out : List ℕ) → length chunk ≤ chunkMax → feedChunk (chip (deviceIn xs) ram) (feedIn fs) chunk out .reply .value ≤ chunkMax
   -- a frame start, a draw or a bus call that the device's function refuses writes no byte of the record ..
@@ -274,3 +300,6 @@ pub record Crossing : Type 0 where
   -- a feed that its tests refuse, before any event, writes no byte of any buffer
   pub silent-feed : (xs fs ram chunk out : List ℕ) (r : Refusal) → length xs ≡ recordLength → length fs ≡ feedLength → length chunk ≤ chunkMax
       → verdictOn fs ram chunk out ≡ failed r → feedOn xs fs ram chunk out ≡ notFedOn xs fs ram out (answerOf (refused r))
+  -- a font file that is refused, or a font that is not written, leaves every byte of the buffer
+  pub silent-font-write : (font file : List ℕ) → (writeFont font file .reply .refusal ≡ 0 → ⊥) → fontWriteOn font file .file ≡ file
+  pub silent-font-read : (file font : List ℕ) → (readFont file font .reply .refusal ≡ 0 → ⊥) → fontReadOn file font .font ≡ font

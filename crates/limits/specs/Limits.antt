@@ -1,4 +1,4 @@
--- Lengths and limits of document 01, each named once.
+-- Lengths and limits of document 01, and of document 02's requests, each named once.
 -- Assumes nothing.
 use Prim.Native.Nat.{ℕ}
 use mathlib.Core.Bool.{Bool, _||_}
@@ -11,6 +11,10 @@ ramLength = 1024
 -- the lent font has 4,608 bytes: 128 characters of 36
 abbrev pub fontLength : ℕ
 fontLength = 4608
+
+-- a font file has 5,120 bytes: ten blocks of 512 (document 02, K8)
+abbrev pub fontFileLength : ℕ
+fontFileLength = 5120
 
 -- the 26 user characters have 38 cells each
 abbrev pub userCells : ℕ

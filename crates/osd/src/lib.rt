@@ -3,7 +3,7 @@
 ghost use mathlib.Core.Path.{_≡_};
 ghost use Rattle.layout.specs.Layout.{recordLength};
 ghost use Rattle.layout.specs.FeedLayout.{feedLength};
-ghost use Rattle.interface.specs.Interface.{freshOn, busOn, startOn, drawOn, cellOn, pixelOn, feedFreshOn, feedOn};
+ghost use Rattle.interface.specs.Interface.{freshOn, busOn, startOn, drawOn, cellOn, pixelOn, feedFreshOn, feedOn, fontWriteOn, fontReadOn};
 use capture::Feed;
 use device::Device;
 use device::DrawAnswer;
@@ -202,4 +202,20 @@ pub extern "C" fn osd_feed(
     let after = taken.feed;
     layout::write_feed(feed, after);
     feed_bytes::fed(after, taken.written)
+}
+
+#[no_mangle]
+pub extern "C" fn osd_font_write(font: &[u8], file: &mut [u8]) -> u32
+    ensures { λ r. ⌜ record { file = now (file .exit); answer = r } ≡ fontWriteOn (now (font .entry)) (now (file .entry)) ⌝ }
+{
+    let reply = font_file::write(font, file);
+    bus_bytes::answer(reply.refusal(), reply.value() as u16)
+}
+
+#[no_mangle]
+pub extern "C" fn osd_font_read(file: &[u8], font: &mut [u8]) -> u32
+    ensures { λ r. ⌜ record { font = now (font .exit); answer = r } ≡ fontReadOn (now (file .entry)) (now (font .entry)) ⌝ }
+{
+    let reply = font_file::read(file, font);
+    bus_bytes::answer(reply.refusal(), reply.value() as u16)
 }

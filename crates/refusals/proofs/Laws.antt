@@ -8,7 +8,7 @@ use lib.Dec.{eqb}
 use Rattle.refusals.specs.declared.Unheard.{Unheard}
 use Rattle.refusals.specs.declared.Unheard.the-variants.{Idle, NotAddressed, Reading, Writing}
 use Rattle.refusals.specs.declared.Refusal.{Refusal}
-use Rattle.refusals.specs.declared.Refusal.the-variants.{RamLength, FontLength, LineLength, NoLine, NotAcknowledged, FrameLines, BenchLength, CellRange, FeedShut, OutputRoom, PixelRange}
+use Rattle.refusals.specs.declared.Refusal.the-variants.{RamLength, FontLength, LineLength, NoLine, NotAcknowledged, FrameLines, BenchLength, CellRange, FeedShut, OutputRoom, PixelRange, FileLength, BlockChecks, BlockFormat}
 use Rattle.refusals.specs.Refusals.{numberOf, Verdict, passed, failed}
 
 IsRefused : Verdict → Type 0
@@ -35,6 +35,9 @@ not-zero CellRange = refl
 not-zero FeedShut = refl
 not-zero OutputRoom = refl
 not-zero PixelRange = refl
+not-zero FileLength = refl
+not-zero (BlockChecks place) = refl
+not-zero (BlockFormat place) = refl
 
 -- ---- why an event is not acknowledged, by the number
 

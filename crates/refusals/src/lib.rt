@@ -38,6 +38,12 @@ pub enum Refusal {
     OutputRoom,
     // 11: the pixel asked about lies past the line's last column or the frame's last line
     PixelRange,
+    // 15: a font file that is not 5,120 bytes, or the font that goes with it not 4,608
+    FileLength,
+    // 16: the checks are wrong in a block of a font file, at this place
+    BlockChecks(u8),
+    // 17: a block at this place has another number, used length or padding
+    BlockFormat(u8),
 }
 
 impl Unheard {
@@ -69,10 +75,13 @@ impl Refusal {
             Refusal::FeedShut => 9,
             Refusal::OutputRoom => 10,
             Refusal::PixelRange => 11,
+            Refusal::FileLength => 15,
+            Refusal::BlockChecks(_) => 16,
+            Refusal::BlockFormat(_) => 17,
         }
     }
 
-    // The number beside a refusal that has none of its own: 255 for an event that is not acknowledged, else 0.
+    // The number beside a refusal that has none of its own: 255 for an event that is not acknowledged, the place of a block, else 0.
     pub fn value(self) -> u8
         ensures { λ r. ⌜ r ≡ valueIn self ⌝ }
     {
@@ -88,6 +97,9 @@ impl Refusal {
             Refusal::FeedShut => 0,
             Refusal::OutputRoom => 0,
             Refusal::PixelRange => 0,
+            Refusal::FileLength => 0,
+            Refusal::BlockChecks(place) => place,
+            Refusal::BlockFormat(place) => place,
         }
     }
 }

@@ -12,7 +12,8 @@ use Rattle.line.specs.Line.{codesBy, rowBy, shownBy, scanBy, shownOf, character
 use Rattle.device.specs.Device.{freshDevice, inFrame, startFrame, pixelsOf, lineOn, lineDrawn, drawVerdict, drawBy, drawLine}
 use Rattle.report.specs.Report as report
 use Rattle.report.specs.Report.{benchDevice, digits, linesText, benchText}
-use Rattle.report.specs.Example.{exampleInput, exampleOutput, bytesOf, BenchExample}
+use Rattle.buffers.specs.Buffers.{bytesOf}
+use Rattle.report.specs.Example.{exampleInput, exampleOutput, BenchExample}
 
 pub bench-example : BenchExample
 unfolding exampleInput exampleOutput bytesOf benchText linesText report.benchStart benchDevice digits freshDevice inFrame startFrame pixelsOf lineOn lineDrawn drawVerdict drawBy drawLine loaded zipWith settingsOf scanBy nextLine walkFrom over begun advanced stripOf rowBy shownBy codesBy glyphOf inRam bind fmap cells value beforeFirst following isLast interpolated sliceNumber paint painted character shownOf twelveColumns inkOf columns bitsOf

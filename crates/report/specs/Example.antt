@@ -1,11 +1,11 @@
 -- Document 01, "Bench program": its example, the input and the whole output as printed there.
 -- Assumes nothing.
 use Prim.Native.Nat.{ℕ}
-use Prim.Native.Char.{code}
-use Prim.Native.String.{String, [] as empty, _∷_ as _then_}
+use Prim.Native.String.{String}
 use mathlib.Core.Path.{_≡_}
 use mathlib.Core.List.{List, [], _∷_, _++_}
 use lib.ListN.{replicate}
+use Rattle.buffers.specs.Buffers.{bytesOf}
 use Rattle.report.specs.Report.{benchText}
 
 -- cells 0 to 7 = 04 C0 00 00 71 41 00 FF, others 0; registers 04 04 12 80, others 0; font bytes 2340, 2341 = 0F 08, others 0; one line
@@ -18,11 +18,6 @@ exampleInput =
 
 unfoldable pub exampleOutput : String
 exampleOutput = "lines 1 width 60\n000000000000000000000000000000000000F9999999FFFF000000000000 6\n"
-
--- a text as its bytes; each character here is one, its ASCII code
-unfoldable pub bytesOf : String → List ℕ
-bytesOf empty = []
-bytesOf (c then s) = code c ∷ bytesOf s
 
 -- the claim
 abbrev pub BenchExample : Type 0

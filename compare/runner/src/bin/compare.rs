@@ -1,5 +1,5 @@
 //! Compares the proved library with the independent implementation, call by call, over many random sessions; captures that are cut with
-//! the same captures fed whole; and pixels that are asked for with those that are drawn.
+//! the same captures fed whole; pixels that are asked for with those that are drawn; and font files with all single damages of one.
 //!
 //!     compare PAGE [SEED [SESSIONS]]
 //!
@@ -8,11 +8,14 @@
 
 use runner::library::Linked;
 use runner::sessions::{corrupted, play, DEFAULT_SEED, DEFAULT_SESSIONS};
-use runner::{captures, frames, linked, pages};
+use runner::{captures, font_files, frames, linked, pages};
 use std::process::exit;
 
 /// Refusals of a bus event that is not acknowledged: idle, not addressed, reading, writing. Every session meets each of them.
 const NOT_ACKNOWLEDGED: [usize; 4] = [5, 12, 13, 14];
+
+/// Refusals of a font file: a length, a block's checks, a block's format. Every session meets each of them too.
+const FONT_FILE: [usize; 3] = [15, 16, 17];
 
 /// Adds to the counts of a session's refusals those of another.
 fn add(counts: &mut [u64; 256], others: [u64; 256]) {
@@ -38,6 +41,7 @@ fn main() {
     let mut made_up_counts = [0; 256];
     let mut made_up_fed = 0;
     let mut asked = 0;
+    let mut damaged = 0;
     for i in 0..sessions {
         add(&mut counts, play(&mut Linked, seed + i));
         let on_corrupted = corrupted(&mut Linked, seed + i);
@@ -45,11 +49,16 @@ fn main() {
         add(&mut made_up_counts, on_corrupted.compared);
         made_up_fed += captures::made_up(seed + i);
         asked += frames::made_up(seed + i);
+        damaged += font_files::made_up(seed + i);
     }
     let (_, capture) = page.split_at(pages::FONT);
     let fed = captures::sample(capture);
     captures::longest();
     frames::lengths();
+    font_files::lengths(seed);
+    let changed = font_files::changed_bytes(seed);
+    let exchanged = font_files::exchanged_neighbours(seed);
+    let formats = font_files::other_formats(seed);
 
     println!("seeds {seed} to {}: {sessions} sessions", seed + sessions - 1);
     for (refusal, count) in counts.iter().enumerate().filter(|(_, &count)| count > 0) {
@@ -61,6 +70,10 @@ fn main() {
             exit(1);
         }
     }
+    if let Some(refusal) = FONT_FILE.into_iter().find(|&refusal| counts[refusal] == 0) {
+        println!("no call was refused with {refusal}");
+        exit(1);
+    }
     println!("{} calls compared, 0 differences; {made_up} calls on corrupted records, 0 faults", counts.iter().sum::<u64>());
     println!("{} bus events and chunks on corrupted records compared in full, 0 differences", made_up_counts.iter().sum::<u64>());
     println!(
@@ -68,4 +81,6 @@ fn main() {
         capture.len()
     );
     println!("{asked} pixels of {sessions} frames asked for and drawn: 0 differences");
+    println!("{sessions} fonts written and read, their files read {damaged} times with damage of all sorts: 0 differences");
+    println!("a font file with each of {changed} changed bytes, {exchanged} exchanged neighbours and {formats} other formats: 0 differences");
 }

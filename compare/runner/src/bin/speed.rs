@@ -4,7 +4,8 @@
 //!
 //! Each figure is the least of ROUNDS rounds, in which the two take turns. A ratio below 1 means that the proved library is faster.
 
-use osd_model::{bus_bytes, feed_bytes, pixel_bytes, Device, Event};
+use osd_model::{bus_bytes, feed_bytes, font_file, pixel_bytes, Device, Event};
+use runner::font_files::FILE;
 use runner::library::Place;
 use runner::linked;
 use runner::pages::{self, FIRST_USER, FONT, RAM};
@@ -76,6 +77,16 @@ fn model_feed(device: &mut Record, feed: &mut [u8; 2], ram: &mut [u8], chunk: &[
 #[inline(never)]
 fn model_pixel(device: &Record, ram: &[u8], font: &[u8], Place { lines, frame, x, y }: Place) -> u32 {
     pixel_bytes(device, ram, font, lines, frame, x, y)
+}
+
+#[inline(never)]
+fn model_font_write(font: &[u8], file: &mut [u8]) -> u32 {
+    font_file::write_bytes(font, file)
+}
+
+#[inline(never)]
+fn model_font_read(file: &[u8], font: &mut [u8]) -> u32 {
+    font_file::read_bytes(file, font)
 }
 
 /// The least time of some rounds, in nanoseconds a turn, of two competitors that take turns.
@@ -273,6 +284,65 @@ fn pixel(name: &str, rounds: u32, pair: Pair, x: u32, y: u32) {
     row(name, figures);
 }
 
+/// A font and a font file, each at the start of a cache line.
+#[repr(align(64))]
+struct Font([u8; FONT]);
+
+#[repr(align(64))]
+struct File([u8; FILE]);
+
+const FILES: u32 = 64;
+
+fn font_write(name: &str, rounds: u32, font: &[u8]) {
+    let font = Font(font.try_into().expect("a font"));
+    let (mut file, mut model_file) = (File([0; FILE]), File([0; FILE]));
+    let figures = race(
+        rounds,
+        FILES,
+        || {
+            for _ in 0..FILES {
+                black_box(linked::font_write(black_box(&font.0), &mut file.0));
+            }
+        },
+        || {
+            for _ in 0..FILES {
+                black_box(model_font_write(black_box(&font.0), &mut model_file.0));
+            }
+        },
+    );
+    assert_eq!(file.0, model_file.0);
+    row(name, figures);
+}
+
+/// A font's file, with this byte changed where there is one: then it is refused.
+fn font_read(name: &str, rounds: u32, font: &[u8], changed: Option<usize>) {
+    let mut file = File([0; FILE]);
+    assert_eq!(linked::font_write(font, &mut file.0), 0);
+    if let Some(byte) = changed {
+        file.0[byte] ^= 1;
+    }
+    let (mut read, mut model_read) = (Font([0; FONT]), Font([0; FONT]));
+    let expected = changed.map_or(0, |byte| (16 << 16) + byte as u32 / 512);
+    assert_eq!(linked::font_read(&file.0, &mut read.0), expected);
+    assert_eq!(model_font_read(&file.0, &mut model_read.0), expected);
+    let figures = race(
+        rounds,
+        FILES,
+        || {
+            for _ in 0..FILES {
+                black_box(linked::font_read(black_box(&file.0), &mut read.0));
+            }
+        },
+        || {
+            for _ in 0..FILES {
+                black_box(model_font_read(black_box(&file.0), &mut model_read.0));
+            }
+        },
+    );
+    assert_eq!(read.0, model_read.0);
+    row(name, figures);
+}
+
 /// Every descriptor shows the row of 61 codes at word 256.
 fn full_page(mut code: impl FnMut() -> (u8, u8)) -> Vec<u8> {
     let mut ram = vec![0; RAM];
@@ -365,4 +435,7 @@ fn main() {
     pixel("a pixel, CH 18, full page, line 1,000, in the middle", rounds, wide(&font_page), 384, 1000);
     let thin = Pair::new(all_strips(), &font, [63, 4, 1, 0x80]);
     pixel("a pixel, CH 1, 2,048 strips, last line, last column", rounds, thin, 767, 2047);
+    font_write("a font file, written", rounds, &font);
+    font_read("a font file, read", rounds, &font, None);
+    font_read("a font file, refused at block 9", rounds, &font, Some(FILE - 1));
 }

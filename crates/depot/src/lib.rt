@@ -1,0 +1,63 @@
+// What a depot's programs (font_check, font_unpack) say of a font file, in one line.
+ghost use mathlib.Core.Path.{_≡_};
+ghost use Prim.Native.Nat.{_+_, _%_, _≤_, _<_};
+ghost use lib.ListN.{length, take, set};
+ghost use Rattle.font_file.specs.FontFile.{replyOf};
+ghost use Rattle.depot.specs.Depot.{lineOf, textOf};
+use font_file::FileAnswer;
+
+// Where the place of a block stands in a line.
+const PLACE_AT: usize = 18;
+
+pub struct Line {
+    pub bytes: [u8; 64],
+    pub length: usize,
+}
+
+fn line_of(text: &[u8]) -> Line
+    requires { ⌜ length (now text) ≤ 64 ⌝ }
+    ensures { λ r. ⌜ textOf r ≡ now (text .entry) ⌝ }
+    ensures { λ r. ⌜ (r .length ≡ length (now (text .entry))) × (length (r .bytes) ≡ 64) ⌝ }
+{
+    let mut bytes = [0u8; 64];
+    let length = bytes::copy(text, &mut bytes);
+    Line {
+        bytes: bytes,
+        length: length,
+    }
+}
+
+fn line_with(text: &[u8], place: u8) -> Line
+    requires { ⌜ (18 < length (now text)) × (length (now text) ≤ 64) ⌝ }
+    ensures { λ r. ⌜ textOf r ≡ set (now (text .entry)) 18 (48 + place % 10) ⌝ }
+    ensures { λ r. ⌜ r .length ≤ length (r .bytes) ⌝ }
+{
+    let mut line = line_of(text);
+    line.bytes[PLACE_AT] = b'0' + place % 10;
+    line
+}
+
+fn told(answer: FileAnswer) -> Line
+    ensures { λ r. ⌜ textOf r ≡ lineOf (replyOf answer) ⌝ }
+    ensures { λ r. ⌜ r .length ≤ length (r .bytes) ⌝ }
+{
+    let refusal = answer.refusal();
+    if refusal == 0 {
+        return line_of(b"good\n");
+    }
+    if refusal == 16 {
+        return line_with(b"refused 16: block 0: checks wrong\n", answer.value());
+    }
+    if refusal == 17 {
+        return line_with(b"refused 17: block 0: other number, length or padding\n", answer.value());
+    }
+    line_of(b"refused 15: not 5120 bytes\n")
+}
+
+// Prints the line.
+pub fn tell(answer: FileAnswer) {
+    let line = told(answer);
+    let bytes = line.bytes;
+    let length = line.length;
+    io::write_all(1, &bytes[..length]);
+}

@@ -1,0 +1,3 @@
+pub mod FontFile
+pub mod Checked
+pub mod Columns
