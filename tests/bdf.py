@@ -1,7 +1,8 @@
 #!/usr/bin/env python3
 """Tests of tools/bdf.py, run as `python3 -B tests/bdf.py`: prints a line for each difference, and one with the counts.
 
-The small font tests/small.bdf is held against pictures below, the sample font and noise go both ways, and every kind of bad BDF is refused.
+The small font tests/small.bdf is held against pictures below, the sample font and noise go both ways, cells are placed by FONT_ASCENT and
+FONT_DESCENT or by FONTBOUNDINGBOX (as in the small font, where these make fewer than 18 rows), and every kind of bad BDF is refused.
 Fonts of X11 are tried where they are installed (on Debian xfonts-base and pcf2bdf), and what from-font writes is given to bdftopcf
 (xfonts-utils).
 """
@@ -115,6 +116,9 @@ def pixels_of_bdf(text):
 
     head, *parts = re.split(r'^STARTCHAR ', text, flags=re.M)
     _, height, left, bottom = four('FONTBOUNDINGBOX', head)
+    above, below = (re.findall(r'^FONT_%s +(-?\d+)$' % word, head, re.M) for word in ('ASCENT', 'DESCENT'))
+    if above and below and int(above[0]) + int(below[0]) == 18:
+        height, left, bottom = 18, 0, -int(below[0])
     pixels = set()
     for part in parts:
         k = int(re.search(r'^ENCODING .*?(-?\d+)$', part, re.M).group(1))
@@ -238,6 +242,70 @@ def there_and_back():
         expect(what + ': the same BDF again', from_font(what + ' drawn', drawn) == bdf)
 
 
+# ---- where the cell is
+
+def placed(text, ascent, descent, box=None):
+    """A BDF with these values of the two properties and of FONTBOUNDINGBOX; without a property whose value is None."""
+    for word, value in (('FONT_ASCENT', ascent), ('FONT_DESCENT', descent)):
+        text, n = re.subn(r'^%s .*$' % word, 'X 0' if value is None else '%s %d' % (word, value), text, flags=re.M)
+        assert n == 1, word
+    return re.sub(r'^FONTBOUNDINGBOX .*$', 'FONTBOUNDINGBOX ' + box, text, flags=re.M) if box else text
+
+
+def same_pixels(what, text, font):
+    expect(what + ': the reading of this test', pixels_of_bdf(text) == pixels_of_font(font))
+    taken(what, text, font)
+
+
+def cells():
+    sample, noise = demo.sample_font(), demo.packed(x * 15 % 4096 for x in script.noise(2304, 8))
+    boxes = ('12 18 0 -4', '11 16 1 -4', '1 1 5 5', '0 0 0 0', '40 50 -9 -20')
+    for what, font in (('sample font', sample), ('noise', noise)):
+        bdf = run('from-font', font)[1].decode()
+        for box in boxes:
+            same_pixels('%s in %s' % (what, box), placed(bdf, 14, 4, box), font)
+    bdf, moved_pixels = run('from-font', sample)[1].decode(), {(k, column - 1, row - 2) for k, column, row in pixels_of_font(sample)}
+    for ascent, descent in ((14, 3), (14, None), (None, 4)):
+        same_pixels('sample font of %s and %s rows' % (ascent, descent), placed(bdf, ascent, descent), sample)
+        status, font, _ = run('to-font', placed(bdf, ascent, descent, '11 16 1 -4'))
+        expect('sample font of %s and %s rows, moved' % (ascent, descent), status == 0 and pixels_of_font(font) == moved_pixels)
+
+    # rows are moved out of the cell only if they are blank
+    for rows, ascent, descent, at, row in ((1, 13, 5, 0, -1), (-1, 15, 3, 17, 18), (3, 11, 7, 2, -1), (-4, 18, 0, 14, 18)):
+        out = range(rows) if rows > 0 else range(18 + rows, 18)
+        blank = [0 if i % 36 // 2 in out else x for i, x in enumerate(noise)]
+        shifted = [x for k in range(128) for x in rotated(blank[36 * k:36 * k + 36], 2 * rows)]
+        what = 'noise of %d and %d rows' % (ascent, descent)
+        for box in boxes:
+            same_pixels(what, placed(run('from-font', blank)[1].decode(), ascent, descent, box), shifted)
+        blank[36 * 65 + 2 * at] |= 1 << 5
+        refused(what + ', a pixel outside', 'to-font', placed(run('from-font', blank)[1].decode(), ascent, descent),
+                'character 65 (U+0041) has a pixel outside the cell, at column 6 of row %d,' % row)
+
+
+def rotated(values, n):
+    return values[n:] + values[:n]
+
+
+def cells_of_the_small_font():
+    # FONTBOUNDINGBOX has its left edge at -1 and its top at 11
+    font = small_font()
+    for ascent in (14, 9, 18, 20, 100, 1, 0, -1, -2, -100):
+        what, text = 'small font of ascent %d' % ascent, placed(moved(1, ascent - 11), ascent, 18 - ascent, '10 14 -7 8')
+        same_pixels(what, text, font)
+        same_pixels(what + ', FONTBOUNDINGBOX last', re.sub(r'^(FONTBOUNDINGBOX.*\n)((?:.*\n)*?)CHARS', r'\2\1CHARS', text, flags=re.M), font)
+        same_pixels(what + ', descent first', re.sub(r'^(FONT_ASCENT.*\n)(FONT_DESCENT.*\n)', r'\2\1', text, flags=re.M), font)
+        refused(what + ', one column to the left', 'to-font', placed(moved(0, ascent - 11), ascent, 18 - ascent), 'column -1 of row 0,')
+        text = re.sub('^FONTBOUNDINGBOX.*\n', '', text, flags=re.M)
+        refused(what + ', no FONTBOUNDINGBOX', 'to-font', text, line_of(text, 'CHARS 11'), 'FONTBOUNDINGBOX')
+    for ascent, descent in ((14, 3), (14, 5), (14, -4), (-14, -4), (0, 0), (18, 18), (-18, 0), (12, 2), (14, None), (None, 4), (18, None),
+                            (None, 18), (None, None)):
+        same_pixels('small font of %s and %s rows' % (ascent, descent), placed(SMALL, ascent, descent), font)
+    for old, new in (('FONT_ASCENT 12', 'FONT_ASCENTS 16'), ('FONT_ASCENT 12', 'font_ascent 16'), ('NOTICE "', 'NOTICE "\tFONT_ASCENT 16 '),
+                     ('FONT_ASCENT 12', 'COMMENT FONT_ASCENT 16\nX 0'), ('NOTICE "ENDPROPERTIES"', 'RAW_ASCENT 16')):
+        same_pixels('%r for %r' % (new, old), edited((old, new)), font)
+
+
 # ---- refusals
 
 def line_of(text, at):
@@ -280,6 +348,12 @@ def refused_bdfs():
             ('STARTPROPERTIES 4', 'STARTPROPERTIES', 'STARTPROPERTIES', '1 number'),
             ('STARTPROPERTIES 4', 'STARTPROPERTIES -4', 'STARTPROPERTIES -4', 'negative'),
             ('\nENDPROPERTIES', '', 'CHARS 11', 'more than 4'),
+            *(('%s %d' % (word, n), line, line, word, '1 number') for word, n in (('FONT_ASCENT', 12), ('FONT_DESCENT', 2))
+              for line in [word] + [word + ' ' + values for values in ('14 4', '"14"', '14.0', '0xE', '- 4', '+14', '1234567890', 'x')]),
+            ('NOTICE "ENDPROPERTIES"', 'FONT_ASCENT 12', 10, 'FONT_ASCENT', 'twice'),
+            ('NOTICE "ENDPROPERTIES"', 'FONT_DESCENT 6', 'FONT_DESCENT 6', 'FONT_DESCENT', 'twice'),
+            ('\nENDPROPERTIES\n', '\nENDPROPERTIES\nSTARTPROPERTIES 1\nFONT_DESCENT 6\nENDPROPERTIES\n', 'FONT_DESCENT 6', 'twice'),
+            ('STARTPROPERTIES 4', 'FONT_ASCENT 14\nSTARTPROPERTIES 4', 'FONT_ASCENT 14', 'no place'),
             ('CHARS 11\n', '', 'STARTCHAR frame, with nothing set outside the cell', 'STARTCHAR'),
             ('CHARS 11', 'CHARS 12', 'ENDFONT', '11 glyphs, not 12'),
             ('CHARS 11', 'CHARS 10', 'STARTCHAR corners of the cell', 'more than 10'),
@@ -388,6 +462,8 @@ def fonts_of_x11():
             if status == 0:
                 expect(name + ': other pixels', pixels_of_font(font) == pixels and max(font[1::2]) < 16)
                 taken(name + ' there and back', from_font(name, font), font)
+                if name.startswith('9x18.'):
+                    taken(name + ' placed by FONTBOUNDINGBOX', re.sub(rb'^FONT_(?=ASCENT|DESCENT)', b'NO_', bdf, flags=re.M), font)
         else:
             refused(name, 'to-font', bdf, 'outside')
     return ' '.join(names) or 'none installed'
@@ -408,7 +484,7 @@ def compiler():
     return 'run'
 
 
-for part in (the_small_font, there_and_back, refused_fonts, refused_bdfs, cut_bdfs, pixels_outside, commands):
+for part in (the_small_font, there_and_back, cells, cells_of_the_small_font, refused_fonts, refused_bdfs, cut_bdfs, pixels_outside, commands):
     part()
 fonts, compiled = fonts_of_x11(), compiler()
 print('bdf: %d tests, %d differences (fonts of X11: %s; bdftopcf: %s)' % (tests, differences, fonts, compiled))

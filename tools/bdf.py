@@ -9,14 +9,12 @@ first PX7 to PX0, then PX11 to PX8 in bits 3 to 0. PX11 is leftmost. The upper f
 from-font drops them, and to-font gives 0. So a font that went both ways is the same on the screen, and the same in every byte if it had
 these bits 0.
 
-to-font takes the glyphs with ENCODING 0 to 127. The left edge of FONTBOUNDINGBOX is put at the cell's leftmost column and its top at the
-cell's top row, and each glyph's BBX is placed relative to it; a smaller box leaves the rest of the cell blank. A character that is missing is
-blank; glyphs with other encodings (-1, or above 127) are passed over. ENCODING -1 n counts as n. A set pixel outside the cell is refused,
-and so is a BDF that is malformed, with the number of the line: nothing is converted then, and the exit status is 1. Words and values that do
-not change a pixel (names, widths, properties) are not looked at, nor are digits of a row that lie to the right of its BBX.
-
-Some editors (FontForge is one) shrink FONTBOUNDINGBOX to what is drawn, which would move all characters up and to the left. For a BDF that
-from-font wrote, put its line back before to-font: FONTBOUNDINGBOX 12 18 0 -4.
+to-font takes the glyphs with ENCODING 0 to 127. Where the properties FONT_ASCENT and FONT_DESCENT are both given and together make 18 rows,
+they place the cell, whatever FONTBOUNDINGBOX says: its top row is FONT_ASCENT above the base line, and its leftmost column is at x = 0.
+Otherwise the cell's top left corner is that of FONTBOUNDINGBOX, and a smaller box leaves the rest of the cell blank. A character that is
+missing is blank; glyphs with other encodings (-1, or above 127) are passed over. ENCODING -1 n counts as n. A set pixel outside the cell is
+refused, and so is a BDF that is malformed, with the number of the line: nothing is converted then, and the exit status is 1. Words and values
+that do not change a pixel (names, widths, other properties) are not looked at, nor are digits of a row that lie to the right of its BBX.
 """
 import re
 import sys
@@ -97,9 +95,9 @@ class Glyph:
         self.name, self.line, self.encoding, self.box, self.rows = name, line, None, None, []
 
 
-def font_box_of(lines):
-    """The font's part of a BDF, up to CHARS: FONTBOUNDINGBOX, and how many glyphs follow."""
-    box = None
+def head_of(lines):
+    """The font's part of a BDF, up to CHARS: where the cell's left and top edges are, and how many glyphs follow."""
+    box, rows = None, {}
     if lines.next('STARTFONT')[0] != 'STARTFONT':
         raise lines.refusal('a BDF begins with STARTFONT')
     while True:
@@ -110,19 +108,27 @@ def font_box_of(lines):
             if words[4:] not in ([], ['1']):
                 raise lines.refusal('more than one bit a pixel')
         elif words[0] == 'STARTPROPERTIES':
-            pass_properties(lines, lines.count(words))
+            read_properties(lines, lines.count(words), rows)
         elif words[0] == 'CHARS':
             if box is None:
                 raise lines.refusal('CHARS before FONTBOUNDINGBOX')
-            return box, lines.count(words)
+            _, height, left, bottom = box
+            placed = len(rows) == 2 and sum(rows.values()) == SLICES
+            return (0, rows['FONT_ASCENT']) if placed else (left, bottom + height), lines.count(words)
         elif words[0] not in FONT_WORDS:
             raise lines.refusal('%s has no place here' % words[0])
 
 
-def pass_properties(lines, n):
+def read_properties(lines, n, rows):
+    """Puts FONT_ASCENT and FONT_DESCENT into rows, and passes over the others."""
     for i in range(n):
-        if lines.next('ENDPROPERTIES') == ['ENDPROPERTIES']:
+        words = lines.next('ENDPROPERTIES')
+        if words == ['ENDPROPERTIES']:
             raise lines.refusal('%d properties, not %d' % (i, n))
+        if words[0] in rows:
+            raise lines.refusal('%s is given twice' % words[0])
+        if words[0] in ('FONT_ASCENT', 'FONT_DESCENT'):
+            rows[words[0]], = lines.numbers(words, 1)
     if lines.next('ENDPROPERTIES') != ['ENDPROPERTIES']:
         raise lines.refusal('more than %d properties' % n)
 
@@ -172,11 +178,10 @@ def read_rows(lines, glyph):
         raise lines.refusal('%d rows, not %d' % (len(glyph.rows), height))
 
 
-def slices_of(lines, glyph, font_box):
+def slices_of(lines, glyph, cell_left, cell_top):
     """The 18 slices of a glyph's cell, as numbers of twelve bits."""
-    font_width, font_height, font_left, font_bottom = font_box
     width, height, left, bottom = glyph.box
-    first_row, first_column = font_bottom + font_height - bottom - height, left - font_left
+    first_row, first_column = cell_top - bottom - height, left - cell_left
     slices = [0] * SLICES
     for row, bits in enumerate(glyph.rows, first_row):
         for column in range(first_column, first_column + width):
@@ -192,7 +197,7 @@ def to_font(data):
     """The font of a BDF, and a line about it."""
     lines, seen, passed = Lines(data), {}, 0
     font = bytearray(FONT_LENGTH)
-    font_box, n = font_box_of(lines)
+    corner, n = head_of(lines)
     words = lines.next('ENDFONT')
     for i in range(n):
         if words == ['ENDFONT']:
@@ -204,7 +209,7 @@ def to_font(data):
         if k >= 0:
             seen[k] = glyph.name
         if 0 <= k < CHARACTERS:
-            slices = slices_of(lines, glyph, font_box)
+            slices = slices_of(lines, glyph, *corner)
             font[36 * k:36 * k + 36] = [x for bits in slices for x in (bits & 255, bits >> 8)]
         else:
             passed += 1

@@ -2,9 +2,10 @@
 ghost use mathlib.Core.Path.{_≡_};
 ghost use Prim.Native.Nat.{_+_, _%_, _≤_, _<_};
 ghost use lib.ListN.{length, take, set};
-ghost use Rattle.font_file.specs.FontFile.{replyOf};
+ghost use Rattle.font_file.specs.declared.FileAnswer.the-variants.{Refused};
 ghost use Rattle.depot.specs.Depot.{lineOf, textOf};
 use font_file::FileAnswer;
+use refusals::FileRefusal;
 
 // Where the place of a block stands in a line.
 const PLACE_AT: usize = 18;
@@ -37,21 +38,30 @@ fn line_with(text: &[u8], place: u8) -> Line
     line
 }
 
-fn told(answer: FileAnswer) -> Line
-    ensures { λ r. ⌜ textOf r ≡ lineOf (replyOf answer) ⌝ }
+fn refused(refusal: FileRefusal) -> Line
+    ensures { λ r. ⌜ textOf r ≡ lineOf (Refused refusal) ⌝ }
     ensures { λ r. ⌜ r .length ≤ length (r .bytes) ⌝ }
 {
-    let refusal = answer.refusal();
-    if refusal == 0 {
-        return line_of(b"good\n");
+    match refusal {
+        FileRefusal::Length => line_of(b"refused 15: not 5120 bytes\n"),
+        FileRefusal::Checks(place) => line_with(b"refused 16: block 0: checks wrong\n", place),
+        FileRefusal::Format(place) => {
+            line_with(
+                b"refused 17: block 0: other number, length or padding\n",
+                place,
+            )
+        }
     }
-    if refusal == 16 {
-        return line_with(b"refused 16: block 0: checks wrong\n", answer.value());
+}
+
+fn told(answer: FileAnswer) -> Line
+    ensures { λ r. ⌜ textOf r ≡ lineOf answer ⌝ }
+    ensures { λ r. ⌜ r .length ≤ length (r .bytes) ⌝ }
+{
+    match answer {
+        FileAnswer::Done => line_of(b"good\n"),
+        FileAnswer::Refused(refusal) => refused(refusal),
     }
-    if refusal == 17 {
-        return line_with(b"refused 17: block 0: other number, length or padding\n", answer.value());
-    }
-    line_of(b"refused 15: not 5120 bytes\n")
 }
 
 // Prints the line.

@@ -1,7 +1,7 @@
 -- One block of a font file: the one that is written, one that passes its tests, and one that is damaged.
 -- Assumes nothing.
 use Prim.Native.Nat.{ℕ, zero, suc, _+_, _-_, _/_, _%_, _≤_, _<_}
-use mathlib.Core.Path.{_≡_, refl, sym, ap, _∙_}
+use mathlib.Core.Path.{_≡_, refl, sym, ap, subst, _∙_}
 use mathlib.Core.Bool.{Bool, true, false, _&&_, true≢false, not-eq-not}
 use mathlib.Core.List.{List, [], _∷_, _++_, append-assoc}
 use native.Mathlib.Decide.{decLt}
@@ -15,12 +15,22 @@ use Rattle.buffers.specs.Buffers.{word, wordBytes}
 use Rattle.facts.proofs.Choice.{either}
 use Rattle.facts.proofs.Lists.{set-at}
 use Rattle.facts.proofs.Parts.{drop-take}
-use Rattle.refusals.specs.declared.Refusal.the-variants.{BlockChecks}
-use Rattle.refusals.specs.Refusals.{passed, failed}
-use Rattle.refusals.proofs.Laws.{failed-not}
-use Rattle.font_file.specs.FontFile.{usedLength, sumCheck, weightedCheck, contentOf, withChecks, checksRight, allZero, unusedIn, formatRight, blockVerdict}
+use Rattle.refusals.specs.declared.FileRefusal.{FileRefusal}
+use Rattle.refusals.specs.declared.FileRefusal.the-variants.{Checks}
+use Rattle.font_file.specs.declared.FileAnswer.{FileAnswer}
+use Rattle.font_file.specs.declared.FileAnswer.the-variants.{Done, Refused}
+use Rattle.font_file.specs.FontFile.{usedLength, sumCheck, weightedCheck, contentOf, withChecks, checksRight, allZero, unusedIn, formatRight, blockTest}
 use Rattle.font_file.specs.Checked.{Bytes, exchanged}
 use Rattle.font_file.proofs.Sums.{sum-set, weighted-exchanged}
+
+-- a refusal is not the answer that all is done
+IsRefused : FileAnswer → Type 0
+IsRefused Done = ⊥
+IsRefused (Refused r) = Unit
+
+pub refused-not : (r : FileRefusal) → Refused r ≡ Done → ⊥
+unfolding IsRefused
+refused-not r e = subst IsRefused e tt
 
 -- ---- bytes
 
@@ -95,8 +105,8 @@ module _ (number : ℕ) (font : List ℕ) (h : length font ≡ usedLength number
   unfolding withChecks contentOf
   block-font rest = simp append-assoc (take-at font _ (usedLength number) h)
 
-  pub block-passes : blockVerdict number (blockOf number font) ≡ passed
-  unfolding blockVerdict formatRight withChecks contentOf
+  pub block-passes : blockTest number (blockOf number font) ≡ Done
+  unfolding blockTest formatRight withChecks contentOf
   block-passes =
       let c : List ℕ = contentOf number font in
       let l : length c ≡ 508 = content-length in
@@ -112,10 +122,10 @@ pub both-true : (a b : Bool) → a && b ≡ true → (a ≡ true) × (b ≡ true
 both-true true b e = (refl, e)
 both-true false b e = absurd (true≢false (sym e))
 
-passed-both : (place : ℕ) (block : List ℕ) → blockVerdict place block ≡ passed → (checksRight block ≡ true) × (formatRight place block ≡ true)
-unfolding blockVerdict
+passed-both : (place : ℕ) (block : List ℕ) → blockTest place block ≡ Done → (checksRight block ≡ true) × (formatRight place block ≡ true)
+unfolding blockTest
 passed-both place block e =
-    let c : checksRight block ≡ true = not-eq-not .0 (λ n. failed-not _ (rw n at e)) in (c, not-eq-not .0 (λ n. failed-not _ (rw (c, n) at e)))
+    let c : checksRight block ≡ true = not-eq-not .0 (λ n. refused-not _ (rw n at e)) in (c, not-eq-not .0 (λ n. refused-not _ (rw (c, n) at e)))
 
 -- two bytes are those of the number that stands in them
 word-back : (xs : List ℕ) (i : ℕ) → Bytes xs → suc i < length xs → wordBytes (word xs i) ++ drop (suc (suc i)) xs ≡ drop i xs
@@ -161,18 +171,18 @@ format-back place block l h e =
     (ap (take 508) (words-back block rest place u h (omega arith) (eqb-true _ _ p) (eqb-true _ _ q) refl))
 
 -- it is the one that is written with its bytes of font
-pub block-back : (place : ℕ) (block : List ℕ) → length block ≡ 512 → Bytes block → blockVerdict place block ≡ passed
+pub block-back : (place : ℕ) (block : List ℕ) → length block ≡ 512 → Bytes block → blockTest place block ≡ Done
     → blockOf place (take (usedLength place) (drop 4 block)) ≡ block
 block-back place block l h e =
     let (p, q) = passed-both place block e in ap withChecks (format-back place block l h q) ∙ checks-back block l h p
 
 -- ---- then damaged: if its checks are right, nothing was changed
 
-bad-checks : (place : ℕ) (block : List ℕ) → (checksRight block ≡ true → ⊥) → blockVerdict place block ≡ failed (BlockChecks place)
-unfolding blockVerdict
+bad-checks : (place : ℕ) (block : List ℕ) → (checksRight block ≡ true → ⊥) → blockTest place block ≡ Refused (Checks place)
+unfolding blockTest
 bad-checks place block n = let c : checksRight block ≡ false = not-eq-not .0 n in rw c
 
-module _ (place : ℕ) (block : List ℕ) (l : length block ≡ 512) (h : Bytes block) (e : blockVerdict place block ≡ passed) where
+module _ (place : ℕ) (block : List ℕ) (l : length block ≡ 512) (h : Bytes block) (e : blockTest place block ≡ Done) where
   right : checksRight block ≡ true
   right = passed-both place block e .0
 
@@ -185,7 +195,7 @@ module _ (place : ℕ) (block : List ℕ) (l : length block ≡ 512) (h : Bytes 
       rw (← t) (sym m ∙ ap (λ (xs : List ℕ). word xs 0) d ∙ p, sym n ∙ ap (λ (xs : List ℕ). word xs 2) d ∙ q)
 
   -- one byte
-  pub changed : (i v : ℕ) → i < 512 → v < 256 → (v ≡ getD block i 0 → ⊥) → blockVerdict place (set block i v) ≡ failed (BlockChecks place)
+  pub changed : (i v : ℕ) → i < 512 → v < 256 → (v ≡ getD block i 0 → ⊥) → blockTest place (set block i v) ≡ Refused (Checks place)
   changed i v m k n = bad-checks place (set block i v) (λ s. n (by s (decLt i 508)))
     where
       by : checksRight (set block i v) ≡ true → Dec (i < 508) → v ≡ getD block i 0
@@ -202,7 +212,7 @@ module _ (place : ℕ) (block : List ℕ) (l : length block ≡ 512) (h : Bytes 
 
   -- two neighbours
   pub swapped : (i : ℕ) → suc i < 508 → (getD block i 0 ≡ getD block (suc i) 0 → ⊥)
-      → blockVerdict place (exchanged block i (suc i)) ≡ failed (BlockChecks place)
+      → blockTest place (exchanged block i (suc i)) ≡ Refused (Checks place)
   swapped i m n =
       bad-checks place (exchanged block i (suc i)) (λ s. n
       (let b : i < 508 = omega arith in

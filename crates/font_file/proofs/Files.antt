@@ -12,13 +12,14 @@ use lib.ListN.{length, getD, take, drop, set, length-append, length-take, length
 use lib.Seq.{take-all, take-at, drop-at, drop-drop, take-take, take-set-le, take-set-lt, drop-set-add, set-out}
 use Rattle.facts.proofs.Choice.{either}
 use Rattle.facts.proofs.Parts.{drop-take, getD-part}
-use Rattle.refusals.specs.declared.Refusal.{Refusal}
-use Rattle.refusals.specs.declared.Refusal.the-variants.{BlockChecks, BlockFormat}
-use Rattle.refusals.specs.Refusals.{valueIn, Verdict, passed, failed, orLater}
-use Rattle.refusals.proofs.Laws.{failed-not}
-use Rattle.font_file.specs.FontFile.{usedLength, blocksOf, checksRight, formatRight, blockVerdict, blocksVerdict, fontFrom}
+use Rattle.refusals.specs.declared.FileRefusal.{FileRefusal}
+use Rattle.refusals.specs.declared.FileRefusal.the-variants.{Checks, Format}
+use Rattle.refusals.specs.Refusals.{placeIn}
+use Rattle.font_file.specs.declared.FileAnswer.{FileAnswer}
+use Rattle.font_file.specs.declared.FileAnswer.the-variants.{Done, Refused}
+use Rattle.font_file.specs.FontFile.{orLater, usedLength, blocksOf, checksRight, formatRight, blockTest, blocksTest, fontFrom}
 use Rattle.font_file.specs.Checked.{Bytes, exchanged, payloadAt, blockAt}
-use Rattle.font_file.proofs.Blocks.{bytes-append, bytes-take, bytes-drop, blockOf, used-most, block-bytes, block-length, block-passes, block-font, block-back, changed, swapped}
+use Rattle.font_file.proofs.Blocks.{refused-not, bytes-append, bytes-take, bytes-drop, blockOf, used-most, block-bytes, block-length, block-passes, block-font, block-back, changed, swapped}
 
 -- a block has what is left of the font, and at most 504 bytes
 pub used-left : (place : ℕ) → place ≤ 9 → usedLength place ≡ min 504 (4608 - 504 * place)
@@ -41,8 +42,8 @@ blocks-bytes (suc count) place font n h i =
 -- they pass, and they hold the font
 pub blocks-read : (count place : ℕ) (font : List ℕ) → count + place ≡ 10 → length font ≡ 4608 - 504 * place
     → let file : List ℕ = blocksOf count place font in
-    (length file ≡ 512 * count) × (blocksVerdict count place file ≡ passed) × (fontFrom count place file ≡ font)
-unfolding blocksOf blocksVerdict fontFrom orLater
+    (length file ≡ 512 * count) × (blocksTest count place file ≡ Done) × (fontFrom count place file ≡ font)
+unfolding blocksOf blocksTest fontFrom orLater
 blocks-read zero place font n l = (refl, refl, sym (drop-of-length-le font {i = 0} (omega arith)))
 blocks-read (suc count) place font n l =
     let first : List ℕ = take 504 font in
@@ -56,53 +57,53 @@ blocks-read (suc count) place font n l =
 
 -- ---- the block at each place
 
-both-passed : (v w : Verdict) → orLater v w ≡ passed → (v ≡ passed) × (w ≡ passed)
+both-done : (v w : FileAnswer) → orLater v w ≡ Done → (v ≡ Done) × (w ≡ Done)
 unfolding orLater
-both-passed passed w e = (refl, e)
-both-passed (failed r) w e = absurd (failed-not r e)
+both-done Done w e = (refl, e)
+both-done (Refused r) w e = absurd (refused-not r e)
 
 module _ (file : List ℕ) where
   -- what the tests find from a place on
-  abbrev from : (count place : ℕ) → Verdict
-  from count place = blocksVerdict count place (drop (512 * place) file)
+  abbrev from : (count place : ℕ) → FileAnswer
+  from count place = blocksTest count place (drop (512 * place) file)
 
   next : (place : ℕ) → drop 512 (drop (512 * place) file) ≡ drop (512 * suc place) file
   next place = rw mul-suc (drop-drop 512 (512 * place) file)
 
-  from-next : (count place : ℕ) → from (suc count) place ≡ orLater (blockVerdict place (blockAt place file)) (from count (suc place))
-  unfolding blocksVerdict
+  from-next : (count place : ℕ) → from (suc count) place ≡ orLater (blockTest place (blockAt place file)) (from count (suc place))
+  unfolding blocksTest
   from-next count place = rw (next place)
 
   -- the first bad block, j places on, is what they find
-  pub first-bad : (count place j p : ℕ) (r : Refusal) → j + place ≡ p → j < count → ((q : ℕ) → q < p → blockVerdict q (blockAt q file) ≡ passed)
-      → blockVerdict p (blockAt p file) ≡ failed r → from count place ≡ failed r
+  pub first-bad : (count place j p : ℕ) (r : FileRefusal) → j + place ≡ p → j < count → ((q : ℕ) → q < p → blockTest q (blockAt q file) ≡ Done)
+      → blockTest p (blockAt p file) ≡ Refused r → from count place ≡ Refused r
   unfolding orLater
   first-bad zero place j p r e k good bad = absurd (omega arith)
   first-bad (suc count) place zero p r e k good bad = let f : place ≡ p = omega arith in rw (from-next count place, f, bad)
   first-bad (suc count) place (suc j) p r e k good bad =
       rw (from-next count place, good place (omega arith)) (first-bad count (suc place) j p r (omega arith) (omega arith) good bad)
 
-  pub all-good : (count place : ℕ) → ((q : ℕ) → q < count + place → blockVerdict q (blockAt q file) ≡ passed) → from count place ≡ passed
-  unfolding orLater blocksVerdict
+  pub all-good : (count place : ℕ) → ((q : ℕ) → q < count + place → blockTest q (blockAt q file) ≡ Done) → from count place ≡ Done
+  unfolding orLater blocksTest
   all-good zero place good = refl
   all-good (suc count) place good = rw (from-next count place, good place (omega arith)) (all-good count (suc place) (λ q h. good q (omega arith)))
 
-  pub each-good : (count place j q : ℕ) → from count place ≡ passed → j + place ≡ q → j < count → blockVerdict q (blockAt q file) ≡ passed
+  pub each-good : (count place j q : ℕ) → from count place ≡ Done → j + place ≡ q → j < count → blockTest q (blockAt q file) ≡ Done
   each-good zero place j q e f k = absurd (omega arith)
   each-good (suc count) place zero q e f k =
-      let same : place ≡ q = omega arith in rw same at (both-passed _ _ (sym (from-next count place) ∙ e) .0)
+      let same : place ≡ q = omega arith in rw same at (both-done _ _ (sym (from-next count place) ∙ e) .0)
   each-good (suc count) place (suc j) q e f k =
-      each-good count (suc place) j q (both-passed _ _ (sym (from-next count place) ∙ e) .1) (omega arith) (omega arith)
+      each-good count (suc place) j q (both-done _ _ (sym (from-next count place) ∙ e) .1) (omega arith) (omega arith)
 
 -- what holds of passing, and of each refusal with a place up to 9, holds of what they find
-pub by-place : (P : Verdict → Type 0) (count place : ℕ) (file : List ℕ) → count + place ≡ 10 → P passed → ((r : Refusal) → valueIn r ≤ 9 → P (failed r))
-    → P (blocksVerdict count place file)
-unfolding blocksVerdict blockVerdict orLater
+pub by-place : (P : FileAnswer → Type 0) (count place : ℕ) (file : List ℕ) → count + place ≡ 10 → P Done → ((r : FileRefusal) → placeIn r ≤ 9 → P (Refused r))
+    → P (blocksTest count place file)
+unfolding blocksTest blockTest orLater
 by-place P zero place file n a b = a
 by-place P (suc count) place file n a b =
-    let Q : Verdict → Type 0 = λ v. P (orLater v (blocksVerdict count (suc place) (drop 512 file))) in
-    either Q (not (checksRight (take 512 file))) _ _ (b (BlockChecks place) (omega arith))
-    (either Q (not (formatRight place (take 512 file))) _ _ (b (BlockFormat place) (omega arith)) (by-place P count (suc place) (drop 512 file) (omega arith) a b))
+    let Q : FileAnswer → Type 0 = λ v. P (orLater v (blocksTest count (suc place) (drop 512 file))) in
+    either Q (not (checksRight (take 512 file))) _ _ (b (Checks place) (omega arith))
+    (either Q (not (formatRight place (take 512 file))) _ _ (b (Format place) (omega arith)) (by-place P count (suc place) (drop 512 file) (omega arith) a b))
 
 -- ---- a file that is accepted
 
@@ -127,7 +128,7 @@ block-before file q at v h = rw (← drop-take (512 * q) 512 (set file at v), ta
 block-set : (file : List ℕ) (q r v : ℕ) → r < 512 → blockAt q (set file (512 * q + r) v) ≡ set (blockAt q file) r v
 block-set file q r v h = rw (drop-set-add (512 * q) file r v) (take-set-lt 512 (drop (512 * q) file) r v h)
 
-module _ (file : List ℕ) (l : length file ≡ 5120) (h : Bytes file) (good : (q : ℕ) → q < 10 → blockVerdict q (blockAt q file) ≡ passed) where
+module _ (file : List ℕ) (l : length file ≡ 5120) (h : Bytes file) (good : (q : ℕ) → q < 10 → blockTest q (blockAt q file) ≡ Done) where
   block-long : (q : ℕ) → q < 10 → length (blockAt q file) ≡ 512
   block-long q m = simp (length-take, length-drop) (omega arith)
 
@@ -161,15 +162,15 @@ module _ (file : List ℕ) (l : length file ≡ 5120) (h : Bytes file) (good : (
   -- ---- then damaged: at two places, neither before block j
 
   damaged : (j r v at w : ℕ) → j < 10 → 512 * j ≤ at → let other : List ℕ = set (set file (512 * j + r) v) at w in
-      blockVerdict j (blockAt j other) ≡ failed (BlockChecks j) → blocksVerdict 10 0 other ≡ failed (BlockChecks j)
+      blockTest j (blockAt j other) ≡ Refused (Checks j) → blocksTest 10 0 other ≡ Refused (Checks j)
   damaged j r v at w m k =
-      first-bad (set (set file (512 * j + r) v) at w) 10 0 j j (BlockChecks j) (omega arith) m
+      first-bad (set (set file (512 * j + r) v) at w) 10 0 j j (Checks j) (omega arith) m
       (λ q n. rw (block-before (set file (512 * j + r) v) q at w (omega arith), block-before file q (512 * j + r) v (omega arith))
       (good q (omega arith)))
 
   -- one byte of the block changed, and any behind it
   one-of : (j r v at w : ℕ) → j < 10 → r < 512 → v < 256 → (v ≡ getD file (512 * j + r) 0 → ⊥) → 512 * j + 512 ≤ at
-      → blocksVerdict 10 0 (set (set file (512 * j + r) v) at w) ≡ failed (BlockChecks j)
+      → blocksTest 10 0 (set (set file (512 * j + r) v) at w) ≡ Refused (Checks j)
   one-of j r v at w m b k n behind =
       damaged j r v at w m (omega arith)
       (rw (block-before (set file (512 * j + r) v) j at w behind, block-set file j r v b)
@@ -177,7 +178,7 @@ module _ (file : List ℕ) (l : length file ≡ 5120) (h : Bytes file) (good : (
 
   -- two neighbours of the block exchanged
   two-of : (j r : ℕ) → j < 10 → suc r < 508 → (getD file (512 * j + r) 0 ≡ getD file (512 * j + suc r) 0 → ⊥)
-      → blocksVerdict 10 0 (exchanged file (512 * j + r) (512 * j + suc r)) ≡ failed (BlockChecks j)
+      → blocksTest 10 0 (exchanged file (512 * j + r) (512 * j + suc r)) ≡ Refused (Checks j)
   two-of j r m b n =
       let x = getD-part file (512 * j) 512 r 0 (omega arith) in
       let y = getD-part file (512 * j) 512 (suc r) 0 (omega arith) in
@@ -186,17 +187,17 @@ module _ (file : List ℕ) (l : length file ≡ 5120) (h : Bytes file) (good : (
       (rw (x, y) at (swapped j (blockAt j file) (block-long j m) (bytes-at j) (good j m) r b (rw (x, y) n))))
 
   pub one-changed : (i byte : ℕ) → i < 5120 → byte < 256 → (byte ≡ getD file i 0 → ⊥)
-      → blocksVerdict 10 0 (set file i byte) ≡ failed (BlockChecks (i / 512))
+      → blocksTest 10 0 (set file i byte) ≡ Refused (Checks (i / 512))
   one-changed i byte m b n =
       let same : 512 * (i / 512) + i % 512 ≡ i = omega arith in
       rw (same, set-out (set file i byte) 5120 0 (omega (arith, length-set file i byte)))
       at (one-of (i / 512) (i % 512) byte 5120 0 (omega arith) (omega arith) b (rw same n) (omega arith))
 
   pub two-exchanged : (i : ℕ) → i + 1 < 5040 → (getD file (payloadAt i) 0 ≡ getD file (payloadAt (i + 1)) 0 → ⊥)
-      → blocksVerdict 10 0 (exchanged file (payloadAt i) (payloadAt (i + 1))) ≡ failed (BlockChecks (i / 504))
+      → blocksTest 10 0 (exchanged file (payloadAt i) (payloadAt (i + 1))) ≡ Refused (Checks (i / 504))
   two-exchanged i m n = by (decLt (i % 504) 503)
     where
-      by : Dec (i % 504 < 503) → blocksVerdict 10 0 (exchanged file (payloadAt i) (payloadAt (i + 1))) ≡ failed (BlockChecks (i / 504))
+      by : Dec (i % 504 < 503) → blocksTest 10 0 (exchanged file (payloadAt i) (payloadAt (i + 1))) ≡ Refused (Checks (i / 504))
       by (yes r) =
           let next : payloadAt (i + 1) ≡ 512 * (i / 504) + suc (4 + i % 504) = omega arith in
           rw next (two-of (i / 504) (4 + i % 504) (omega arith) (omega arith) (rw next at n))

@@ -12,9 +12,10 @@ use lib.ListN.{length, take, drop, replicate, length-take, length-drop}
 use lib.Seq.{drop-drop, take-all, sets}
 use Rattle.facts.proofs.Parts.{part-put, put-mid, sets-append}
 use Rattle.limits.specs.Limits.{fontLength, fontFileLength}
-use Rattle.refusals.specs.declared.Refusal.{Refusal}
-use Rattle.refusals.specs.Refusals.{Verdict, passed, failed, orLater}
-use Rattle.font_file.specs.FontFile.{blockCount, blockLength, checkedLength, headingLength, payloadLength, usedLength, contentOf, withChecks, blocksOf, blockVerdict, blocksVerdict, fontFrom}
+use Rattle.refusals.specs.declared.FileRefusal.{FileRefusal}
+use Rattle.font_file.specs.declared.FileAnswer.{FileAnswer}
+use Rattle.font_file.specs.declared.FileAnswer.the-variants.{Done, Refused}
+use Rattle.font_file.specs.FontFile.{orLater, blockCount, blockLength, checkedLength, headingLength, payloadLength, usedLength, contentOf, withChecks, blocksOf, blockTest, blocksTest, fontFrom}
 use Rattle.font_file.proofs.Blocks.{used-most, content-length, block-length}
 use Rattle.font_file.proofs.Files.{used-left}
 
@@ -29,23 +30,23 @@ module _ {A : Type 0} (m : ℕ) (f : ℕ → ℕ → List ℕ → A) (g : ℕ �
 
 -- ---- testing
 
-module _ (k : ℕ) (file : List ℕ) (all : Verdict) (h : k < blockCount)
-    (e : blocksVerdict (blockCount - k) k (drop (blockLength * k) file) ≡ all) where
-  by-turn : orLater (blockVerdict k (take blockLength (drop (blockLength * k) file)))
-      (blocksVerdict (blockCount - (k + 1)) (k + 1) (drop (blockLength * (k + 1)) file))
+module _ (k : ℕ) (file : List ℕ) (all : FileAnswer) (h : k < blockCount)
+    (e : blocksTest (blockCount - k) k (drop (blockLength * k) file) ≡ all) where
+  by-turn : orLater (blockTest k (take blockLength (drop (blockLength * k) file)))
+      (blocksTest (blockCount - (k + 1)) (k + 1) (drop (blockLength * (k + 1)) file))
       ≡ all
-  unfolding blocksVerdict
+  unfolding blocksTest
   by-turn =
-      sym (turn blockLength blocksVerdict (λ j xs later. orLater (blockVerdict j (take blockLength xs)) later) (λ n j xs. refl) k file h) ∙ e
+      sym (turn blockLength blocksTest (λ j xs later. orLater (blockTest j (take blockLength xs)) later) (λ n j xs. refl) k file h) ∙ e
 
   -- no fault: the later blocks decide
-  pub tested-on : blockVerdict k (take blockLength (drop (blockLength * k) file)) ≡ passed
-      → blocksVerdict (blockCount - (k + 1)) (k + 1) (drop (blockLength * (k + 1)) file) ≡ all
+  pub tested-on : blockTest k (take blockLength (drop (blockLength * k) file)) ≡ Done
+      → blocksTest (blockCount - (k + 1)) (k + 1) (drop (blockLength * (k + 1)) file) ≡ all
   unfolding orLater
   tested-on v = rw v at by-turn
 
   -- a fault: it counts
-  pub tested-bad : (r : Refusal) → blockVerdict k (take blockLength (drop (blockLength * k) file)) ≡ failed r → failed r ≡ all
+  pub tested-bad : (r : FileRefusal) → blockTest k (take blockLength (drop (blockLength * k) file)) ≡ Refused r → Refused r ≡ all
   unfolding orLater
   tested-bad r v = rw v at by-turn
 

@@ -5,10 +5,11 @@ use mathlib.Core.Path.{_≡_}
 use mathlib.Core.List.{List}
 use lib.ListN.{length, getD, set, take, drop}
 use Rattle.limits.specs.Limits.{fontLength, fontFileLength}
-use Rattle.refusals.specs.declared.Refusal.{Refusal}
-use Rattle.refusals.specs.declared.Refusal.the-variants.{BlockChecks}
-use Rattle.refusals.specs.Refusals.{accepted, refused, passed, failed}
-use Rattle.font_file.specs.FontFile.{blockCount, blockLength, headingLength, payloadLength, blockVerdict, writeFont, ReadOutcome, readFont}
+use Rattle.refusals.specs.declared.FileRefusal.{FileRefusal}
+use Rattle.refusals.specs.declared.FileRefusal.the-variants.{Checks}
+use Rattle.refusals.specs.Refusals.{accepted, fileRefused}
+use Rattle.font_file.specs.declared.FileAnswer.the-variants.{Done, Refused}
+use Rattle.font_file.specs.FontFile.{blockCount, blockLength, headingLength, payloadLength, blockTest, writeFont, ReadOutcome, readFont}
 
 -- every number of the list is a byte, as in every buffer that the code is lent
 abbrev pub Bytes : List ℕ → Type 0
@@ -28,7 +29,7 @@ blockAt place file = take blockLength (drop (blockLength * place) file)
 
 -- a read that is refused with 16 and this place; the font buffer is as it was
 abbrev pub badChecks : (place : ℕ) (buffer : List ℕ) → ReadOutcome
-badChecks place buffer = record { font = buffer; reply = refused (BlockChecks place) }
+badChecks place buffer = record { font = buffer; reply = fileRefused (Checks place) }
 
 -- a font, a buffer for its file and one to read it into, of the right lengths; what the buffers hold does not matter
 pub record Fit (font file buffer : List ℕ) : Type 0 where
@@ -58,11 +59,11 @@ pub record FontFiles : Type 0 where
       → (getD (written font file) (payloadAt i) 0 ≡ getD (written font file) (payloadAt (i + 1)) 0 → ⊥)
       → readFont (exchanged (written font file) (payloadAt i) (payloadAt (i + 1))) buffer ≡ badChecks (i / payloadLength) buffer
   -- the first bad block is named: what its tests find is the answer, whatever stands in later blocks
-  pub first-bad : (file buffer : List ℕ) (p : ℕ) (r : Refusal) → length file ≡ fontFileLength → length buffer ≡ fontLength → p < blockCount
-      → ((q : ℕ) → q < p → blockVerdict q (blockAt q file) ≡ passed) → blockVerdict p (blockAt p file) ≡ failed r
-      → readFont file buffer ≡ record { font = buffer; reply = refused r }
+  pub first-bad : (file buffer : List ℕ) (p : ℕ) (r : FileRefusal) → length file ≡ fontFileLength → length buffer ≡ fontLength → p < blockCount
+      → ((q : ℕ) → q < p → blockTest q (blockAt q file) ≡ Done) → blockTest p (blockAt p file) ≡ Refused r
+      → readFont file buffer ≡ record { font = buffer; reply = fileRefused r }
   -- and a file whose blocks all pass is accepted
   pub all-good : (file buffer : List ℕ) → length file ≡ fontFileLength → length buffer ≡ fontLength
-      → ((q : ℕ) → q < blockCount → blockVerdict q (blockAt q file) ≡ passed) → readFont file buffer .reply ≡ accepted 0
+      → ((q : ℕ) → q < blockCount → blockTest q (blockAt q file) ≡ Done) → readFont file buffer .reply ≡ accepted 0
   -- 16 and 17 come with the block's place, 0 to 9: no answer has a larger number beside it
   pub place-range : (file buffer : List ℕ) → readFont file buffer .reply .value ≤ 9

@@ -15,9 +15,9 @@ use lib.Dec.{eqb}
 use lib.ListN.{length, take, drop, replicate}
 use Rattle.limits.specs.Limits.{fontLength, fontFileLength}
 use Rattle.buffers.specs.Buffers.{word, wordBytes}
-use Rattle.refusals.specs.declared.Refusal.the-variants.{FileLength, BlockChecks, BlockFormat}
-use Rattle.refusals.specs.Refusals.{Reply, accepted, refused, Verdict, passed, failed, refuseIf, orLater}
-use Rattle.font_file.specs.declared.Checks.{Checks}
+use Rattle.refusals.specs.declared.FileRefusal.the-variants.{Length, Checks, Format}
+use Rattle.refusals.specs.Refusals.{Reply, accepted, fileRefused}
+use Rattle.font_file.specs.declared.CheckSums.{CheckSums}
 use Rattle.font_file.specs.declared.FileAnswer.{FileAnswer}
 use Rattle.font_file.specs.declared.FileAnswer.the-variants.{Done, Refused}
 
@@ -63,7 +63,7 @@ abbrev pub weightedCheck : List ℕ → ℕ
 weightedCheck bytes = weightedSum 1 bytes % 65536
 
 -- both, as the code's record
-abbrev pub checksOf : List ℕ → Checks
+abbrev pub checksOf : List ℕ → CheckSums
 checksOf bytes = record { sum = sumCheck bytes; weighted = weightedCheck bytes }
 
 -- ---- writing
@@ -107,17 +107,21 @@ unfoldable pub formatRight : (place : ℕ) (block : List ℕ) → Bool
 formatRight place block = eqb (word block 0) place && (eqb (word block 2) (usedLength place) && allZero (unusedIn place block))
 
 -- each block is tested for 16 and then 17, which come with its place
-unfoldable pub blockVerdict : (place : ℕ) (block : List ℕ) → Verdict
-blockVerdict place block =
-    refuseIf (not (checksRight block)) (BlockChecks place)
-    (refuseIf (not (formatRight place block)) (BlockFormat place)
-    passed)
+unfoldable pub blockTest : (place : ℕ) (block : List ℕ) → FileAnswer
+blockTest place block =
+    cond (not (checksRight block)) (Refused (Checks place))
+    (cond (not (formatRight place block)) (Refused (Format place))
+    Done)
+
+-- what a test finds; where it finds no fault, the later tests decide
+unfoldable pub orLater : FileAnswer → FileAnswer → FileAnswer
+orLater Done later = later
+orLater (Refused r) later = Refused r
 
 -- so many blocks in turn, from this place on
-unfoldable pub blocksVerdict : (count place : ℕ) (file : List ℕ) → Verdict
-blocksVerdict zero place file = passed
-blocksVerdict (suc count) place file =
-    orLater (blockVerdict place (take blockLength file)) (blocksVerdict count (suc place) (drop blockLength file))
+unfoldable pub blocksTest : (count place : ℕ) (file : List ℕ) → FileAnswer
+blocksTest zero place file = Done
+blocksTest (suc count) place file = orLater (blockTest place (take blockLength file)) (blocksTest count (suc place) (drop blockLength file))
 
 -- the bytes of font in so many blocks, from this place on
 unfoldable pub fontFrom : (count place : ℕ) (file : List ℕ) → List ℕ
@@ -135,39 +139,38 @@ fontIn file = fontFrom blockCount 0 file
 abbrev pub rightLengths : (font file : List ℕ) → Bool
 rightLengths font file = eqb (length font) fontLength && eqb (length file) fontFileLength
 
--- the code's answer as a reply, and as what tests found
+-- an answer as the paper has it
 abbrev pub replyOf : FileAnswer → Reply
 replyOf Done = accepted 0
-replyOf (Refused r) = refused r
+replyOf (Refused r) = fileRefused r
 
-abbrev pub verdictOf : FileAnswer → Verdict
-verdictOf Done = passed
-verdictOf (Refused r) = failed r
+abbrev pub lengthTest : (font file : List ℕ) → FileAnswer → FileAnswer
+lengthTest font file later = cond (not (rightLengths font file)) (Refused Length) later
 
 -- the file buffer after a call that writes, and the answer
 pub record WriteOutcome : Type 0 where
   pub file : List ℕ
   pub reply : Reply
 
--- by what the tests found
-unfoldable pub writtenBy : Verdict → (font file : List ℕ) → WriteOutcome
-writtenBy passed font file = record { file = fileOf font; reply = accepted 0 }
-writtenBy (failed r) font file = record { file = file; reply = refused r }
+-- by what the tests find
+unfoldable pub writtenBy : FileAnswer → (font file : List ℕ) → WriteOutcome
+writtenBy Done font file = record { file = fileOf font; reply = accepted 0 }
+writtenBy (Refused r) font file = record { file = file; reply = fileRefused r }
 
 -- a font, and the file buffer at entry
 unfoldable pub writeFont : (font file : List ℕ) → WriteOutcome
-writeFont font file = writtenBy (refuseIf (not (rightLengths font file)) FileLength passed) font file
+writeFont font file = writtenBy (lengthTest font file Done) font file
 
 -- the font buffer after a call that reads, and the answer
 pub record ReadOutcome : Type 0 where
   pub font : List ℕ
   pub reply : Reply
 
--- by what the tests found
-unfoldable pub readBy : Verdict → (file font : List ℕ) → ReadOutcome
-readBy passed file font = record { font = fontIn file; reply = accepted 0 }
-readBy (failed r) file font = record { font = font; reply = refused r }
+-- by what the tests find
+unfoldable pub readBy : FileAnswer → (file font : List ℕ) → ReadOutcome
+readBy Done file font = record { font = fontIn file; reply = accepted 0 }
+readBy (Refused r) file font = record { font = font; reply = fileRefused r }
 
 -- a file, and the font buffer at entry
 unfoldable pub readFont : (file font : List ℕ) → ReadOutcome
-readFont file font = readBy (refuseIf (not (rightLengths font file)) FileLength (blocksVerdict blockCount 0 file)) file font
+readFont file font = readBy (lengthTest font file (blocksTest blockCount 0 file)) file font

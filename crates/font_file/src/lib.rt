@@ -4,9 +4,9 @@ ghost use Prim.Native.Nat.{_+_, _%_, _≤_, _<_};
 ghost use lib.ListN.{length, take, drop};
 ghost use lib.Seq.{sets};
 ghost use Rattle.limits.specs.Limits.{fontLength, fontFileLength};
-ghost use Rattle.font_file.specs.FontFile.{blockCount, blockLength, checkedLength, headingLength, payloadLength, usedLength, checksOf, contentOf, withChecks, fileOf, checksRight, allZero, formatRight, blockVerdict, blocksVerdict, fontIn, replyOf, verdictOf, writeFont, readFont};
+ghost use Rattle.font_file.specs.FontFile.{blockCount, blockLength, checkedLength, headingLength, payloadLength, usedLength, checksOf, contentOf, withChecks, fileOf, checksRight, allZero, formatRight, blockTest, blocksTest, fontIn, replyOf, writeFont, readFont};
 ghost use Rattle.font_file.specs.Columns.{columnCount, rowCount, columnOf};
-use refusals::Refusal;
+use refusals::FileRefusal;
 
 const BLOCKS: u8 = 10;
 
@@ -26,7 +26,7 @@ const COLUMNS: u16 = 72;
 
 pub enum FileAnswer {
     Done,
-    Refused(Refusal),
+    Refused(FileRefusal),
 }
 
 // What stands in a column: the sum, and the sum of each byte times its row.
@@ -36,7 +36,7 @@ pub struct Column {
 }
 
 // Both checks over a block's bytes 0 to 507.
-pub struct Checks {
+pub struct CheckSums {
     pub sum: u16,
     pub weighted: u16,
 }
@@ -80,7 +80,7 @@ fn column_at(block: &[u8], first: u16) -> Column
 }
 
 // Column by column, which vector units do eight at a time, and which multiplies once for seven bytes.
-fn checks_of(block: &[u8]) -> Checks
+fn checks_of(block: &[u8]) -> CheckSums
     requires { ⌜ length (now block) ≡ blockLength ⌝ }
     ensures { λ r. ⌜ r ≡ checksOf (take checkedLength (now (block .entry))) ⌝ }
 {
@@ -99,7 +99,7 @@ fn checks_of(block: &[u8]) -> Checks
     let b = block[1] as u32;
     let c = block[2] as u32;
     let d = block[3] as u32;
-    Checks {
+    CheckSums {
         sum: wrapped(sum, a + b + c + d),
         weighted: wrapped(
             weighted,
@@ -168,10 +168,10 @@ pub fn write(font: &[u8], file: &mut [u8]) -> FileAnswer
     ensures { λ r. ⌜ record { file = now (file .exit); reply = replyOf r } ≡ writeFont (now (font .entry)) (now (file .entry)) ⌝ }
 {
     if font.len() != limits::FONT_LENGTH {
-        return FileAnswer::Refused(Refusal::FileLength);
+        return FileAnswer::Refused(FileRefusal::Length);
     }
     if file.len() != limits::FONT_FILE_LENGTH {
-        return FileAnswer::Refused(Refusal::FileLength);
+        return FileAnswer::Refused(FileRefusal::Length);
     }
     write_blocks(font, file);
     FileAnswer::Done
@@ -220,13 +220,13 @@ fn format_right(block: &[u8], place: u8) -> bool
 
 fn test_block(block: &[u8], place: u8) -> FileAnswer
     requires { ⌜ length (now block) ≡ blockLength ⌝ }
-    ensures { λ r. ⌜ verdictOf r ≡ blockVerdict place (now (block .entry)) ⌝ }
+    ensures { λ r. ⌜ r ≡ blockTest place (now (block .entry)) ⌝ }
 {
     if !checks_right(block) {
-        return FileAnswer::Refused(Refusal::BlockChecks(place));
+        return FileAnswer::Refused(FileRefusal::Checks(place));
     }
     if !format_right(block, place) {
-        return FileAnswer::Refused(Refusal::BlockFormat(place));
+        return FileAnswer::Refused(FileRefusal::Format(place));
     }
     FileAnswer::Done
 }
@@ -234,7 +234,7 @@ fn test_block(block: &[u8], place: u8) -> FileAnswer
 // All blocks in turn; the first fault counts.
 fn test_blocks(file: &[u8]) -> FileAnswer
     requires { ⌜ length (now file) ≡ fontFileLength ⌝ }
-    ensures { λ r. ⌜ verdictOf r ≡ blocksVerdict blockCount 0 (now (file .entry)) ⌝ }
+    ensures { λ r. ⌜ r ≡ blocksTest blockCount 0 (now (file .entry)) ⌝ }
 {
     let mut place = 0;
     while place < BLOCKS {
@@ -270,10 +270,10 @@ pub fn read(file: &[u8], font: &mut [u8]) -> FileAnswer
     ensures { λ r. ⌜ record { font = now (font .exit); reply = replyOf r } ≡ readFont (now (file .entry)) (now (font .entry)) ⌝ }
 {
     if font.len() != limits::FONT_LENGTH {
-        return FileAnswer::Refused(Refusal::FileLength);
+        return FileAnswer::Refused(FileRefusal::Length);
     }
     if file.len() != limits::FONT_FILE_LENGTH {
-        return FileAnswer::Refused(Refusal::FileLength);
+        return FileAnswer::Refused(FileRefusal::Length);
     }
     let answer = test_blocks(file);
     match answer {
@@ -302,7 +302,7 @@ impl FileAnswer {
     {
         match self {
             FileAnswer::Done => 0,
-            FileAnswer::Refused(r) => r.value(),
+            FileAnswer::Refused(r) => r.place(),
         }
     }
 }

@@ -7,9 +7,11 @@ use native.Mathlib.Omega.{arith}
 use lib.Dec.{eqb}
 use Rattle.refusals.specs.declared.Unheard.{Unheard}
 use Rattle.refusals.specs.declared.Unheard.the-variants.{Idle, NotAddressed, Reading, Writing}
+use Rattle.refusals.specs.declared.FileRefusal.{FileRefusal}
+use Rattle.refusals.specs.declared.FileRefusal.the-variants.{Length, Checks, Format}
 use Rattle.refusals.specs.declared.Refusal.{Refusal}
-use Rattle.refusals.specs.declared.Refusal.the-variants.{RamLength, FontLength, LineLength, NoLine, NotAcknowledged, FrameLines, BenchLength, CellRange, FeedShut, OutputRoom, PixelRange, FileLength, BlockChecks, BlockFormat}
-use Rattle.refusals.specs.Refusals.{numberOf, Verdict, passed, failed}
+use Rattle.refusals.specs.declared.Refusal.the-variants.{RamLength, FontLength, LineLength, NoLine, NotAcknowledged, FrameLines, BenchLength, CellRange, FeedShut, OutputRoom, PixelRange}
+use Rattle.refusals.specs.Refusals.{numberOf, fileNumberOf, Verdict, passed, failed}
 
 IsRefused : Verdict → Type 0
 IsRefused passed = ⊥
@@ -35,9 +37,11 @@ not-zero CellRange = refl
 not-zero FeedShut = refl
 not-zero OutputRoom = refl
 not-zero PixelRange = refl
-not-zero FileLength = refl
-not-zero (BlockChecks place) = refl
-not-zero (BlockFormat place) = refl
+
+pub file-not-zero : (r : FileRefusal) → eqb (fileNumberOf r) 0 ≡ false
+file-not-zero Length = refl
+file-not-zero (Checks place) = refl
+file-not-zero (Format place) = refl
 
 -- ---- why an event is not acknowledged, by the number
 

@@ -4,8 +4,10 @@
 use Prim.Native.Nat.{ℕ}
 use mathlib.Core.Bool.{Bool, cond}
 use Rattle.refusals.specs.declared.Unheard.the-variants.{Idle, NotAddressed, Reading, Writing}
+use Rattle.refusals.specs.declared.FileRefusal.{FileRefusal}
+use Rattle.refusals.specs.declared.FileRefusal.the-variants.{Length, Checks, Format}
 use Rattle.refusals.specs.declared.Refusal.{Refusal}
-use Rattle.refusals.specs.declared.Refusal.the-variants.{RamLength, FontLength, LineLength, NoLine, NotAcknowledged, FrameLines, BenchLength, CellRange, FeedShut, OutputRoom, PixelRange, FileLength, BlockChecks, BlockFormat}
+use Rattle.refusals.specs.declared.Refusal.the-variants.{RamLength, FontLength, LineLength, NoLine, NotAcknowledged, FrameLines, BenchLength, CellRange, FeedShut, OutputRoom, PixelRange}
 
 abbrev pub numberOf : Refusal → ℕ
 numberOf RamLength = 1
@@ -22,9 +24,6 @@ numberOf PixelRange = 11
 numberOf (NotAcknowledged NotAddressed) = 12
 numberOf (NotAcknowledged Reading) = 13
 numberOf (NotAcknowledged Writing) = 14
-numberOf FileLength = 15
-numberOf (BlockChecks place) = 16
-numberOf (BlockFormat place) = 17
 
 -- an answer as the paper has it: the refusal's number, 0 where the call is accepted, and the answer's own number
 pub record Reply : Type 0 where
@@ -35,7 +34,7 @@ abbrev pub accepted : ℕ → Reply
 accepted v = record { refusal = 0; value = v }
 
 -- the number beside a refusal, unless the call gives one of its own (9 for a bad kind does): 0, or 255 for the byte of an event that is
--- not acknowledged, or the place of a bad block in its file (document 02, K8)
+-- not acknowledged
 abbrev pub valueIn : Refusal → ℕ
 valueIn RamLength = 0
 valueIn FontLength = 0
@@ -48,9 +47,6 @@ valueIn CellRange = 0
 valueIn FeedShut = 0
 valueIn OutputRoom = 0
 valueIn PixelRange = 0
-valueIn FileLength = 0
-valueIn (BlockChecks place) = place
-valueIn (BlockFormat place) = place
 
 -- a refusal with a number beside it
 abbrev pub refusedWith : Refusal → ℕ → Reply
@@ -58,6 +54,20 @@ refusedWith r v = record { refusal = numberOf r; value = v }
 
 abbrev pub refused : Refusal → Reply
 refused r = refusedWith r (valueIn r)
+
+-- the refusals of font files (document 02, K8); 16 and 17 come with the block's place in the file
+abbrev pub fileNumberOf : FileRefusal → ℕ
+fileNumberOf Length = 15
+fileNumberOf (Checks place) = 16
+fileNumberOf (Format place) = 17
+
+abbrev pub placeIn : FileRefusal → ℕ
+placeIn Length = 0
+placeIn (Checks place) = place
+placeIn (Format place) = place
+
+abbrev pub fileRefused : FileRefusal → Reply
+fileRefused r = record { refusal = fileNumberOf r; value = placeIn r }
 
 -- ---- the order of refusals
 
@@ -69,8 +79,3 @@ pub data Verdict : Type 0 where
 -- the call is refused where a test finds its fault; else the later tests decide
 abbrev pub refuseIf : Bool → Refusal → Verdict → Verdict
 refuseIf fault r later = cond fault (failed r) later
-
--- what tests find, and where they find no fault, what later tests do
-unfoldable pub orLater : Verdict → Verdict → Verdict
-orLater passed later = later
-orLater (failed r) later = failed r

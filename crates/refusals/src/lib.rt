@@ -1,7 +1,7 @@
 // The refusals of document 01's table and of document 02's requests, each with its number.
 ghost use mathlib.Core.Path.{_≡_};
 ghost use Rattle.refusals.specs.declared.Refusal.the-variants.{NotAcknowledged};
-ghost use Rattle.refusals.specs.Refusals.{numberOf, valueIn};
+ghost use Rattle.refusals.specs.Refusals.{numberOf, valueIn, fileNumberOf, placeIn};
 
 // Why an event is not acknowledged.
 pub enum Unheard {
@@ -38,12 +38,16 @@ pub enum Refusal {
     OutputRoom,
     // 11: the pixel asked about lies past the line's last column or the frame's last line
     PixelRange,
+}
+
+// The refusals of font files, which no other call gives.
+pub enum FileRefusal {
     // 15: a font file that is not 5,120 bytes, or the font that goes with it not 4,608
-    FileLength,
-    // 16: the checks are wrong in a block of a font file, at this place
-    BlockChecks(u8),
-    // 17: a block at this place has another number, used length or padding
-    BlockFormat(u8),
+    Length,
+    // 16: the checks are wrong in the block at this place
+    Checks(u8),
+    // 17: the block at this place has another number, used length or padding
+    Format(u8),
 }
 
 impl Unheard {
@@ -75,13 +79,10 @@ impl Refusal {
             Refusal::FeedShut => 9,
             Refusal::OutputRoom => 10,
             Refusal::PixelRange => 11,
-            Refusal::FileLength => 15,
-            Refusal::BlockChecks(_) => 16,
-            Refusal::BlockFormat(_) => 17,
         }
     }
 
-    // The number beside a refusal that has none of its own: 255 for an event that is not acknowledged, the place of a block, else 0.
+    // The number beside a refusal that has none of its own: 255 for an event that is not acknowledged, else 0.
     pub fn value(self) -> u8
         ensures { λ r. ⌜ r ≡ valueIn self ⌝ }
     {
@@ -97,9 +98,29 @@ impl Refusal {
             Refusal::FeedShut => 0,
             Refusal::OutputRoom => 0,
             Refusal::PixelRange => 0,
-            Refusal::FileLength => 0,
-            Refusal::BlockChecks(place) => place,
-            Refusal::BlockFormat(place) => place,
+        }
+    }
+}
+
+impl FileRefusal {
+    pub fn number(self) -> u8
+        ensures { λ r. ⌜ r ≡ fileNumberOf self ⌝ }
+    {
+        match self {
+            FileRefusal::Length => 15,
+            FileRefusal::Checks(_) => 16,
+            FileRefusal::Format(_) => 17,
+        }
+    }
+
+    // The place of the bad block in its file; 0 where the length is wrong.
+    pub fn place(self) -> u8
+        ensures { λ r. ⌜ r ≡ placeIn self ⌝ }
+    {
+        match self {
+            FileRefusal::Length => 0,
+            FileRefusal::Checks(place) => place,
+            FileRefusal::Format(place) => place,
         }
     }
 }

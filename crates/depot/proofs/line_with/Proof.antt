@@ -14,9 +14,10 @@ returns : tie.Need-returns
 returns c =
     let a = c .before .before in
     let l = c .line-of in
-    let place : ℕ = 48 + a .args .place % 10 in
-    (take-set-lt (l .result .length) (l .result .bytes) 18 place (omega (arith, l .ensures .1 .0, a .pre .0)) ∙ ap (λ (xs : List ℕ). set xs 18 place) (l .ensures .0),
-    omega (arith, l .ensures .1 .0, l .ensures .1 .1, length-set (l .result .bytes) 18 place, a .pre .1))
+    let place : ℕ = 48 + a .args .place % 10 in (
+      take-set-lt (l .result .length) (l .result .bytes) 18 place (omega (arith, l .ensures .1 .0, a .pre .0)) ∙ ap (λ (xs : List ℕ). set xs 18 place) (l .ensures .0),
+      omega (arith, l .ensures .1 .0, l .ensures .1 .1, length-set (l .result .bytes) 18 place, a .pre .1),
+    )
 
 pub line-with-spec : {M : Type 1} → statement M
 line-with-spec = tie.close (tie.spec (λ c κs. search needs) (λ c. search needs) (λ c. search needs) returns)

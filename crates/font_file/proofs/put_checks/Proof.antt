@@ -8,7 +8,7 @@ use borrow.Author.Needs.{needs}
 use denote.Ref.{now}
 use lib.ListN.{take}
 use Rattle.facts.proofs.Parts.{sets-end}
-use Rattle.font_file.specs.declared.Checks.{Checks}
+use Rattle.font_file.specs.declared.CheckSums.{CheckSums}
 use Rattle.font_file.specs.FontFile.{checkedLength, withChecks}
 use Rattle.font_file.proofs.put_checks.Statement.{statement}
 use Rattle.font_file.proofs.put_checks.Tie as tie
@@ -20,7 +20,7 @@ returns c =
     let block = now (p .before .before .before .args .block) in
     c .before .before .put .ensures
     ∙ sets-end block _ checkedLength (omega (arith, p .before .before .before .pre))
-    ∙ ap (λ (r : Checks). take checkedLength block ++ (r .sum % 256 ∷ r .sum / 256 ∷ r .weighted % 256 ∷ r .weighted / 256 ∷ [])) (p .checks-of .ensures)
+    ∙ ap (λ (r : CheckSums). take checkedLength block ++ (r .sum % 256 ∷ r .sum / 256 ∷ r .weighted % 256 ∷ r .weighted / 256 ∷ [])) (p .checks-of .ensures)
 
 pub put-checks-spec : {M : Type 1} → statement M
 put-checks-spec =

@@ -8,14 +8,14 @@ use native.Mathlib.Omega.{arith}
 use borrow.Author.Needs.{needs}
 use lib.ListN.{take, drop}
 use Rattle.font_file.specs.declared.FileAnswer.{FileAnswer}
-use Rattle.font_file.specs.FontFile.{blockCount, blockLength, verdictOf, blockVerdict, blocksVerdict}
+use Rattle.font_file.specs.FontFile.{blockCount, blockLength, blockTest, blocksTest}
 use Rattle.font_file.proofs.Turns.{tested-on, tested-bad}
 use Rattle.font_file.proofs.test_blocks.Statement.{statement}
 use Rattle.font_file.proofs.test_blocks.Tie as tie
 
 abbrev Inv-loop : tie.InvT-loop
 Inv-loop file place₀ place =
-    (place ≤ blockCount) × (blocksVerdict (blockCount - place) place (drop (blockLength * place) file) ≡ blocksVerdict blockCount 0 file)
+    (place ≤ blockCount) × (blocksTest (blockCount - place) place (drop (blockLength * place) file) ≡ blocksTest blockCount 0 file)
 
 abbrev μ-loop : tie.MeasureT-loop
 μ-loop file place₀ place = blockCount - place
@@ -25,12 +25,12 @@ loop-holds c = (search needs, refl)
 
 -- what a block is judged by its own part
 judged : (file part : List ℕ) (k : ℕ) (a b : FileAnswer) → part ≡ take (blockLength * k + blockLength - blockLength * k) (drop (blockLength * k) file)
-    → verdictOf a ≡ blockVerdict k part → a ≡ b → blockVerdict k (take blockLength (drop (blockLength * k) file)) ≡ verdictOf b
+    → a ≡ blockTest k part → a ≡ b → blockTest k (take blockLength (drop (blockLength * k) file)) ≡ b
 judged file part k a b p e q =
-    ap (λ (n : ℕ). blockVerdict k (take n (drop (blockLength * k) file))) (sym (add-sub-cancel-left (blockLength * k) blockLength))
-    ∙ ap (blockVerdict k) (sym p)
+    ap (λ (n : ℕ). blockTest k (take n (drop (blockLength * k) file))) (sym (add-sub-cancel-left (blockLength * k) blockLength))
+    ∙ ap (blockTest k) (sym p)
     ∙ sym e
-    ∙ ap verdictOf q
+    ∙ q
 
 returns : tie.Need-returns Inv-loop μ-loop
 returns c =
@@ -45,7 +45,7 @@ loop-again c =
     )
 
 returns-2 : tie.Need-returns-2 Inv-loop μ-loop
-unfolding blocksVerdict
+unfolding blocksTest
 returns-2 c =
     let l = c .before .loop in
     let none : blockCount - l .place ≡ 0 = omega arith in
