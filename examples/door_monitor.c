@@ -1,13 +1,15 @@
 /*
- * Firmware in small: a host sends a page over the two-wire bus and the monitor shows it. During the frame the host writes a second
- * page to cells that the frame does not read, and changes to it; the frame goes on as it was, and the next one shows the new page.
- * At the end the host is out of step in each way that has a number, and the refusal says what to look for.
+ * Firmware in small: the font comes from a card, as a font file. A host sends a page over the two-wire bus and the monitor shows it.
+ * During the frame the host writes a second page to cells that the frame does not read, and changes to it; the frame goes on as it was,
+ * and the next one shows the new page. Then the host is out of step in each way that has a number, and the refusal says what to look for.
+ * At the end the card is bad in each way that has a number.
  *
  *     cc -Iinclude examples/door_monitor.c target/staticlib/libosd.a
  */
 #include "osd.h"
 
 #include <stdio.h>
+#include <string.h>
 
 /* LD 6 */
 #define WIDTH (12 * (6 + 1))
@@ -17,6 +19,7 @@ static uint8_t device[OSD_DEVICE_LEN];
 static uint8_t ram[OSD_RAM_LEN];
 static uint8_t font[OSD_FONT_LEN];
 static uint8_t line[OSD_LINE_MAX];
+static uint8_t file[OSD_FONT_FILE_LEN]; /* as it was read from the card */
 
 static uint32_t event(uint8_t kind, uint8_t byte)
 {
@@ -49,6 +52,29 @@ static void letter(int number, const uint16_t *slices)
 static void show(const char *what, uint32_t answer)
 {
     printf("%s: refusal %u, value %u\n", what, (unsigned)OSD_REFUSAL(answer), (unsigned)OSD_VALUE(answer));
+}
+
+/* What is wrong with a font file. */
+static const char *wrong_with(uint32_t answer)
+{
+    switch (OSD_REFUSAL(answer)) {
+    case OSD_ACCEPTED:
+        return "nothing";
+    case OSD_FILE_LENGTH:
+        return "its length";
+    case OSD_BLOCK_CHECKS:
+        return "a byte";
+    case OSD_BLOCK_FORMAT:
+        return "a block that is no block of this place";
+    default:
+        return "something else";
+    }
+}
+
+static void read_card(const char *what, size_t n)
+{
+    uint32_t answer = osd_font_read(file, n, font, sizeof font);
+    printf("%s: refusal %u, value %u: wrong is %s\n", what, (unsigned)OSD_REFUSAL(answer), (unsigned)OSD_VALUE(answer), wrong_with(answer));
 }
 
 /* What a fitter should look for when an event is not acknowledged. */
@@ -115,6 +141,9 @@ int main(void)
         return 1;
     letter('O', o);
     letter('K', k);
+    show("a font file for the card", osd_font_write(font, sizeof font, file, sizeof file));
+    memset(font, 0, sizeof font);
+    read_card("the card", sizeof file);
     show("fresh", osd_fresh(device, sizeof device));
     refused += host_writes(0x3FF0, settings, sizeof settings);
     refused += host_writes(0, page_0, sizeof page_0);
@@ -156,5 +185,15 @@ int main(void)
     not_heard("a fetch after a start was lost", event(OSD_FETCH, 0));
     event(OSD_STOP, 0);
     show("a record of another length", osd_reset(device, sizeof device - 1));
+
+    uint8_t first[512];
+    read_card("a card that was cut short", sizeof file - 1);
+    file[6 * 512 + 100] ^= 0x10;
+    read_card("a flipped bit", sizeof file);
+    file[6 * 512 + 100] ^= 0x10;
+    memcpy(first, file, 512);
+    memcpy(file, file + 512, 512);
+    memcpy(file + 512, first, 512);
+    read_card("two blocks exchanged", sizeof file);
     return 0;
 }

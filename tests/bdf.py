@@ -466,7 +466,7 @@ def fonts_of_x11():
                     taken(name + ' placed by FONTBOUNDINGBOX', re.sub(rb'^FONT_(?=ASCENT|DESCENT)', b'NO_', bdf, flags=re.M), font)
         else:
             refused(name, 'to-font', bdf, 'outside')
-    return ' '.join(names) or 'none installed'
+    return ' '.join(names) or 'none that can be read here'
 
 
 def compiler():

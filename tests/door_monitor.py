@@ -1,5 +1,6 @@
 #!/usr/bin/env python3
-"""Makes examples/door_monitor.stdout, what the C example must print: its calls, answered by tests/model.py."""
+"""Makes examples/door_monitor.stdout, what the C example must print: its calls, answered by tests/model.py and tests/font_file.py."""
+import font_file
 import model
 import script
 
@@ -8,6 +9,7 @@ O = (0x0F0, 0x198, 0x30C, 0x30C, 0x30C, 0x30C, 0x30C, 0x30C, 0x198, 0x0F0)
 K = (0x30C, 0x318, 0x330, 0x360, 0x3C0, 0x3C0, 0x360, 0x330, 0x318, 0x30C)
 LOOK_FOR = {5: 'a start that was lost', 12: 'a slave address other than BA and BB', 13: 'BB where BA was meant, or a start that was lost',
             14: 'BA where BB was meant, or a start that was lost before BB'}
+WRONG = {0: 'nothing', 15: 'its length', 16: 'a byte', 17: 'a block that is no block of this place'}
 device, ram, font, output = model.Device(), [0] * 1024, [0] * 4608, []
 
 
@@ -32,6 +34,13 @@ def not_heard(what, kind, x=0):
     output[-1] += ': look for ' + LOOK_FOR.get(refusal, 'another cause')
 
 
+def read_card(what, file):
+    read = font_file.read(file)
+    number, place = (0, 0) if read == bytes(font) else read
+    show(what, number, place)
+    output[-1] += ': wrong is ' + WRONG[number]
+
+
 def draw(times):
     for _ in range(times):
         line = [0] * 768
@@ -49,6 +58,9 @@ def still_read(first, n):
 
 letter(ord('O'), O)
 letter(ord('K'), K)
+show('a font file for the card', 0)
+file = font_file.written(font)
+read_card('the card', file)
 show('fresh', 0)
 refused = host_writes(0x3FF0, [6, 4, 18, 0x80]) + host_writes(0, [1, 0, 0, 0xC2])
 refused += host_writes(512, [0x71, ord('O'), 0x71, ord('K'), 0, 0xFF])
@@ -82,4 +94,9 @@ device.event(ram, 'byte', 0xBB)
 not_heard('a fetch after a start was lost', 'fetch')
 device.event(ram, 'stop')
 show('a record of another length', 255)      # the interface's own refusal
+read_card('a card that was cut short', file[:-1])
+flipped = list(file)
+flipped[6 * 512 + 100] ^= 0x10
+read_card('a flipped bit', flipped)
+read_card('two blocks exchanged', file[512:1024] + file[:512] + file[1024:])
 script.store({'examples/door_monitor.stdout': '\n'.join(output) + '\n'})

@@ -1,5 +1,5 @@
 -- The interface for firmware (include/osd.h): each function does on the bytes of the record what the device's function does on the
--- record that they are read as.
+-- record that they are read as. A font and its file cross as they are.
 -- Assumes nothing.
 use Prim.Native.Nat.{ℕ, _+_, _*_, _≤_, _<_}
 use mathlib.Core.Path.{_≡_}

@@ -1,5 +1,5 @@
 // The device for firmware to link: include/osd.h has each function as C sees it. The device's record crosses as 32 lent bytes, a feed's
-// as 2.
+// as 2, a font and its file as they are.
 ghost use mathlib.Core.Path.{_≡_};
 ghost use Rattle.layout.specs.Layout.{recordLength};
 ghost use Rattle.layout.specs.FeedLayout.{feedLength};
