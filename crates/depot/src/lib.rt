@@ -1,13 +1,13 @@
 // What a depot's programs (font_check, font_unpack) say of a font file, in one line.
 ghost use mathlib.Core.Path.{_≡_};
 ghost use Prim.Native.Nat.{_+_, _%_, _≤_, _<_};
-ghost use lib.ListN.{length, take, set};
+ghost use lib.ListN.{length, set};
 ghost use Rattle.font_file.specs.declared.FileAnswer.the-variants.{Refused};
 ghost use Rattle.depot.specs.Depot.{lineOf, textOf};
 use font_file::FileAnswer;
 use refusals::FileRefusal;
 
-// Where the place of a block stands in a line.
+// Where the place of a block stands in a line. A place is 0 to 9; the remainder makes a digit of any byte.
 const PLACE_AT: usize = 18;
 
 pub struct Line {
@@ -64,7 +64,7 @@ fn told(answer: FileAnswer) -> Line
     }
 }
 
-// Prints the line.
+// Printed here, so that font_check and font_unpack say the same.
 pub fn tell(answer: FileAnswer) {
     let line = told(answer);
     let bytes = line.bytes;

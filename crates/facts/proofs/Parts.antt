@@ -5,7 +5,7 @@ use Prim.Native.Nat.{ℕ, zero, suc, _+_, _-_, _≤_, _<_}
 use mathlib.Core.Path.{_≡_, refl, sym, ap, _∙_}
 use mathlib.Core.List.{List, [], _∷_, _++_, append-nil, append-assoc}
 use mathlib.Core.Bool.{Bool, true, false, cond, _||_}
-use native.Mathlib.Nat.{suc-add, zero-add, add-zero}
+use native.Mathlib.Nat.{suc-add, zero-add, add-zero, add-sub-cancel-left}
 use native.Mathlib.Omega.{arith}
 use borrow.Author.Tests.{eqb-true, leb-true}
 use lib.Dec.{T, eqb, leb, eqb→eq, leb→le}
@@ -71,9 +71,11 @@ module _ {A : Type 0} where
       ∙ drop-drop (length vs) at xs in
       rw (e, take-length vs, append-assoc vs, behind, sets-eq vs xs at h) (sym (append-assoc (take at xs) vs _))
 
-  -- as many as the k elements from `at` on are put in their place
-  pub put-mid : (xs vs : List A) (at k : ℕ) → length vs ≡ k → at + k ≤ length xs → take at xs ++ (vs ++ drop k (drop at xs)) ≡ sets xs at vs
-  put-mid xs vs at k l h = rw (← l, drop-drop (length vs) at xs, sets-eq vs xs at (omega arith)) (sym (append-assoc (take at xs) vs _))
+  -- what is written to all of the part from `at` up to `end` is put there
+  pub put-part : (xs vs mid : List A) (at end : ℕ) → mid ≡ vs → at + length vs ≡ end → end ≤ length xs
+      → take at xs ++ (mid ++ drop (end - at) (drop at xs)) ≡ sets xs at vs
+  put-part xs vs mid at end e l h =
+      rw (e, ← l, add-sub-cancel-left at (length vs), drop-drop (length vs) at xs, sets-eq vs xs at (omega arith)) (sym (append-assoc (take at xs) vs _))
 
   -- ---- two that do not overlap are put in either order
 

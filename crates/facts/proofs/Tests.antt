@@ -1,7 +1,7 @@
--- Tests that pass: of one or the other, and of two that pass together.
+-- Tests that pass: of one or the other, of both, and of two that pass together.
 -- Assumes nothing.
-use mathlib.Core.Path.{_≡_, refl}
-use mathlib.Core.Bool.{Bool, true, false, _||_}
+use mathlib.Core.Path.{_≡_, refl, sym}
+use mathlib.Core.Bool.{Bool, true, false, _&&_, _||_, true≢false}
 use lib.Dec.{T}
 
 pub or-cases : {X : Type 0} (a b : Bool) → T (a || b) → (T a → X) → (T b → X) → X
@@ -15,6 +15,10 @@ or-first false b t = absurd t
 pub or-second : (a b : Bool) → T b → T (a || b)
 or-second true b t = tt
 or-second false b t = t
+
+pub and-both : (a b : Bool) → a && b ≡ true → (a ≡ true) × (b ≡ true)
+and-both true b e = (refl, e)
+and-both false b e = absurd (true≢false (sym e))
 
 -- two tests that pass together are equal
 pub iff : (a b : Bool) → (T a → T b) → (T b → T a) → a ≡ b

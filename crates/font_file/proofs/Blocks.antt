@@ -1,13 +1,13 @@
 -- One block of a font file: the one that is written, one that passes its tests, and one that is damaged.
 -- Assumes nothing.
 use Prim.Native.Nat.{ℕ, zero, suc, _+_, _-_, _/_, _%_, _≤_, _<_}
-use mathlib.Core.Path.{_≡_, refl, sym, ap, subst, _∙_}
-use mathlib.Core.Bool.{Bool, true, false, _&&_, true≢false, not-eq-not}
+use mathlib.Core.Path.{_≡_, refl, sym, ap, _∙_}
+use mathlib.Core.Bool.{true, false, _&&_, not-eq-not}
 use mathlib.Core.List.{List, [], _∷_, _++_, append-assoc}
 use native.Mathlib.Decide.{decLt}
 use native.Mathlib.Numerals.{add-one}
 use native.Mathlib.Omega.{arith}
-use borrow.Author.Tests.{eq-eqb, eqb-true}
+use borrow.Author.Tests.{eq-eqb, eqb-true, eqb-false}
 use lib.Dec.{eqb}
 use lib.ListN.{length, getD, take, drop, set, replicate, length-append, length-take, length-drop, length-replicate, length-set, take-append-drop, drop-of-length-le}
 use lib.Seq.{drop-cons, drop-drop, drop-at, take-at, take-take, take-set-le, take-set-lt, drop-set-lt, getD-take, getD-drop, getD-set-same}
@@ -15,22 +15,20 @@ use Rattle.buffers.specs.Buffers.{word, wordBytes}
 use Rattle.facts.proofs.Choice.{either}
 use Rattle.facts.proofs.Lists.{set-at}
 use Rattle.facts.proofs.Parts.{drop-take}
+use Rattle.facts.proofs.Tests.{and-both}
 use Rattle.refusals.specs.declared.FileRefusal.{FileRefusal}
 use Rattle.refusals.specs.declared.FileRefusal.the-variants.{Checks}
+use Rattle.refusals.specs.Refusals.{fileNumberOf}
+use Rattle.refusals.proofs.Laws.{file-not-zero}
 use Rattle.font_file.specs.declared.FileAnswer.{FileAnswer}
 use Rattle.font_file.specs.declared.FileAnswer.the-variants.{Done, Refused}
-use Rattle.font_file.specs.FontFile.{usedLength, sumCheck, weightedCheck, contentOf, withChecks, checksRight, allZero, unusedIn, formatRight, blockTest}
+use Rattle.font_file.specs.FontFile.{blockLength, checkedLength, headingLength, payloadLength, usedLength, sumCheck, weightedCheck, contentOf, withChecks, checksRight, allZero, unusedIn, formatRight, blockTest, fileReply}
 use Rattle.font_file.specs.Checked.{Bytes, exchanged}
 use Rattle.font_file.proofs.Sums.{sum-set, weighted-exchanged}
 
 -- a refusal is not the answer that all is done
-IsRefused : FileAnswer → Type 0
-IsRefused Done = ⊥
-IsRefused (Refused r) = Unit
-
 pub refused-not : (r : FileRefusal) → Refused r ≡ Done → ⊥
-unfolding IsRefused
-refused-not r e = subst IsRefused e tt
+refused-not r e = eqb-false (fileNumberOf r) 0 (file-not-zero r) (ap (λ (v : FileAnswer). fileReply v .refusal) e)
 
 -- ---- bytes
 
@@ -48,12 +46,10 @@ bytes-take (suc n) (x ∷ xs) h (suc i) = bytes-take n xs (λ j. h (suc j)) i
 pub bytes-drop : (n : ℕ) (xs : List ℕ) → Bytes xs → Bytes (drop n xs)
 bytes-drop n xs h i = rw getD-drop (h (n + i))
 
-bytes-words : (m n : ℕ) (xs : List ℕ) → m < 65536 → n < 65536 → Bytes xs → Bytes (wordBytes m ++ (wordBytes n ++ xs))
-bytes-words m n xs k l h zero = omega arith
-bytes-words m n xs k l h (suc zero) = omega arith
-bytes-words m n xs k l h (suc (suc zero)) = omega arith
-bytes-words m n xs k l h (suc (suc (suc zero))) = omega arith
-bytes-words m n xs k l h (suc (suc (suc (suc i)))) = h i
+bytes-word : (n : ℕ) (xs : List ℕ) → n < 65536 → Bytes xs → Bytes (wordBytes n ++ xs)
+bytes-word n xs k h zero = omega arith
+bytes-word n xs k h (suc zero) = omega arith
+bytes-word n xs k h (suc (suc i)) = h i
 
 bytes-zeros : (n : ℕ) → Bytes (replicate n 0)
 bytes-zeros zero i = omega arith
@@ -65,24 +61,27 @@ bytes-zeros (suc n) (suc i) = bytes-zeros n i
 abbrev pub blockOf : (number : ℕ) (font : List ℕ) → List ℕ
 blockOf number font = withChecks (contentOf number font)
 
-pub used-most : (number : ℕ) → usedLength number ≤ 504
-used-most number = either (λ (n : ℕ). n ≤ 504) (eqb number 9) 72 504 (omega arith) (omega arith)
+-- the used length fits the payload
+pub used-most : (number : ℕ) → usedLength number ≤ payloadLength
+used-most number = either (λ (n : ℕ). n ≤ payloadLength) (eqb number 9) 72 payloadLength (omega arith) (omega arith)
 
 pub block-bytes : (number : ℕ) (font : List ℕ) → number < 65536 → Bytes font → Bytes (blockOf number font)
 unfolding withChecks contentOf
 block-bytes number font l h =
     let c : List ℕ = contentOf number font in
-    let zeros : List ℕ = replicate (504 - length font) 0 in
+    let zeros : List ℕ = replicate (payloadLength - length font) 0 in
     bytes-append c (wordBytes (sumCheck c) ++ wordBytes (weightedCheck c))
-    (bytes-words number (usedLength number) (font ++ zeros) l (omega (arith, used-most number)) (bytes-append font zeros h (bytes-zeros (504 - length font))))
-    (bytes-words (sumCheck c) (weightedCheck c) [] (omega arith) (omega arith) (λ i. omega arith))
+    (bytes-word number (wordBytes (usedLength number) ++ (font ++ zeros)) l
+    (bytes-word (usedLength number) (font ++ zeros) (omega (arith, used-most number)) (bytes-append font zeros h (bytes-zeros (payloadLength - length font)))))
+    (bytes-word (sumCheck c) (wordBytes (weightedCheck c)) (omega arith) (bytes-word (weightedCheck c) [] (omega arith) (λ i. omega arith)))
 
 -- the checks, read from the last four bytes
 checks-by : (block : List ℕ)
-    → checksRight block ≡ eqb (word (drop 508 block) 0) (sumCheck (take 508 block)) && eqb (word (drop 508 block) 2) (weightedCheck (take 508 block))
+    → checksRight block ≡ eqb (word (drop checkedLength block) 0) (sumCheck (take checkedLength block)) && eqb (word (drop checkedLength block) 2) (weightedCheck (take checkedLength block))
 unfolding checksRight
 checks-by block = simp getD-drop
 
+-- a number, read from its two bytes
 word-read : (n : ℕ) → word (wordBytes n) 0 ≡ n
 word-read n = omega arith
 
@@ -92,16 +91,16 @@ zeros-pass zero = refl
 zeros-pass (suc n) = zeros-pass n
 
 module _ (number : ℕ) (font : List ℕ) (h : length font ≡ usedLength number) where
-  pub content-length : length (contentOf number font) ≡ 508
+  pub content-length : length (contentOf number font) ≡ checkedLength
   unfolding contentOf
   content-length = simp (length-append, length-replicate) (omega (arith, used-most number))
 
-  pub block-length : length (blockOf number font) ≡ 512
+  pub block-length : length (blockOf number font) ≡ blockLength
   unfolding withChecks
   block-length = simp (length-append, content-length) (omega arith)
 
   -- its bytes of font, whatever stands behind it
-  pub block-font : (rest : List ℕ) → take (usedLength number) (drop 4 (blockOf number font ++ rest)) ≡ font
+  pub block-font : (rest : List ℕ) → take (usedLength number) (drop headingLength (blockOf number font ++ rest)) ≡ font
   unfolding withChecks contentOf
   block-font rest = simp append-assoc (take-at font _ (usedLength number) h)
 
@@ -109,18 +108,14 @@ module _ (number : ℕ) (font : List ℕ) (h : length font ≡ usedLength number
   unfolding blockTest formatRight withChecks contentOf
   block-passes =
       let c : List ℕ = contentOf number font in
-      let l : length c ≡ 508 = content-length in
+      let l : length c ≡ checkedLength = content-length in
       let checks : checksRight (withChecks c) ≡ true =
-      checks-by (withChecks c) ∙ rw (take-at c _ 508 l, drop-at c _ 508 l, eq-eqb _ _ (word-read (sumCheck c)), eq-eqb _ _ (word-read (weightedCheck c))) in
-      let unused : unusedIn number (withChecks c) ≡ replicate (504 - length font) 0 =
-      ap (drop (4 + usedLength number)) (take-at c _ 508 l) ∙ sym (drop-drop (usedLength number) 4 c) ∙ drop-at font _ (usedLength number) h in
-      rw (checks, eq-eqb _ _ (word-read number), eq-eqb _ _ (word-read (usedLength number)), unused, zeros-pass (504 - length font))
+      checks-by (withChecks c) ∙ rw (take-at c _ checkedLength l, drop-at c _ checkedLength l, eq-eqb _ _ (word-read (sumCheck c)), eq-eqb _ _ (word-read (weightedCheck c))) in
+      let unused : unusedIn number (withChecks c) ≡ replicate (payloadLength - length font) 0 =
+      ap (drop (headingLength + usedLength number)) (take-at c _ checkedLength l) ∙ sym (drop-drop (usedLength number) 4 c) ∙ drop-at font _ (usedLength number) h in
+      rw (checks, eq-eqb _ _ (word-read number), eq-eqb _ _ (word-read (usedLength number)), unused, zeros-pass (payloadLength - length font))
 
 -- ---- a block that passes its tests
-
-pub both-true : (a b : Bool) → a && b ≡ true → (a ≡ true) × (b ≡ true)
-both-true true b e = (refl, e)
-both-true false b e = absurd (true≢false (sym e))
 
 passed-both : (place : ℕ) (block : List ℕ) → blockTest place block ≡ Done → (checksRight block ≡ true) × (formatRight place block ≡ true)
 unfolding blockTest
@@ -134,45 +129,50 @@ word-back xs i h l =
     let high : word xs i / 256 ≡ getD xs (i + 1) 0 = omega (arith, h i) in
     rw (low, high, add-one, ← drop-cons xs (suc i) 0 l, ← drop-cons xs i 0 (omega arith))
 
-words-back : (xs ys : List ℕ) (m n : ℕ) → Bytes xs → 4 ≤ length xs → word xs 0 ≡ m → word xs 2 ≡ n → drop 4 xs ≡ ys
+-- and so are four, of two numbers
+words-back : (xs ys : List ℕ) (m n : ℕ) → Bytes xs → 4 ≤ length xs → word xs 0 ≡ m → word xs 2 ≡ n → drop headingLength xs ≡ ys
     → wordBytes m ++ (wordBytes n ++ ys) ≡ xs
 words-back xs ys m n h l p q e =
     rw (← p, ← q, ← e) (ap (λ (r : List ℕ). wordBytes (word xs 0) ++ r) (word-back xs 2 h (omega arith)) ∙ word-back xs 0 h (omega arith))
 
+-- bytes that are all zero are so many zeros
 zeros-back : (xs : List ℕ) → allZero xs ≡ true → replicate (length xs) 0 ≡ xs
 unfolding allZero
 zeros-back [] e = refl
-zeros-back (x ∷ xs) e = let (p, q) = both-true (eqb x 0) (allZero xs) e in λ i. sym (eqb-true x 0 p) i ∷ zeros-back xs q i
+zeros-back (x ∷ xs) e = let (p, q) = and-both (eqb x 0) (allZero xs) e in λ i. sym (eqb-true x 0 p) i ∷ zeros-back xs q i
 
+-- right checks: what stands in the last four bytes
 checks-true : (block : List ℕ) → checksRight block ≡ true
-    → (word (drop 508 block) 0 ≡ sumCheck (take 508 block)) × (word (drop 508 block) 2 ≡ weightedCheck (take 508 block))
-checks-true block e = let (p, q) = both-true _ _ (sym (checks-by block) ∙ e) in (eqb-true _ _ p, eqb-true _ _ q)
+    → (word (drop checkedLength block) 0 ≡ sumCheck (take checkedLength block)) × (word (drop checkedLength block) 2 ≡ weightedCheck (take checkedLength block))
+checks-true block e = let (p, q) = and-both _ _ (sym (checks-by block) ∙ e) in (eqb-true _ _ p, eqb-true _ _ q)
 
-checks-back : (block : List ℕ) → length block ≡ 512 → Bytes block → checksRight block ≡ true → withChecks (take 508 block) ≡ block
+-- the block is its bytes 0 to 507 with the checks over them
+checks-back : (block : List ℕ) → length block ≡ blockLength → Bytes block → checksRight block ≡ true → withChecks (take checkedLength block) ≡ block
 unfolding withChecks
 checks-back block l h e =
     let (p, q) = checks-true block e in
-    let n : length (drop 508 block) ≡ 4 = simp length-drop (omega arith) in
-    ap (λ (r : List ℕ). take 508 block ++ r)
-    (words-back (drop 508 block) [] _ _ (bytes-drop 508 block h) (omega arith) p q (drop-of-length-le (drop 508 block) {i = 4} (omega arith)))
-    ∙ take-append-drop 508 block
+    let n : length (drop checkedLength block) ≡ 4 = simp length-drop (omega arith) in
+    ap (λ (r : List ℕ). take checkedLength block ++ r)
+    (words-back (drop checkedLength block) [] _ _ (bytes-drop checkedLength block h) (omega arith) p q (drop-of-length-le (drop checkedLength block) {i = 4} (omega arith)))
+    ∙ take-append-drop checkedLength block
 
-format-back : (place : ℕ) (block : List ℕ) → length block ≡ 512 → Bytes block → formatRight place block ≡ true
-    → contentOf place (take (usedLength place) (drop 4 block)) ≡ take 508 block
+-- its bytes 0 to 507 are the content with its bytes of font
+format-back : (place : ℕ) (block : List ℕ) → length block ≡ blockLength → Bytes block → formatRight place block ≡ true
+    → contentOf place (take (usedLength place) (drop headingLength block)) ≡ take checkedLength block
 unfolding contentOf formatRight
 format-back place block l h e =
     let u : ℕ = usedLength place in
-    let rest : List ℕ = drop 4 block in
-    let zeros : 504 - length (take u rest) ≡ length (unusedIn place block) = simp (length-drop, length-take) (omega (arith, used-most place)) in
-    let unused : unusedIn place block ≡ drop u (take 504 rest) = sym (drop-drop u 4 (take 508 block)) ∙ ap (drop u) (drop-take 4 504 block) in
-    let (p, t) = both-true _ _ e in
-    let (q, z) = both-true _ _ t in
-    rw (zeros, zeros-back _ z, unused, ← take-take u 504 rest (used-most place), take-append-drop u (take 504 rest))
-    (ap (take 508) (words-back block rest place u h (omega arith) (eqb-true _ _ p) (eqb-true _ _ q) refl))
+    let rest : List ℕ = drop headingLength block in
+    let zeros : payloadLength - length (take u rest) ≡ length (unusedIn place block) = simp (length-drop, length-take) (omega (arith, used-most place)) in
+    let unused : unusedIn place block ≡ drop u (take payloadLength rest) = sym (drop-drop u 4 (take checkedLength block)) ∙ ap (drop u) (drop-take headingLength payloadLength block) in
+    let (p, t) = and-both _ _ e in
+    let (q, z) = and-both _ _ t in
+    rw (zeros, zeros-back _ z, unused, ← take-take u payloadLength rest (used-most place), take-append-drop u (take payloadLength rest))
+    (ap (take checkedLength) (words-back block rest place u h (omega arith) (eqb-true _ _ p) (eqb-true _ _ q) refl))
 
 -- it is the one that is written with its bytes of font
-pub block-back : (place : ℕ) (block : List ℕ) → length block ≡ 512 → Bytes block → blockTest place block ≡ Done
-    → blockOf place (take (usedLength place) (drop 4 block)) ≡ block
+pub block-back : (place : ℕ) (block : List ℕ) → length block ≡ blockLength → Bytes block → blockTest place block ≡ Done
+    → blockOf place (take (usedLength place) (drop headingLength block)) ≡ block
 block-back place block l h e =
     let (p, q) = passed-both place block e in ap withChecks (format-back place block l h q) ∙ checks-back block l h p
 
@@ -182,43 +182,43 @@ bad-checks : (place : ℕ) (block : List ℕ) → (checksRight block ≡ true �
 unfolding blockTest
 bad-checks place block n = let c : checksRight block ≡ false = not-eq-not .0 n in rw c
 
-module _ (place : ℕ) (block : List ℕ) (l : length block ≡ 512) (h : Bytes block) (e : blockTest place block ≡ Done) where
+module _ (place : ℕ) (block : List ℕ) (l : length block ≡ blockLength) (h : Bytes block) (e : blockTest place block ≡ Done) where
   right : checksRight block ≡ true
   right = passed-both place block e .0
 
   -- where the checks stayed, so did the sums
-  same-sums : (other content : List ℕ) → drop 508 other ≡ drop 508 block → take 508 other ≡ content → checksRight other ≡ true
-      → (sumCheck content ≡ sumCheck (take 508 block)) × (weightedCheck content ≡ weightedCheck (take 508 block))
+  same-sums : (other content : List ℕ) → drop checkedLength other ≡ drop checkedLength block → take checkedLength other ≡ content → checksRight other ≡ true
+      → (sumCheck content ≡ sumCheck (take checkedLength block)) × (weightedCheck content ≡ weightedCheck (take checkedLength block))
   same-sums other content d t s =
       let (p, q) = checks-true block right in
       let (m, n) = checks-true other s in
       rw (← t) (sym m ∙ ap (λ (xs : List ℕ). word xs 0) d ∙ p, sym n ∙ ap (λ (xs : List ℕ). word xs 2) d ∙ q)
 
   -- one byte
-  pub changed : (i v : ℕ) → i < 512 → v < 256 → (v ≡ getD block i 0 → ⊥) → blockTest place (set block i v) ≡ Refused (Checks place)
-  changed i v m k n = bad-checks place (set block i v) (λ s. n (by s (decLt i 508)))
+  pub changed : (i v : ℕ) → i < blockLength → v < 256 → (v ≡ getD block i 0 → ⊥) → blockTest place (set block i v) ≡ Refused (Checks place)
+  changed i v m k n = bad-checks place (set block i v) (λ s. n (by s (decLt i checkedLength)))
     where
-      by : checksRight (set block i v) ≡ true → Dec (i < 508) → v ≡ getD block i 0
+      by : checksRight (set block i v) ≡ true → Dec (i < checkedLength) → v ≡ getD block i 0
       by s (yes b) =
-          let sums = same-sums (set block i v) (set (take 508 block) i v) (drop-set-lt 508 block i v b) (take-set-lt 508 block i v b) s in
-          omega (arith, sums .0, sum-set (take 508 block) i v (simp length-take (omega arith)), getD-take 508 block i 0 b, h i)
+          let sums = same-sums (set block i v) (set (take checkedLength block) i v) (drop-set-lt checkedLength block i v b) (take-set-lt checkedLength block i v b) s in
+          omega (arith, sums .0, sum-set (take checkedLength block) i v (simp length-take (omega arith)), getD-take checkedLength block i 0 b, h i)
       by s (no b) =
           let bytes : Bytes (set block i v) = λ j. set-at (λ _ (x : ℕ). x < 256) block i v j k (h j) in
           sym (getD-set-same block i v 0 (omega arith))
           ∙ ap (λ (xs : List ℕ). getD xs i 0)
           (sym (checks-back (set block i v) (length-set block i v ∙ l) bytes s)
-          ∙ ap withChecks (take-set-le 508 block i v (omega arith))
+          ∙ ap withChecks (take-set-le checkedLength block i v (omega arith))
           ∙ checks-back block l h right)
 
   -- two neighbours
-  pub swapped : (i : ℕ) → suc i < 508 → (getD block i 0 ≡ getD block (suc i) 0 → ⊥)
+  pub swapped : (i : ℕ) → suc i < checkedLength → (getD block i 0 ≡ getD block (suc i) 0 → ⊥)
       → blockTest place (exchanged block i (suc i)) ≡ Refused (Checks place)
   swapped i m n =
       bad-checks place (exchanged block i (suc i)) (λ s. n
-      (let b : i < 508 = omega arith in
-      let x = getD-take 508 block i 0 b in
-      let y = getD-take 508 block (suc i) 0 m in
+      (let b : i < checkedLength = omega arith in
+      let x = getD-take checkedLength block i 0 b in
+      let y = getD-take checkedLength block (suc i) 0 m in
       let sums =
-      same-sums (exchanged block i (suc i)) (exchanged (take 508 block) i (suc i)) (drop-set-lt 508 (set block i _) (suc i) _ m ∙ drop-set-lt 508 block i _ b)
-      (rw (x, y, take-set-lt 508 (set block i _) (suc i) _ m, take-set-lt 508 block i _ b)) s in
-      omega (arith, sums .1, weighted-exchanged (take 508 block) 1 i (simp length-take (omega arith)), x, y, h i, h (suc i))))
+      same-sums (exchanged block i (suc i)) (exchanged (take checkedLength block) i (suc i)) (drop-set-lt checkedLength (set block i _) (suc i) _ m ∙ drop-set-lt checkedLength block i _ b)
+      (rw (x, y, take-set-lt checkedLength (set block i _) (suc i) _ m, take-set-lt checkedLength block i _ b)) s in
+      omega (arith, sums .1, weighted-exchanged (take checkedLength block) 1 i (simp length-take (omega arith)), x, y, h i, h (suc i))))

@@ -2,14 +2,15 @@
 -- Assumes nothing.
 use Prim.Native.Nat.{ℕ, _+_, _*_, _/_, _%_, _≤_, _<_}
 use mathlib.Core.Path.{_≡_}
-use mathlib.Core.List.{List}
-use lib.ListN.{length, getD, set, take, drop}
+use mathlib.Core.Bool.{false}
+use mathlib.Core.List.{List, [], _∷_, _++_}
+use lib.ListN.{length, getD, set, take, drop, replicate}
 use Rattle.limits.specs.Limits.{fontLength, fontFileLength}
 use Rattle.refusals.specs.declared.FileRefusal.{FileRefusal}
-use Rattle.refusals.specs.declared.FileRefusal.the-variants.{Checks}
+use Rattle.refusals.specs.declared.FileRefusal.the-variants.{Length, Checks}
 use Rattle.refusals.specs.Refusals.{accepted, fileRefused}
 use Rattle.font_file.specs.declared.FileAnswer.the-variants.{Done, Refused}
-use Rattle.font_file.specs.FontFile.{blockCount, blockLength, headingLength, payloadLength, blockTest, writeFont, ReadOutcome, readFont}
+use Rattle.font_file.specs.FontFile.{blockCount, blockLength, headingLength, payloadLength, contentOf, withChecks, blockTest, rightLengths, writeFont, ReadOutcome, readFont}
 
 -- every number of the list is a byte, as in every buffer that the code is lent
 abbrev pub Bytes : List ℕ → Type 0
@@ -41,6 +42,10 @@ pub record Fit (font file buffer : List ℕ) : Type 0 where
 abbrev pub written : (font file : List ℕ) → List ℕ
 written font file = writeFont font file .file
 
+-- the example of include/osd.h: block 3, where characters 42 to 55 are all 0
+abbrev pub FileExample : Type 0
+FileExample = withChecks (contentOf 3 (replicate payloadLength 0)) ≡ (0x03 ∷ 0x00 ∷ 0xF8 ∷ 0x01 ∷ replicate payloadLength 0) ++ (0xFC ∷ 0x00 ∷ 0xEF ∷ 0x02 ∷ [])
+
 -- the claim
 pub record FontFiles : Type 0 where
   -- a font written and read is the same font
@@ -58,6 +63,9 @@ pub record FontFiles : Type 0 where
   pub two-exchanged : (font file buffer : List ℕ) (i : ℕ) → Fit font file buffer → Bytes font → i + 1 < blockCount * payloadLength
       → (getD (written font file) (payloadAt i) 0 ≡ getD (written font file) (payloadAt (i + 1)) 0 → ⊥)
       → readFont (exchanged (written font file) (payloadAt i) (payloadAt (i + 1))) buffer ≡ badChecks (i / payloadLength) buffer
+  -- a wrong length, shorter or longer, of font or file is refused with 15 by both calls, which leave the buffer
+  pub wrong-length : (font file : List ℕ) → rightLengths font file ≡ false
+      → (writeFont font file ≡ record { file = file; reply = fileRefused Length }) × (readFont file font ≡ record { font = font; reply = fileRefused Length })
   -- the first bad block is named: what its tests find is the answer, whatever stands in later blocks
   pub first-bad : (file buffer : List ℕ) (p : ℕ) (r : FileRefusal) → length file ≡ fontFileLength → length buffer ≡ fontLength → p < blockCount
       → ((q : ℕ) → q < p → blockTest q (blockAt q file) ≡ Done) → blockTest p (blockAt p file) ≡ Refused r

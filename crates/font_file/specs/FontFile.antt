@@ -140,9 +140,9 @@ abbrev pub rightLengths : (font file : List ℕ) → Bool
 rightLengths font file = eqb (length font) fontLength && eqb (length file) fontFileLength
 
 -- an answer as the paper has it
-abbrev pub replyOf : FileAnswer → Reply
-replyOf Done = accepted 0
-replyOf (Refused r) = fileRefused r
+abbrev pub fileReply : FileAnswer → Reply
+fileReply Done = accepted 0
+fileReply (Refused r) = fileRefused r
 
 abbrev pub lengthTest : (font file : List ℕ) → FileAnswer → FileAnswer
 lengthTest font file later = cond (not (rightLengths font file)) (Refused Length) later

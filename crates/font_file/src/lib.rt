@@ -4,7 +4,7 @@ ghost use Prim.Native.Nat.{_+_, _%_, _≤_, _<_};
 ghost use lib.ListN.{length, take, drop};
 ghost use lib.Seq.{sets};
 ghost use Rattle.limits.specs.Limits.{fontLength, fontFileLength};
-ghost use Rattle.font_file.specs.FontFile.{blockCount, blockLength, checkedLength, headingLength, payloadLength, usedLength, checksOf, contentOf, withChecks, fileOf, checksRight, allZero, formatRight, blockTest, blocksTest, fontIn, replyOf, writeFont, readFont};
+ghost use Rattle.font_file.specs.FontFile.{blockCount, blockLength, checkedLength, headingLength, payloadLength, usedLength, checksOf, contentOf, withChecks, fileOf, checksRight, allZero, formatRight, blockTest, blocksTest, fontIn, fileReply, writeFont, readFont};
 ghost use Rattle.font_file.specs.Columns.{columnCount, rowCount, columnOf};
 use refusals::FileRefusal;
 
@@ -19,6 +19,11 @@ const HEADING_LENGTH: usize = 4;
 
 const PAYLOAD_LENGTH: usize = 504;
 
+// The last block, and the bytes of font that are left for it.
+const LAST_BLOCK: u8 = 9;
+
+const LAST_LENGTH: usize = 72;
+
 // Rows and columns of a payload, as its checks are summed up.
 const ROWS: u16 = 7;
 
@@ -29,7 +34,7 @@ pub enum FileAnswer {
     Refused(FileRefusal),
 }
 
-// What stands in a column: the sum, and the sum of each byte times its row.
+// What stands in a column: the sum, and the sum of each byte times its row, counted from 0.
 pub struct Column {
     pub sum: u16,
     pub weighted: u16,
@@ -45,13 +50,13 @@ fn used_length(number: u8) -> usize
     ensures { λ r. ⌜ r ≡ usedLength number ⌝ }
     ensures { λ r. ⌜ r ≤ payloadLength ⌝ }
 {
-    if number == 9 {
-        return 72;
+    if number == LAST_BLOCK {
+        return LAST_LENGTH;
     }
     PAYLOAD_LENGTH
 }
 
-// A sum modulo 65,536.
+// Modulo 65,536 at each step, so that 16 bits do; the bound keeps the sum within 32.
 fn wrapped(a: u16, b: u32) -> u16
     requires { ⌜ b < 16777216 ⌝ }
     ensures { λ r. ⌜ r ≡ (a + b) % 65536 ⌝ }
@@ -59,8 +64,8 @@ fn wrapped(a: u16, b: u32) -> u16
     ((a as u32 + b) % 65536) as u16
 }
 
-// The payload is taken as seven rows of 72 bytes. What stands in a column, from byte `first` on: its sum, and the sum of each byte times its
-// row, counted from 0. From the last row up, a byte's row is how often the sum with it in it is added.
+// The payload is taken as seven rows of 72 bytes; this is the column that begins with byte `first`. Going up from the last row, the sum so
+// far is added once a row, so each byte is added as often as there are rows above it.
 fn column_at(block: &[u8], first: u16) -> Column
     requires { ⌜ (length (now block) ≡ blockLength) × (first < headingLength + columnCount) ⌝ }
     ensures { λ r. ⌜ r ≡ columnOf rowCount (drop first (now (block .entry))) ⌝ }
@@ -79,7 +84,7 @@ fn column_at(block: &[u8], first: u16) -> Column
     }
 }
 
-// Column by column, which vector units do eight at a time, and which multiplies once for seven bytes.
+// Column by column: vector units do eight at a time, and seven bytes take one multiplication.
 fn checks_of(block: &[u8]) -> CheckSums
     requires { ⌜ length (now block) ≡ blockLength ⌝ }
     ensures { λ r. ⌜ r ≡ checksOf (take checkedLength (now (block .entry))) ⌝ }
@@ -165,7 +170,7 @@ fn write_blocks(font: &[u8], file: &mut [u8])
 
 // Writes the font as a file. Refusal 15.
 pub fn write(font: &[u8], file: &mut [u8]) -> FileAnswer
-    ensures { λ r. ⌜ record { file = now (file .exit); reply = replyOf r } ≡ writeFont (now (font .entry)) (now (file .entry)) ⌝ }
+    ensures { λ r. ⌜ record { file = now (file .exit); reply = fileReply r } ≡ writeFont (now (font .entry)) (now (file .entry)) ⌝ }
 {
     if font.len() != limits::FONT_LENGTH {
         return FileAnswer::Refused(FileRefusal::Length);
@@ -184,13 +189,13 @@ fn checks_right(block: &[u8]) -> bool
     ensures { λ r. ⌜ r ≡ checksRight (now (block .entry)) ⌝ }
 {
     let checks = checks_of(block);
-    if buffers::word_at(block, 508) != checks.sum {
+    if buffers::word_at(block, CHECKED_LENGTH) != checks.sum {
         return false;
     }
-    buffers::word_at(block, 510) == checks.weighted
+    buffers::word_at(block, CHECKED_LENGTH + 2) == checks.weighted
 }
 
-// By their sum, so that vector units can do it.
+// By their sum: without an early end, vector units do sixteen at a time.
 fn all_zero(bytes: &[u8]) -> bool
     requires { ⌜ length (now bytes) ≤ payloadLength ⌝ }
     ensures { λ r. ⌜ r ≡ allZero (now (bytes .entry)) ⌝ }
@@ -267,7 +272,7 @@ fn copy_font(file: &[u8], font: &mut [u8])
 
 // Reads the font of a file. Refusals 15, then of the first bad block 16 or 17. All blocks are tested before the first byte is written.
 pub fn read(file: &[u8], font: &mut [u8]) -> FileAnswer
-    ensures { λ r. ⌜ record { font = now (font .exit); reply = replyOf r } ≡ readFont (now (file .entry)) (now (font .entry)) ⌝ }
+    ensures { λ r. ⌜ record { font = now (font .exit); reply = fileReply r } ≡ readFont (now (file .entry)) (now (font .entry)) ⌝ }
 {
     if font.len() != limits::FONT_LENGTH {
         return FileAnswer::Refused(FileRefusal::Length);
@@ -288,7 +293,7 @@ pub fn read(file: &[u8], font: &mut [u8]) -> FileAnswer
 impl FileAnswer {
     // The refusal's number; 0 where it is done.
     pub fn refusal(self) -> u8
-        ensures { λ r. ⌜ r ≡ replyOf self .refusal ⌝ }
+        ensures { λ r. ⌜ r ≡ fileReply self .refusal ⌝ }
     {
         match self {
             FileAnswer::Done => 0,
@@ -298,7 +303,7 @@ impl FileAnswer {
 
     // The place of a bad block, else 0.
     pub fn value(self) -> u8
-        ensures { λ r. ⌜ r ≡ replyOf self .value ⌝ }
+        ensures { λ r. ⌜ r ≡ fileReply self .value ⌝ }
     {
         match self {
             FileAnswer::Done => 0,

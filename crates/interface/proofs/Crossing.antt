@@ -20,7 +20,6 @@ use Rattle.refusals.specs.declared.Unheard.the-variants as unheard
 use Rattle.refusals.specs.declared.Refusal.{Refusal}
 use Rattle.refusals.specs.declared.Refusal.the-variants.{NotAcknowledged}
 use Rattle.refusals.proofs.Laws.{not-zero, at-least-five}
-use Rattle.font_file.specs.FontFile.{writeFont, readFont}
 use Rattle.font_file.proofs.Outcomes.{write-silent, read-silent, write-length, read-length}
 use Rattle.registers.specs.declared.Registers.{Registers}
 use Rattle.registers.specs.Registers.{settingsOf}
@@ -447,19 +446,10 @@ unfolding pixelOn
 pixel-by-registers xs ys ram font lines frame x y e p =
     ap₂ (λ (n : ℕ) (bytes : List ℕ). cond (eqb n recordLength) (answerOf (askPixel (registersIn bytes) ram font lines frame x y)) notTaken) e p
 
--- ---- font files
-
-font-written : (font file : List ℕ) → (fontWriteOn font file .file ≡ writeFont font file .file) × (fontWriteOn font file .answer ≡ answerOf (writeFont font file .reply))
-unfolding fontWriteOn
-font-written font file = (refl, refl)
-
-font-got : (file font : List ℕ) → (fontReadOn file font .font ≡ readFont file font .font) × (fontReadOn file font .answer ≡ answerOf (readFont file font .reply))
-unfolding fontReadOn
-font-got file font = (refl, refl)
-
 -- ---- the claim
 
 pub crossing : Crossing
+unfolding fontWriteOn fontReadOn
 crossing =
     record {
       fresh = fresh-read;
@@ -470,8 +460,8 @@ crossing =
       pixel = λ xs ram font lines frame x y h. sym (pixel-is xs h ram font lines frame x y);
       feed-fresh = feed-fresh-read;
       feed = feed-whole;
-      font-write = font-written;
-      font-read = font-got;
+      font-write = λ font file. (refl, refl);
+      font-read = λ file font. (refl, refl);
       pixel-alone = pixel-by-registers;
       not-taken = λ xs ram font line kind byte lines c frame x y h. (
         sym (fresh-not xs h),
@@ -490,8 +480,8 @@ crossing =
       length-draw = draw-length;
       length-feed-fresh = feed-fresh-length;
       length-feed = feed-kept;
-      length-font-write = λ font file. ap length (font-written font file .0) ∙ write-length font file;
-      length-font-read = λ file font. ap length (font-got file font .0) ∙ read-length file font;
+      length-font-write = write-length;
+      length-font-read = read-length;
       value-feed = value-most;
       silent-start = start-silence;
       silent-draw = draw-silence;
@@ -499,6 +489,6 @@ crossing =
       silent-feed = feed-silence;
       deaf = deafness;
       unheard = unheard-by;
-      silent-font-write = λ font file n. font-written font file .0 ∙ write-silent font file n;
-      silent-font-read = λ file font n. font-got file font .0 ∙ read-silent file font n;
+      silent-font-write = write-silent;
+      silent-font-read = read-silent;
     }

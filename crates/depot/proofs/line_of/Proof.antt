@@ -1,8 +1,7 @@
 -- `line_of`: the text stands at the start of the line's bytes.
 -- Assumes nothing.
-use mathlib.Core.Path.{refl, ap, _∙_}
-use native.Mathlib.Omega.{arith}
-use lib.ListN.{length, length-append, length-take, length-drop}
+use mathlib.Core.Path.{refl}
+use lib.ListN.{length}
 use lib.Seq.{take-length, take-at}
 use denote.Ref.{now}
 use borrow.Author.Needs.{needs}
@@ -13,7 +12,7 @@ returns : tie.Need-returns
 returns c =
     let text = now (c .before .before .before .before .args .text) in
     let copied = c .before .copy .ensures in
-    (rw (copied .0, copied .1, take-length text) (take-at text _ (length text) refl), (copied .0, ap length (copied .1) ∙ simp (length-append, length-take, length-drop) (omega (arith, c .before .before .before .before .pre))))
+    (rw (copied .0, copied .1, take-length text) (take-at text _ (length text) refl), (copied .0, search needs))
 
 pub line-of-spec : {M : Type 1} → statement M
 line-of-spec = tie.close (tie.spec (λ c. search needs) (λ c κs. search needs) returns)

@@ -15,8 +15,8 @@ returns c =
     let a = c .before .before in
     let l = c .line-of in
     let place : ℕ = 48 + a .args .place % 10 in (
-      take-set-lt (l .result .length) (l .result .bytes) 18 place (omega (arith, l .ensures .1 .0, a .pre .0)) ∙ ap (λ (xs : List ℕ). set xs 18 place) (l .ensures .0),
-      omega (arith, l .ensures .1 .0, l .ensures .1 .1, length-set (l .result .bytes) 18 place, a .pre .1),
+      take-set-lt (l .result .length) (l .result .bytes) 18 place (omega arith) ∙ ap (λ (xs : List ℕ). set xs 18 place) (l .ensures .0),
+      omega (arith, length-set (l .result .bytes) 18 place),
     )
 
 pub line-with-spec : {M : Type 1} → statement M

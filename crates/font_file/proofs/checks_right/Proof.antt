@@ -22,4 +22,4 @@ returns-2 c =
 
 pub checks-right-spec : {M : Type 1} → statement M
 checks-right-spec =
-    tie.close (tie.spec (λ c κs. search needs) (λ c κs. search needs) returns (λ c κs. search needs) returns-2)
+    tie.close (tie.spec (λ c κs. search needs) (λ c κs. search needs) returns (λ c. search needs) (λ c κs. search needs) returns-2)

@@ -26,12 +26,6 @@ loop-holds : tie.Need-loop-holds Inv-loop μ-loop
 unfolding columnSum columnWeighted
 loop-holds c = (search needs, refl, refl, search needs, search needs)
 
-cast-sum-2 : tie.Need-cast-sum-2 Inv-loop μ-loop
-cast-sum-2 c = omega (arith, c .shared-slice-known .given (c .before .before .before .args .first + columnCount * (c .before .before .loop .row - 1)))
-
-add-sum-2 : tie.Need-add-sum-2 Inv-loop μ-loop
-add-sum-2 c = omega (arith, c .shared-slice-known .given (c .before .before .before .args .first + columnCount * (c .before .before .loop .row - 1)))
-
 loop-again : tie.Need-loop-again Inv-loop μ-loop
 loop-again c =
     let l = c .before .before .loop in
@@ -60,8 +54,8 @@ column-at-spec =
     (λ c. search needs)
     (λ c. search needs)
     (λ c. search needs)
-    cast-sum-2
-    add-sum-2
+    (λ c. omega (arith, c .shared-slice-known .given (c .before .before .before .args .first + columnCount * (c .before .before .loop .row - 1))))
+    (λ c. omega (arith, c .shared-slice-known .given (c .before .before .before .args .first + columnCount * (c .before .before .loop .row - 1))))
     (λ c. search needs)
     loop-again
     returns)

@@ -9,7 +9,7 @@ use borrow.Author.Needs.{needs}
 use denote.Ref.{now}
 use lib.ListN.{take, drop}
 use Rattle.facts.proofs.Parts.{drop-take}
-use Rattle.font_file.specs.FontFile.{checkedLength, payloadLength, allZero, formatRight}
+use Rattle.font_file.specs.FontFile.{checkedLength, headingLength, payloadLength, allZero, formatRight}
 use Rattle.font_file.proofs.format_right.Statement.{statement}
 use Rattle.font_file.proofs.format_right.Tie as tie
 
@@ -25,10 +25,10 @@ returns-2 c =
 
 -- the part that is tested
 unused : (used : ℕ) (block : List ℕ) → used ≤ payloadLength
-    → take (checkedLength - (4 + used)) (drop (4 + used) block) ≡ drop (4 + used) (take checkedLength block)
+    → take (checkedLength - (headingLength + used)) (drop (headingLength + used) block) ≡ drop (headingLength + used) (take checkedLength block)
 unused used block h =
-    let whole : 4 + used + (checkedLength - (4 + used)) ≡ checkedLength = omega arith in
-    sym (drop-take (4 + used) (checkedLength - (4 + used)) block) ∙ ap (λ (n : ℕ). drop (4 + used) (take n block)) whole
+    let whole : headingLength + used + (checkedLength - (headingLength + used)) ≡ checkedLength = omega arith in
+    sym (drop-take (headingLength + used) (checkedLength - (headingLength + used)) block) ∙ ap (λ (n : ℕ). drop (headingLength + used) (take n block)) whole
 
 returns-3 : tie.Need-returns-3
 unfolding formatRight

@@ -3,11 +3,13 @@
 use mathlib.Core.Path.{ap, _∙_}
 use mathlib.Core.List.{List}
 use Prim.Native.Nat.{ℕ}
+use native.Mathlib.Omega.{arith}
 use borrow.Author.Needs.{needs}
 use denote.Ref.{now}
 use lib.ListN.{take}
+use Rattle.facts.proofs.Parts.{part-put}
 use Rattle.font_file.specs.FontFile.{checkedLength, withChecks}
-use Rattle.font_file.proofs.Turns.{content-is}
+use Rattle.font_file.proofs.Blocks.{content-length}
 use Rattle.font_file.proofs.write_block.Statement.{statement}
 use Rattle.font_file.proofs.write_block.Tie as tie
 
@@ -17,7 +19,7 @@ returns c =
     let a = p .before .before .before .before in
     c .before .before .put-checks .ensures
     ∙ ap (λ (xs : List ℕ). withChecks (take checkedLength xs)) (p .put-content .ensures)
-    ∙ ap withChecks (content-is (now (a .args .block)) (now (a .args .font)) (a .args .number) (a .pre .0) (a .pre .1))
+    ∙ ap withChecks (part-put (now (a .args .block)) _ 0 checkedLength 0 checkedLength (content-length (a .args .number) (now (a .args .font)) (a .pre .1)) (omega (arith, a .pre .0)) tt)
 
 pub write-block-spec : {M : Type 1} → statement M
 write-block-spec =

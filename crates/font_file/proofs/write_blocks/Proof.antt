@@ -1,19 +1,19 @@
 -- `write_blocks`: with the blocks that are left, the buffer is the file.
 -- Assumes nothing.
-use Prim.Native.Nat.{ℕ, _+_, _-_, _*_, _≤_, _<_}
+use Prim.Native.Nat.{ℕ, _+_, _-_, _*_, _≤_}
 use mathlib.Core.Path.{_≡_, refl, sym, ap, _∙_}
 use mathlib.Core.List.{List}
 use native.Mathlib.Omega.{arith}
 use borrow.Author.Needs.{needs}
 use denote.Ref.{now}
 use lib.ListN.{length, take, drop, length-take, length-drop}
-use lib.Seq.{sets, length-sets}
-use Rattle.limits.specs.Limits.{fontLength, fontFileLength}
-use Rattle.facts.proofs.Parts.{sets-all}
-use Rattle.font_file.specs.FontFile.{blockCount, blockLength, payloadLength, usedLength, contentOf, withChecks, blocksOf, fileOf}
-use Rattle.font_file.proofs.Blocks.{block-length}
+use lib.Seq.{sets}
+use Rattle.limits.specs.Limits.{fontFileLength}
+use Rattle.facts.proofs.Parts.{put-part, sets-all}
+use Rattle.font_file.specs.FontFile.{blockCount, blockLength, payloadLength, blocksOf, fileOf}
+use Rattle.font_file.proofs.Blocks.{blockOf, block-length}
 use Rattle.font_file.proofs.Files.{blocks-read}
-use Rattle.font_file.proofs.Turns.{used-fits, part-written, blocks-turn}
+use Rattle.font_file.proofs.Turns.{put-turn, used-fits, font-part}
 use Rattle.font_file.proofs.write_blocks.Statement.{statement}
 use Rattle.font_file.proofs.write_blocks.Tie as tie
 
@@ -34,32 +34,33 @@ loop-holds c =
 part-write-block-end-2 : tie.Need-part-write-block-end-2 Inv-loop μ-loop
 part-write-block-end-2 c =
     let l = c .before .before .before .loop in
-    omega (arith, used-fits (l .number) _ (omega arith) (c .before .used-length .ensures .0), c .before .before .before .before .before .before .pre .0)
-
--- the part of the font that a block has
-part-long : (k used : ℕ) (font : List ℕ) → k < blockCount → used ≡ usedLength k → length font ≡ fontLength
-    → length (take (payloadLength * k + used - payloadLength * k) (drop (payloadLength * k) font)) ≡ usedLength k
-part-long k used font h u l =
-    simp (length-take, length-drop) (omega (arith, used-fits k used h u))
+    omega (arith, used-fits (l .number) _ (omega arith) (c .before .used-length .ensures .0))
 
 write-block-requires : tie.Need-write-block-requires Inv-loop μ-loop
 write-block-requires c κs =
     let p = c .before .before in
     let l = p .before .before .loop in
-    (simp (length-take, length-drop) (omega (arith, l .inv .1)), part-long (l .number) _ _ (omega arith) (p .used-length .ensures .0) (p .before .before .before .before .before .pre .0))
+    let a = p .before .before .before .before .before in
+    let (same, long) = font-part (l .number) (p .used-length .result) (omega arith) (p .used-length .ensures .0) (now (a .args .font)) (a .pre .0) in
+    (simp (length-take, length-drop) (omega arith), ap length same ∙ long)
 
 loop-again : tie.Need-loop-again Inv-loop μ-loop
+unfolding blocksOf
 loop-again c =
     let p = c .before .before in
     let u = p .before .before .before .used-length in
     let l = p .before .before .before .before .before .loop in
     let a = p .before .before .before .before .before .before .before .before in
-    let part : List ℕ = take (payloadLength * l .number + u .result - payloadLength * l .number) (drop (payloadLength * l .number) (now (a .args .font))) in
-    let long : length part ≡ usedLength (l .number) = part-long (l .number) (u .result) (now (a .args .font)) (omega arith) (u .ensures .0) (a .pre .0) in
-    let put = part-written (l .file) (withChecks (contentOf (l .number) part)) _ (blockLength * l .number) blockLength (p .write-block .ensures) (block-length (l .number) part long) (omega (arith, l .inv .1)) in (
+    let font = now (a .args .font) in
+    let at : ℕ = blockLength * l .number in
+    let block : List ℕ = blockOf (l .number) (take payloadLength (drop (payloadLength * l .number) font)) in
+    let (same, used) = font-part (l .number) (u .result) (omega arith) (u .ensures .0) font (a .pre .0) in
+    let long : length block ≡ blockLength = block-length (l .number) _ used in
+    let put : _ ≡ sets (l .file) at block = put-part (l .file) block _ at (at + blockLength) (p .write-block .ensures ∙ ap (blockOf (l .number)) same) (omega (arith, long)) (omega (arith, l .inv .1)) in (
       search needs,
-      ap length put ∙ length-sets (l .file) (blockLength * l .number) (withChecks (contentOf (l .number) part)) ∙ l .inv .1,
-      rw put (blocks-turn (l .number) (u .result) (omega arith) (u .ensures .0) (now (a .args .font)) (l .file) part _ (a .pre .0) refl (l .inv .2)),
+      search needs,
+      rw put
+          (put-turn payloadLength blockLength (λ k xs. blockOf k (take payloadLength xs)) blocksOf (λ count k xs. refl) (l .number) font (l .file) block _ (omega arith) refl (omega (arith, long)) (l .inv .2)),
     )
 
 returns : tie.Need-returns Inv-loop μ-loop
