@@ -18,7 +18,7 @@
 -- Any 32 bytes are read as some record: another bus state is idle; byte 1 is read in state 4 only, of byte 26 only bits 0 to 2, and
 -- bytes 28 to 31 (like bits 1 and 2 of byte 26) for characters only.
 -- Assumes nothing.
-use Prim.Native.Nat.{ℕ, _+_, _*_, _/_, _%_, _≤_}
+use Prim.Native.Nat.{ℕ, _+_, _/_, _%_, _≤_}
 use mathlib.Core.Path.{_≡_}
 use mathlib.Core.Bool.{cond}
 use mathlib.Core.List.{List, [], _∷_, _++_}

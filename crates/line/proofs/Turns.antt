@@ -11,7 +11,7 @@ use lib.ListN.{length, getD, take, drop, replicate, length-append, length-take, 
 use borrow.Rule.Slice.PartMut.{putMid, same-len-mid, post-is, mid-len, drop-put}
 use Rattle.raster.proofs.Laws.{characters-more}
 use borrow.Author.Tests.{eqb-true}
-use lib.Seq.{take-all, take-at, drop-length}
+use lib.Seq.{take-all, take-at}
 use Rattle.cells.specs.Reading.{value, cells}
 use Rattle.cells.proofs.Laws.{value-bind, cells-bind, value-fmap, cells-fmap}
 use Rattle.raster.specs.declared.Slice.{Slice}
