@@ -2,8 +2,8 @@
  * osd.h - a software stand-in for the on-screen display controller STV9425/26.
  *
  * The library (libosd.a) takes a host's two-wire traffic, keeps 1,024 cells of RAM and sixteen registers, reads a lent font, and
- * hands out each scan line's red, green, blue and fast blanking. It also writes and reads fonts as files that can be checked. Every function is proved to end and to stay within the buffers
- * that you lend it, for any bytes in them.
+ * hands out each scan line's red, green, blue and fast blanking. It also writes and reads fonts as files that can be checked. Every
+ * function is proved to end and to stay within the buffers that you lend it, for any bytes in them.
  *
  * It allocates nothing and keeps no state outside these buffers. It needs memset from your C library and nothing else: no division
  * function, even on a processor without division. Where there is no C library, three lines do:
@@ -366,8 +366,9 @@ uint32_t osd_pixel(const uint8_t *device, osd_len device_len, const uint8_t *ram
 uint32_t osd_font_write(const uint8_t *font, osd_len font_len, uint8_t *file, osd_len file_len);
 
 /*
- * Reads a font file into `font`. Use it at start-up, or between frames, for a font that comes from a card. The blocks are tested in turn, each for OSD_BLOCK_CHECKS and then for OSD_BLOCK_FORMAT, all of them before
- * the first byte of `font` is written: a bad file leaves it as it is.
+ * Reads a font file into `font`. Use it at start-up, or between frames, for a font that comes from a card. The blocks are tested in
+ * turn, each for OSD_BLOCK_CHECKS and then for OSD_BLOCK_FORMAT, all of them before the first byte of `font` is written: a bad file
+ * leaves it as it is.
  * A font that is written and read back is the same font, and a file that is accepted is, byte for byte, the one that osd_font_write gives
  * for the font read from it. A file from osd_font_write with any one byte changed is refused with OSD_BLOCK_CHECKS and that byte's block. So
  * is one with two unequal neighbouring bytes of font or padding (bytes 4 to 507 of a block) exchanged, also byte 507 of a block with byte 4
