@@ -12,6 +12,7 @@ use lib.Dec.{eqb}
 use lib.ListN.{length, getD, take, drop, set, replicate, length-append, length-take, length-drop, length-replicate, length-set, take-append-drop, drop-of-length-le}
 use lib.Seq.{drop-cons, drop-drop, drop-at, take-at, take-take, take-set-le, take-set-lt, drop-set-lt, getD-take, getD-drop, getD-set-same}
 use Rattle.buffers.specs.Buffers.{word, wordBytes}
+use Rattle.buffers.proofs.Laws.{word-read}
 use Rattle.facts.proofs.Choice.{either}
 use Rattle.facts.proofs.Lists.{set-at}
 use Rattle.facts.proofs.Parts.{drop-take}
@@ -80,10 +81,6 @@ checks-by : (block : List ℕ)
     → checksRight block ≡ eqb (word (drop checkedLength block) 0) (sumCheck (take checkedLength block)) && eqb (word (drop checkedLength block) 2) (weightedCheck (take checkedLength block))
 unfolding checksRight
 checks-by block = simp getD-drop
-
--- a number, read from its two bytes
-word-read : (n : ℕ) → word (wordBytes n) 0 ≡ n
-word-read n = omega arith
 
 zeros-pass : (n : ℕ) → allZero (replicate n 0) ≡ true
 unfolding allZero

@@ -94,6 +94,7 @@ checksRight block =
     let content : List ℕ = take checkedLength block in
     eqb (word block checkedLength) (sumCheck content) && eqb (word block (checkedLength + 2)) (weightedCheck content)
 
+-- every byte is 0
 unfoldable pub allZero : List ℕ → Bool
 allZero [] = true
 allZero (b ∷ bytes) = eqb b 0 && allZero bytes

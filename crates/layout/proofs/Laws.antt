@@ -1,6 +1,6 @@
 -- Reading back what was written: each part by itself, and the record with a part put in its place.
 -- Assumes nothing.
-use Prim.Native.Nat.{ℕ, _+_, _*_, _/_, _%_, _≤_, _<_}
+use Prim.Native.Nat.{ℕ, _+_, _≤_, _<_}
 use mathlib.Core.Path.{_≡_, refl, sym, ap, ap₂, _∙_}
 use mathlib.Core.Bool.{Bool, true, false, cond}
 use mathlib.Core.List.{List, _++_, append-assoc}
@@ -9,6 +9,7 @@ use borrow.Author.Tests.{eqb-true}
 use lib.Dec.{T, eqb}
 use lib.ListN.{length, take, drop, set, length-append, length-set}
 use lib.Seq.{length-take-le, take-at, drop-at, drop-drop, getD-set-same, getD-set-other, sets, sets-eq, length-sets}
+use Rattle.buffers.proofs.Laws.{word-read}
 use Rattle.registers.specs.declared.Registers.{Registers}
 use Rattle.bus.specs.declared.BusState.{BusState}
 use Rattle.bus.specs.declared.BusState.the-variants.{Idle, Deaf, Slave, High, Low, Write, Read}
@@ -29,9 +30,6 @@ put-in-place at bytes xs h = sets-eq bytes xs at h ∙ append-assoc (take at xs)
 
 -- ---- each part by itself
 
-word-back : (n : ℕ) → n % 256 + 256 * (n / 256) ≡ n
-word-back n = omega arith
-
 state-back : (s : BusState) → stateOf (stateNumber s) (heldHigh s) ≡ s
 state-back Idle = refl
 state-back Deaf = refl
@@ -49,12 +47,12 @@ strip-back (Characters address height true false line) = refl
 strip-back (Characters address height true true line) = refl
 
 bus-back : (b : Bus) → busIn (busBytes b) ≡ b
-bus-back b = rw (state-back (b .state), word-back (b .counter))
+bus-back b = rw (state-back (b .state), word-read (b .counter))
 
 frame-back : (f : Frame) → frameIn (frameBytes f) ≡ f
 frame-back f =
     let p = packed (f .walk .strip) in
-    rw (word-back (f .left), word-back (f .walk .descriptor), word-back (p .address), word-back (p .line), strip-back (f .walk .strip))
+    rw (word-read (f .left), word-read (f .walk .descriptor), word-read (p .address), word-read (p .line), strip-back (f .walk .strip))
 
 -- a state other than idle is read from its own number
 pub numbered : (n held k : ℕ) → stateNumber (stateOf n held) ≡ k → 0 < k → n ≡ k
