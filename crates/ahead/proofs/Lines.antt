@@ -22,13 +22,13 @@ use Rattle.raster.proofs.Rules.{slice-range}
 use Rattle.walk.specs.declared.Strip.{Strip}
 use Rattle.walk.specs.declared.Strip.the-variants.{Spacing, Characters}
 use Rattle.walk.specs.declared.Walk.{Walk}
-use Rattle.walk.specs.Walk.{even, next, stripOf, over, linesLeft, begun, advanced, nextLine}
-use Rattle.walk.proofs.Laws.{left-over, none-over, left-advanced, advancedBy, left-by, stripOf-begun}
+use Rattle.walk.specs.Walk.{even, next, walkAt, stripOf, over, linesLeft, advanced, nextLine}
+use Rattle.walk.proofs.Laws.{left-over, none-over, left-advanced, advancedBy, left-by, stripAt, stripOf-begun, step-same, read-value, read-cells, on-value, on-cells}
 use Rattle.glyph.specs.Glyph.{glyphOf}
 use Rattle.glyph.specs.Cells.{ofUser, userSlice}
 use Rattle.glyph.proofs.Cells.{ofSlice}
 use Rattle.line.specs.Line.{Place, Scanned, codes, rowBy, shownBy, shownRow, scanBy, scan}
-use Rattle.line.proofs.Strips.{hasRow, no-row, still-row, scan-value, scan-cells}
+use Rattle.line.proofs.Strips.{hasRow, still-row, row-off, no-row, row-shown, scan-value, scan-cells}
 use Rattle.ahead.specs.Ahead.{remaining}
 use Rattle.ahead.specs.Looking.{rowReads, userShown, rowCells, stripReads, pairOf, codesAtMost}
 use Rattle.ahead.proofs.Rows.{Bytes, row-reads, rows-merge, first-two}
@@ -47,18 +47,19 @@ line-reads : (ram : List ℕ) (s : Settings) (address height : ℕ) (zoom : Bool
     → 1 ≤ linesAfter line height zoom
     → among c (cells ram (shownRow s (advanced (Characters address height zoom true line))))
     ≡ rowReads ram c (ofSlice c (interpolated (following line) height zoom)) (codesAtMost s) address
-unfolding shownBy advanced rowBy rowReads cells among
-line-reads ram s address height zoom line c b h = by (s .osd)
+unfolding advanced rowReads cells among
+line-reads ram s address height zoom line c b h = by (s .osd) refl
   where
-    n : ℕ
-    n = charactersOf (s .ld) (s .dd)
-
     slice : Slice
     slice = interpolated (following line) height zoom
 
-    by : (o : Bool) → among c (cells ram (cond o (codes n slice address) (done []))) ≡ rowReads ram c (ofSlice c slice) (cond o n 0) address
-    by true = row-reads ram c n slice address b (slice-range (following line) height zoom (following-in line height zoom h))
-    by false = refl
+    by : (o : Bool) → s .osd ≡ o
+        → among c (cells ram (shownRow s (Characters address height zoom true (following line))))
+        ≡ rowReads ram c (ofSlice c slice) (cond o (charactersOf (s .ld) (s .dd)) 0) address
+    by true o =
+        rw (row-shown s address height zoom (following line) o)
+        (row-reads ram c (charactersOf (s .ld) (s .dd)) slice address b (slice-range (following line) height zoom (following-in line height zoom h)))
+    by false o = rw (row-off s (Characters address height zoom true (following line)) o)
 
 -- the rows of k lines
 lines-read : (k : ℕ) (ram : List ℕ) (s : Settings) (address height : ℕ) (zoom : Bool) (line : ScanLine) (c : ℕ) → Bytes ram
@@ -117,93 +118,60 @@ module _ (ram : List ℕ) (s : Settings) (k : ℕ) (strip : Strip) (c : ℕ) whe
 
 -- ---- the remaining lines of the strip on screen
 
--- a strip with a line left, one line on
-step-on : (ch : ℕ) (w : Walk) → over (w .strip) ≡ false → nextLine ch w ≡ done (record { descriptor = w .descriptor; strip = advanced (w .strip) })
-unfolding nextLine begun fmap
-step-on ch w e = rw e
-
--- a strip that is over gives way to the next descriptor's
-step-read : (ch : ℕ) (w : Walk) → over (w .strip) ≡ true
-    → nextLine ch w
-    ≡ (read descriptor (even (w .descriptor)) λ low.
-    read descriptor (even (w .descriptor) + 1) λ high.
-    done (record { descriptor = next (even (w .descriptor)); strip = advanced (stripOf ch low high) }))
-unfolding nextLine begun fmap
-step-read ch w e = rw e
-
--- the walk at an address, in a strip
-abbrev at : ℕ → Strip → Walk
-at a t = record { descriptor = a; strip = t }
-
 -- one line: what the walk reads, what the row reads, and then the lines after it
-line-first : (ram : List ℕ) (s : Settings) (n : ℕ) (w : Walk) {p : Reading Walk} → nextLine (s .ch) w ≡ p
-    → cells ram (remaining s (suc n) w) ≡ (cells ram p ++ cells ram (shownRow s (value ram p .strip))) ++ cells ram (remaining s n (value ram p))
+line-first : (ram : List ℕ) (s : Settings) (n : ℕ) (w v : Walk) (l : List ℕ) → value ram (nextLine (s .ch) w) ≡ v → cells ram (nextLine (s .ch) w) ≡ l
+    → cells ram (remaining s (suc n) w) ≡ (l ++ cells ram (shownRow s (v .strip))) ++ cells ram (remaining s n v)
 unfolding remaining
-line-first ram s n w e =
-    cells-bind ram (scan s w) _
-    ∙ ap₂ (λ (l : List ℕ) (v : Walk). l ++ cells ram (remaining s n v))
-    (scan-cells ram s w ∙ ap (λ (p : Reading Walk). cells ram p ++ cells ram (shownRow s (value ram p .strip))) e)
-    (ap (λ (x : Scanned). x .walk) (scan-value glyphOf ram s w) ∙ ap (value ram) e)
+line-first ram s n w v l e f = cells-bind ram (scan s w) _ ∙ rw (scan-cells shownRow ram s w, scan-value shownRow ram s w, e, f)
 
 -- a strip that has one left
 line-on : (ram : List ℕ) (s : Settings) (n a : ℕ) (t : Strip) → over t ≡ false
-    → cells ram (remaining s (suc n) (at a t)) ≡ cells ram (shownRow s (advanced t)) ++ cells ram (remaining s n (at a (advanced t)))
-unfolding value cells
-line-on ram s n a t e = line-first ram s n (at a t) (step-on (s .ch) (at a t) e)
+    → cells ram (remaining s (suc n) (walkAt a t)) ≡ cells ram (shownRow s (advanced t)) ++ cells ram (remaining s n (walkAt a (advanced t)))
+line-on ram s n a t e =
+    line-first ram s n (walkAt a t) (walkAt a (advanced t)) [] (on-value ram (s .ch) (walkAt a t) e) (on-cells ram (s .ch) (walkAt a t) e)
 
 lines-on : (k : ℕ) (ram : List ℕ) (s : Settings) (n a : ℕ) (t : Strip) → k ≤ n → k ≤ linesLeft t
-    → cells ram (remaining s n (at a t)) ≡ rowCells ram s k t ++ cells ram (remaining s (n - k) (at a (advancedBy k t)))
+    → cells ram (remaining s n (walkAt a t)) ≡ rowCells ram s k t ++ cells ram (remaining s (n - k) (walkAt a (advancedBy k t)))
 unfolding rowCells advancedBy
-lines-on zero ram s n a t h l = let e : n - 0 ≡ n = omega arith in ap (λ (m : ℕ). cells ram (remaining s m (at a t))) (sym e)
+lines-on zero ram s n a t h l = let e : n - 0 ≡ n = omega arith in ap (λ (m : ℕ). cells ram (remaining s m (walkAt a t))) (sym e)
 lines-on (suc k) ram s zero a t h l = absurd (not-suc-le-zero h)
 lines-on (suc k) ram s (suc n) a t h l =
     let e : suc n - suc k ≡ n - k = omega arith in
     line-on ram s n a t (left-over t (omega arith))
     ∙ ap (λ (x : List ℕ). cells ram (shownRow s (advanced t)) ++ x)
     (lines-on k ram s n a (advanced t) (omega arith) (omega (arith, left-advanced t)))
-    ∙ sym (append-assoc (cells ram (shownRow s (advanced t))) (rowCells ram s k (advanced t)) (cells ram (remaining s (n - k) (at a (advancedBy k (advanced t))))))
-    ∙ ap (λ (m : ℕ). (cells ram (shownRow s (advanced t)) ++ rowCells ram s k (advanced t)) ++ cells ram (remaining s m (at a (advancedBy k (advanced t))))) (sym e)
+    ∙ sym (append-assoc (cells ram (shownRow s (advanced t))) (rowCells ram s k (advanced t)) (cells ram (remaining s (n - k) (walkAt a (advancedBy k (advanced t))))))
+    ∙ ap (λ (m : ℕ). (cells ram (shownRow s (advanced t)) ++ rowCells ram s k (advanced t)) ++ cells ram (remaining s m (walkAt a (advancedBy k (advanced t))))) (sym e)
 
 -- any strip that is over stands for any other, and any address of a descriptor for its even one
-same-scan : (s : Settings) (a b : ℕ) (t : Strip) → over t ≡ true → even a ≡ even b → scan s (at a t) ≡ scan s (at b (Spacing 0))
-unfolding scanBy over
-same-scan s a b t e f =
-    ap (λ (p : Reading Walk). bind p λ v. fmap (λ row. record { walk = v; row = row }) (shownRow s (v .strip)))
-    (step-read (s .ch) (at a t) e
-    ∙ ap (λ (x : ℕ).
-    read descriptor x λ low. read descriptor (x + 1) λ high. done (record { descriptor = next x; strip = advanced (stripOf (s .ch) low high) })) f
-    ∙ sym (step-read (s .ch) (at b (Spacing 0)) refl))
-
 over-same : (ram : List ℕ) (s : Settings) (n a b : ℕ) (t : Strip) → (1 ≤ n → over t ≡ true) → even a ≡ even b
-    → cells ram (remaining s n (at a t)) ≡ cells ram (remaining s n (at b (Spacing 0)))
-unfolding remaining cells
+    → cells ram (remaining s n (walkAt a t)) ≡ cells ram (remaining s n (walkAt b (Spacing 0)))
+unfolding remaining scanBy over cells
 over-same ram s zero a b t e f = refl
-over-same ram s (suc n) a b t e f = ap (λ (p : Reading Scanned). cells ram (bind p λ x. remaining s n (x .walk))) (same-scan s a b t (e (omega arith)) f)
+over-same ram s (suc n) a b t e f = rw (step-same (s .ch) a b t (Spacing 0) (e (omega arith)) refl f)
 
 -- ---- strip by strip
 
 -- the strip on screen is passed: the rows of its lines, and then the lines after it
 pub strip-passed : (ram : List ℕ) (s : Settings) (n a : ℕ) (t : Strip) (k c : ℕ) → k ≡ min (linesLeft t) n
-    → among c (cells ram (remaining s n (at a t))) ≡ among c (rowCells ram s k t) || among c (cells ram (remaining s (n - k) (at a (Spacing 0))))
+    → among c (cells ram (remaining s n (walkAt a t))) ≡ among c (rowCells ram s k t) || among c (cells ram (remaining s (n - k) (walkAt a (Spacing 0))))
 strip-passed ram s n a t k c e =
     ap (among c)
     (lines-on k ram s n a t (omega arith) (omega arith)
     ∙ ap (λ (l : List ℕ). rowCells ram s k t ++ l)
     (over-same ram s (n - k) a a (advancedBy k t) (λ h. none-over (advancedBy k t) (left-by k t ∙ omega arith)) refl))
-    ∙ among-append c (rowCells ram s k t) (cells ram (remaining s (n - k) (at a (Spacing 0))))
+    ∙ among-append c (rowCells ram s k t) (cells ram (remaining s (n - k) (walkAt a (Spacing 0))))
 
 -- a descriptor is passed: its two cells, and then the lines of its strip
 descriptor-passed : (ram : List ℕ) (s : Settings) (n a : ℕ) (t : Strip) → 1 ≤ n → over t ≡ true
-    → cells ram (remaining s n (at a t))
+    → cells ram (remaining s n (walkAt a t))
     ≡ even a
     ∷ (even a + 1)
-    ∷ cells ram (remaining s n (at (next (even a)) (stripOf (s .ch) (getD ram (even a) 0) (getD ram (even a + 1) 0))))
-unfolding remaining value cells
+    ∷ cells ram (remaining s n (walkAt (next (even a)) (stripAt ram (s .ch) a)))
 descriptor-passed ram s zero a t h e = absurd (not-suc-le-zero h)
 descriptor-passed ram s (suc n) a t h e =
-    line-first ram s n (at a t) (step-read (s .ch) (at a t) e)
-    ∙ ap (λ (l : List ℕ). even a ∷ (even a + 1) ∷ l)
-    (sym (line-on ram s n (next (even a)) (stripOf (s .ch) (getD ram (even a) 0) (getD ram (even a + 1) 0)) (stripOf-begun (s .ch) _ _)))
+    line-first ram s n (walkAt a t) _ _ (read-value ram (s .ch) (walkAt a t) e) (read-cells ram (s .ch) (walkAt a t) e)
+    ∙ ap (λ (l : List ℕ). even a ∷ (even a + 1) ∷ l) (sym (line-on ram s n (next (even a)) (stripAt ram (s .ch) a) (stripOf-begun (s .ch) _ _)))
 
 -- ---- descriptor by descriptor
 
@@ -213,38 +181,38 @@ or-with r e = ap (λ (x : Bool). x || r) e
 module _ (ram : List ℕ) (s : Settings) (c : ℕ) where
   -- the descriptor's cells, and then the lines of its strip
   with-descriptor : (n a : ℕ) → 1 ≤ n
-      → among c (cells ram (remaining s n (at a (Spacing 0))))
+      → among c (cells ram (remaining s n (walkAt a (Spacing 0))))
       ≡ eqb (pairOf c) (even a)
-      || among c (cells ram (remaining s n (at (next (even a)) (stripOf (s .ch) (getD ram (even a) 0) (getD ram (even a + 1) 0)))))
+      || among c (cells ram (remaining s n (walkAt (next (even a)) (stripAt ram (s .ch) a))))
   unfolding among over
   with-descriptor n a h =
       ap (among c) (descriptor-passed ram s n a (Spacing 0) h refl)
       ∙ first-two (eqb c (even a)) (eqb c (even a + 1)) _
       ∙ or-with _ (pair-is c (even a) (omega arith))
 
-  pub from-even : (n a : ℕ) → among c (cells ram (remaining s n (at (even a) (Spacing 0)))) ≡ among c (cells ram (remaining s n (at a (Spacing 0))))
+  pub from-even : (n a : ℕ) → among c (cells ram (remaining s n (walkAt (even a) (Spacing 0)))) ≡ among c (cells ram (remaining s n (walkAt a (Spacing 0))))
   unfolding over
   from-even n a = ap (among c) (over-same ram s n (even a) a (Spacing 0) (λ _. refl) (omega arith))
 
-  pub none-left : (n a : ℕ) → n ≤ 0 → among c (cells ram (remaining s n (at a (Spacing 0)))) ≡ false
+  pub none-left : (n a : ℕ) → n ≤ 0 → among c (cells ram (remaining s n (walkAt a (Spacing 0)))) ≡ false
   unfolding remaining cells among
   none-left zero a h = refl
   none-left (suc n) a h = absurd (not-suc-le-zero h)
 
   module _ (n a : ℕ) (some : 1 ≤ n) (p : even a ≡ a) where
-    pub descriptor-here : pairOf c ≡ a → among c (cells ram (remaining s n (at a (Spacing 0)))) ≡ true
+    pub descriptor-here : pairOf c ≡ a → among c (cells ram (remaining s n (walkAt a (Spacing 0)))) ≡ true
     descriptor-here e = with-descriptor n a some ∙ or-with _ (eq-eqb (pairOf c) (even a) (omega arith))
 
     -- another's descriptor: the rows of its strip, and the lines after it
     pub descriptor-on : (t : Strip) (lines : ℕ) → (pairOf c ≡ a → ⊥) → t ≡ stripOf (s .ch) (getD ram a 0) (getD ram (a + 1) 0)
         → lines ≡ min (linesLeft t) n
-        → among c (cells ram (remaining s n (at a (Spacing 0))))
-        ≡ stripReads ram s lines t c || among c (cells ram (remaining s (n - linesLeft t) (at (even (a + 2)) (Spacing 0))))
+        → among c (cells ram (remaining s n (walkAt a (Spacing 0))))
+        ≡ stripReads ram s lines t c || among c (cells ram (remaining s (n - linesLeft t) (walkAt (even (a + 2)) (Spacing 0))))
     descriptor-on t lines e q m =
         let z : n - lines ≡ n - linesLeft t = omega arith in
         with-descriptor n a some
         ∙ or-with _ (ne-eqb (pairOf c) (even a) (λ y. e (omega arith)))
-        ∙ ap (λ (x : ℕ). among c (cells ram (remaining s n (at (next x) (stripOf (s .ch) (getD ram x 0) (getD ram (x + 1) 0)))))) p
-        ∙ ap (λ (u : Strip). among c (cells ram (remaining s n (at (next a) u)))) (sym q)
+        ∙ ap (λ (x : ℕ). among c (cells ram (remaining s n (walkAt (next x) (stripOf (s .ch) (getD ram x 0) (getD ram (x + 1) 0)))))) p
+        ∙ ap (λ (u : Strip). among c (cells ram (remaining s n (walkAt (next a) u)))) (sym q)
         ∙ strip-passed ram s n (next a) t lines c m
-        ∙ ap (λ (x : ℕ). stripReads ram s lines t c || among c (cells ram (remaining s x (at (next a) (Spacing 0))))) z
+        ∙ ap (λ (x : ℕ). stripReads ram s lines t c || among c (cells ram (remaining s x (walkAt (next a) (Spacing 0))))) z

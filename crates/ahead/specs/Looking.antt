@@ -24,7 +24,7 @@ use Rattle.raster.specs.Raster.{beforeFirst, charactersOf}
 use Rattle.raster.specs.Search.{sliceShown}
 use Rattle.walk.specs.declared.Strip.{Strip}
 use Rattle.walk.specs.declared.Strip.the-variants.{Spacing}
-use Rattle.walk.specs.Walk.{even, next, advanced, atLeastOne, stripOf, linesLeft}
+use Rattle.walk.specs.Walk.{even, next, walkAt, advanced, atLeastOne, stripOf, linesLeft}
 use Rattle.glyph.specs.Glyph.{endsLine}
 use Rattle.glyph.specs.Cells.{ofUser, userHigh, userSlice}
 use Rattle.line.specs.Line.{shownRow}
@@ -156,7 +156,7 @@ wholeRead ram q low high =
     stripRead ram q (linesLeft (stripOf (q .settings .ch) low high)) (stripOf (q .settings .ch) low high)
 
 abbrev pub linesRead : List ℕ → Sought → ℕ → ℕ → Bool
-linesRead ram q left a = among (q .cell) (cells ram (remaining (q .settings) left (record { descriptor = a; strip = Spacing 0 })))
+linesRead ram q left a = among (q .cell) (cells ram (remaining (q .settings) left (walkAt a (Spacing 0))))
 
 -- b says whether such a part reads the cell. It was looked at: the cell was found, and a row marked before shows its user character
 -- or b holds; or it was not, and the rows that are now marked show it exactly then

@@ -19,8 +19,8 @@ use Rattle.registers.specs.Registers.{settingsOf, pageOf}
 use Rattle.raster.specs.Raster.{widthOf}
 use Rattle.bus.specs.declared.Event.{Event}
 use Rattle.walk.specs.Walk.{walkFrom}
-use Rattle.glyph.specs.Glyph.{glyphOf}
-use Rattle.line.specs.Line.{Scanned, scan, paint}
+use Rattle.walk.proofs.Lines.{walkAfter, one-more}
+use Rattle.line.specs.Line.{Scanned, shownRow, scan, paint}
 use Rattle.line.proofs.Strips.{scan-value}
 use Rattle.device.specs.declared.Frame.{Frame}
 use Rattle.device.specs.Device.{hearEvent, StartOutcome, inFrame, DrawOutcome, pixelsOf, lineOn, lineDrawn, lineWidth, drawLine}
@@ -28,7 +28,7 @@ use Rattle.device.proofs.Laws.{start-passed, by-draw, draw-same, draw-passed, l
 use Rattle.capture.specs.Capture.{Logged, fedEvents}
 use Rattle.pixel.specs.Pixel.{pixelAt}
 use Rattle.pixel.proofs.Laws.{ask-passed}
-use Rattle.pixel.proofs.Lines.{walkAfter, one-more, pixel-is}
+use Rattle.pixel.proofs.Lines.{pixel-is}
 use Rattle.calls.specs.OnePage.{Call, draw, ask, event, feed, anew, pixel, State, chipOf, answer, after, calls, fedCall, fedCalls}
 use Rattle.calls.specs.Pixels.{started, StayPut, StayingPut, drew, linesDrawn, PixelsAgree}
 use Rattle.calls.proofs.Fed.{fed-after}
@@ -105,7 +105,7 @@ module _ (font : List ℕ) (r : Registers) (mem : List ℕ) (f lines : ℕ) wher
   walk-on n u i =
       let more : suc n ≡ n + 1 = omega arith in
       (λ j. value (i .ram j) (scan (settingsOf (i .registers j)) (i .walk j)) .walk)
-      ∙ ap (λ (z : Scanned). z .walk) (scan-value glyphOf mem (settingsOf r) (walkAfter mem (settingsOf r .ch) n (walkFrom (pageOf r))))
+      ∙ ap (λ (z : Scanned). z .walk) (scan-value shownRow mem (settingsOf r) (walkAfter mem (settingsOf r .ch) n (walkFrom (pageOf r))))
       ∙ sym (one-more mem (settingsOf r .ch) n (walkFrom (pageOf r)))
       ∙ ap (λ (k : ℕ). walkAfter mem (settingsOf r .ch) k (walkFrom (pageOf r))) more
 

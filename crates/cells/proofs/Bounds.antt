@@ -3,7 +3,7 @@
 use Prim.Native.Nat.{ℕ}
 use mathlib.Core.Path.{_≡_, refl, sym, subst, subst₂}
 use mathlib.Core.Bool.{Bool, true, false, cond, _||_, false≢true}
-use mathlib.Core.List.{List, _∷_}
+use mathlib.Core.List.{List, [], _∷_}
 use lib.Dec.{T, eqb, eqb→eq}
 use lib.ListN.{getD}
 use Rattle.facts.proofs.Tests.{or-cases}
@@ -48,6 +48,19 @@ module _ {A : Type 0} (P : Role → ℕ → Type 0) (Q : A → Type 0) (ram : Li
       by : (b : Bool) → sameRole q r ≡ b → T (among c (cond b (x ∷ rest) rest)) → (T (among c rest) → P q c) → P q c
       by true e m later = or-cases (eqb c x) _ m (λ i. subst₂ P (sym (same-role q r e)) (sym (eqb→eq c x i)) (h .0)) later
       by false e m later = later m
+
+  -- in a role that no read has, none is
+  pub only-none : (q : Role) → ((c : ℕ) → P q c → ⊥) → (p : Reading A) → Only P Q p → cellsAs q ram p ≡ []
+  unfolding Only cellsAs
+  only-none q never (done a) h = refl
+  only-none q never (read r x k) h = by (sameRole q r) refl (only-none q never (k (getD ram x 0)) (h .1 (getD ram x 0)))
+    where
+      rest : List ℕ
+      rest = cellsAs q ram (k (getD ram x 0))
+
+      by : (b : Bool) → sameRole q r ≡ b → rest ≡ [] → cond b (x ∷ rest) rest ≡ []
+      by true e later = absurd (never x (subst (λ (t : Role). P t x) (sym (same-role q r e)) (h .0)))
+      by false e later = later
 
   -- a cell that is read, in any role
   pub only-cells : (R : ℕ → Type 0) → ((q : Role) (c : ℕ) → P q c → R c) → (p : Reading A) → Only P Q p

@@ -1,6 +1,6 @@
 -- Which codes read a cell: those of the user character that it belongs to, in its own slice. What a code can read: cells of slices on screen.
 -- Assumes nothing.
-use Prim.Native.Nat.{ℕ, _+_, _-_, _*_, _/_, _%_, _<_}
+use Prim.Native.Nat.{ℕ, _+_, _-_, _*_, _/_, _%_, _≤_, _<_}
 use mathlib.Core.Path.{_≡_, refl, sym, ap, _∙_, subst}
 use mathlib.Core.Bool.{Bool, true, false, cond, _&&_}
 use mathlib.Core.List.{List}
@@ -8,12 +8,14 @@ use native.Mathlib.Decide.{ℕ-discrete, decLt}
 use native.Mathlib.Omega.{arith}
 use borrow.Author.Tests.{ltb-true, eq-eqb, ne-eqb, lt-ltb, le-ltb}
 use lib.Dec.{eqb, ltb, lt→ltb}
+use lib.ListN.{length}
 use mir.Facts.{and-yes, yes-and, eqb-yes, yes-eqb, ltb-yes}
 use Rattle.facts.proofs.Choice.{either}
 use Rattle.facts.proofs.Pairs.{pair-is}
 use Rattle.facts.proofs.Tests.{iff}
-use Rattle.cells.specs.Reading.{Role, slice, done, read, cells, among}
+use Rattle.cells.specs.Reading.{Role, slice, sameRole, done, read, cells, among}
 use Rattle.cells.proofs.Bounds.{Only}
+use Rattle.cells.proofs.Counts.{Few, few-done, two, few-two, few-all}
 use Rattle.raster.specs.declared.Slice.{Slice}
 use Rattle.raster.specs.Raster.{InCharacter, OnScreen}
 use Rattle.raster.specs.Search.{sameSlice}
@@ -98,3 +100,15 @@ module _ (P : Role → ℕ → Type 0) (Q : Glyph → Type 0) (s : Slice) (on : 
             λ first. (slices (a + 1) (omega (arith, l, on .to)) (of-slice (high % 128) (a + 1) (omega arith)), λ second. users first second),
           )
       by false e = none
+
+-- ---- how many cells it reads
+
+pub glyph-few : (r : Role) (ram : List ℕ) (high : ℕ) (s : Slice) → Few r ram (two r slice) (glyphOf high s)
+unfolding glyphOf inRam
+glyph-few r ram high s =
+    either (Few r ram (two r slice)) (eqb (high / 128 % 2) 0) _ _ (few-done r ram _ _)
+    (either (Few r ram (two r slice)) (ltb (high % 128) 26) _ _ (few-two r ram slice _ 0 _ _ _ (omega arith) (few-done r ram 0 _)) (few-done r ram _ _))
+
+pub glyph-most : (high : ℕ) (s : Slice) (ram : List ℕ) → length (cells ram (glyphOf high s)) ≤ 2
+unfolding two sameRole
+glyph-most high s ram = few-all (λ r. two r slice) ram (glyphOf high s) (λ r. glyph-few r ram high s)

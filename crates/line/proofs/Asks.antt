@@ -11,7 +11,7 @@ use Rattle.facts.proofs.Choice.{either, both}
 use Rattle.cells.specs.Reading.{Role, descriptor, code, slice, sameRole, Reading, done, bind, fmap, value, cellsAs}
 use Rattle.cells.proofs.Laws.{value-bind, value-fmap}
 use Rattle.cells.proofs.Roles.{cellsAs-bind, cellsAs-fmap}
-use Rattle.cells.proofs.Bounds.{Only, only-value, only-as, only-bind, only-fmap}
+use Rattle.cells.proofs.Bounds.{Only, only-value, only-as, only-none, only-bind, only-fmap}
 use Rattle.registers.specs.declared.Settings.{Settings}
 use Rattle.raster.specs.declared.Slice.{Slice}
 use Rattle.raster.specs.Raster.{OnScreen, charactersOf, interpolated}
@@ -19,7 +19,7 @@ use Rattle.raster.proofs.Rules.{slice-range}
 use Rattle.walk.specs.declared.Strip.{Strip}
 use Rattle.walk.specs.declared.Strip.the-variants.{Spacing, Characters}
 use Rattle.walk.specs.declared.Walk.{Walk}
-use Rattle.walk.specs.Walk.{even, next, over, begun, nextLine, OnLine}
+use Rattle.walk.specs.Walk.{even, next, nextLine, OnLine}
 use Rattle.walk.proofs.Laws.{even-bound, nextLine-only}
 use Rattle.glyph.specs.Glyph.{Glyph, endsLine, glyphOf}
 use Rattle.glyph.specs.Cells.{userSlice}
@@ -58,7 +58,7 @@ module _ (look : ℕ → Slice → Reading Glyph) (P : Role → ℕ → Type 0) 
   row-only n (Characters address height zoom enabled line) h =
       either (Only P (EachGlyph Q)) enabled _ _ (codes-only n (interpolated line height zoom) address (slice-range line height zoom h)) none-only
 
-  scan-only : (s : Settings) (w : Walk) → Only P (λ (x : Scanned). EachGlyph Q (x .row)) (scanBy look s w)
+  scan-only : (s : Settings) (w : Walk) → Only P (λ (x : Scanned). EachGlyph Q (x .row)) (scanBy (shownBy look) s w)
   unfolding scanBy shownBy
   scan-only s w =
       only-bind P (λ (v : Walk). OnLine (v .strip)) _ (nextLine (s .ch) w) _ (nextLine-only P descriptors (s .ch) w)
@@ -87,7 +87,7 @@ abbrev Noted : Role → ℕ → Type 0
 Noted q c = T (sameRole slice q) → OnScreen (record { 0 = c })
 
 noted : (ram : List ℕ) (s : Settings) (w : Walk)
-    → Only Noted (λ (x : Scanned). EachGlyph (λ (g : Glyph). Unit {0}) (x .row)) (scanBy (noting ram) s w)
+    → Only Noted (λ (x : Scanned). EachGlyph (λ (g : Glyph). Unit {0}) (x .row)) (scanBy (shownBy (noting ram)) s w)
 unfolding sameRole noting Only
 noted ram =
     scan-only (noting ram) Noted (λ (g : Glyph). Unit {0}) (λ c l t. absurd t) (λ c l t. absurd t) (λ high s h. (λ t. h, λ x. tt))
@@ -137,11 +137,12 @@ module _ (ram : List ℕ) where
   unfolding shownBy
   shown-notes s t = both Notes (s .osd) _ _ _ _ (row-notes (charactersOf (s .ld) (s .dd)) t) none-notes
 
-  -- a walk's next line reads no slice
+  -- a walk's next line reads descriptors alone
   walk-none : (ch : ℕ) (w : Walk) → cellsAs slice ram (nextLine ch w) ≡ []
-  unfolding nextLine begun cellsAs sameRole
+  unfolding sameRole
   walk-none ch w =
-      cellsAs-fmap slice ram _ (begun ch w) ∙ either (λ (p : Reading Walk). cellsAs slice ram p ≡ []) (over (w .strip)) _ _ refl refl
+      let only : Role → ℕ → Type 0 = λ q c. T (sameRole descriptor q) in
+      only-none only _ ram slice (λ c t. t) (nextLine ch w) (nextLine-only only (λ c l. tt) ch w)
 
   module _ (s : Settings) (w : Walk) where
     abbrev at : Walk → List Place → Scanned
@@ -155,12 +156,12 @@ module _ (ram : List ℕ) where
         ∙ ap (λ (l : List ℕ). l ++ cellsAs slice ram (fmap (at v) (shownBy (noting ram) s (v .strip)))) (walk-none (s .ch) w)
         ∙ cellsAs-fmap slice ram _ (shownBy (noting ram) s (v .strip)))
         ∙ shown-notes s (v .strip) .0
-        ∙ sym (ap (λ (x : Scanned). length (x .row)) (scan-value glyphOf ram s w))
+        ∙ sym (ap (λ (x : Scanned). length (x .row)) (scan-value shownRow ram s w))
 
-    same-found : value ram (scanBy (noting ram) s w) ≡ value ram (scan s w)
+    same-found : value ram (scanBy (shownBy (noting ram)) s w) ≡ value ram (scan s w)
     same-found =
         let v : Walk = value ram (nextLine (s .ch) w) in
-        scan-value (noting ram) ram s w ∙ ap (at v) (shown-notes s (v .strip) .1) ∙ sym (scan-value glyphOf ram s w)
+        scan-value (shownBy (noting ram)) ram s w ∙ ap (at v) (shown-notes s (v .strip) .1) ∙ sym (scan-value shownRow ram s w)
 
 pub slices-asked : SlicesAsked
 unfolding asked sameRole
@@ -168,6 +169,6 @@ slices-asked ram s w =
     record {
       same = same-found ram s w;
       each = each-asked ram s w;
-      on-screen = λ t m. only-as Noted _ ram slice (scanBy (noting ram) s w) (noted ram s w) t m tt;
+      on-screen = λ t m. only-as Noted _ ram slice (scanBy (shownBy (noting ram)) s w) (noted ram s w) t m tt;
       in-font = only-value Allowed (λ (x : Scanned). EachGlyph FontOnScreen (x .row)) ram (scan s w) (scan-allowed s w);
     }

@@ -17,7 +17,7 @@ use Rattle.registers.specs.declared.Settings.{Settings}
 use Rattle.registers.specs.Registers.{settingsOf}
 use Rattle.raster.specs.declared.ScanLine.{ScanLine}
 use Rattle.raster.specs.declared.Slice.{Slice}
-use Rattle.raster.specs.Raster.{InStrip, OnScreen, interpolated, widthOf, firstPixelOf, hiddenIn}
+use Rattle.raster.specs.Raster.{InStrip, OnScreen, interpolated, widthOf, firstPixelOf, charactersOf, hiddenIn}
 use Rattle.raster.proofs.Rules.{slice-range}
 use Rattle.walk.specs.declared.Strip.{Strip}
 use Rattle.walk.specs.declared.Strip.the-variants.{Spacing, Characters}
@@ -25,10 +25,9 @@ use Rattle.walk.specs.declared.Walk.{Walk}
 use Rattle.walk.specs.Walk.{advanced, nextLine, OnLine, walked}
 use Rattle.walk.specs.declared.Walked.{Walked}
 use Rattle.walk.proofs.Laws.{nextLine-only}
-use Rattle.glyph.specs.Glyph.{Glyph, glyphOf}
 use Rattle.line.specs.declared.Pen.{Pen}
 use Rattle.paint.specs.Pixels.{plainOf}
-use Rattle.line.specs.Line.{Place, rowBy, shownBy, shownRow, Scanned, scanBy, scan, paint}
+use Rattle.line.specs.Line.{Place, Scanned, codes, rowBy, shownBy, shownRow, scanBy, paint}
 use Rattle.line.specs.Contracts.{roomOf, RowDrawn, CharactersDrawn, StripDrawn, LineDrawn}
 use Rattle.line.proofs.Counts.{line-most}
 use Rattle.line.proofs.Turns.{no-room, no-reads, painted-none}
@@ -69,18 +68,44 @@ module _ (ram font : List ℕ) (address : ℕ) (pen : Pen) (x w : ℕ) (out : Li
         reads = sym (no-reads ram pen (w - x) address none);
       }
 
+-- ---- the row of a strip. No file above opens `shownBy`: what is above cites these
+
+-- does a strip show a row?
+unfoldable pub hasRow : Strip → Bool
+hasRow (Spacing left) = false
+hasRow (Characters address height zoom enabled line) = enabled
+
+-- at each of its lines alike
+pub still-row : (t : Strip) → hasRow (advanced t) ≡ hasRow t
+unfolding advanced hasRow
+still-row (Spacing left) = refl
+still-row (Characters address height zoom enabled line) = refl
+
+module _ (s : Settings) where
+  -- with OSD 0 there is none
+  pub row-off : (t : Strip) → s .osd ≡ false → shownRow s t ≡ done []
+  unfolding shownBy
+  row-off t o = rw o
+
+  pub no-row : (t : Strip) → hasRow t ≡ false → shownRow s t ≡ done []
+  unfolding shownBy rowBy hasRow
+  no-row (Spacing left) e = cond-same (s .osd) (done [])
+  no-row (Characters address height zoom enabled line) e = rw e (cond-same (s .osd) (done []))
+
+  -- codes of the slice that the line shows, as many as there is room for
+  pub row-shown : (address height : ℕ) (zoom : Bool) (line : ScanLine) → s .osd ≡ true
+      → shownRow s (Characters address height zoom true line) ≡ codes (charactersOf (s .ld) (s .dd)) (interpolated line height zoom) address
+  unfolding shownBy rowBy
+  row-shown address height zoom line o = rw o
+
 -- ---- a line of the strip on screen
 
 -- OSD 0
 pub strip-off : (ram font : List ℕ) (s : Settings) (strip : Strip) (f : ℕ) (out out′ : List ℕ) (w : ℕ) → w ≡ widthOf (s .ld) → s .osd ≡ false
     → out′ ≡ replicate w 0 ++ drop w out → StripDrawn ram font s strip f out 0 out′
-unfolding paint shownBy
+unfolding paint cells
 strip-off ram font s strip f out out′ w q o e =
-    record { pixels = rw o (e ∙ ap (λ (k : ℕ). replicate k 0 ++ drop k out) q); reads = rw o (unfold cells in refl) }
-
-row-none : (s : Settings) (strip : Strip) → s .osd ≡ true → ((n : ℕ) → rowBy glyphOf n strip ≡ done []) → shownRow s strip ≡ done []
-unfolding shownBy
-row-none s strip o none = rw o (none _)
+    record { pixels = rw o (e ∙ ap (λ (k : ℕ). replicate k 0 ++ drop k out) q); reads = rw (row-off s strip o) }
 
 -- a line with no character is plain
 pub paint-none : (s : Settings) (font : List ℕ) (f : ℕ) → s .osd ≡ true → paint s font f [] ≡ replicate (widthOf (s .ld)) (plainOf (s .fbk))
@@ -93,45 +118,17 @@ paint-none s font f o =
 
 -- no character on the line
 pub strip-plain : (ram font : List ℕ) (s : Settings) (strip : Strip) (f : ℕ) (out out′ : List ℕ) (w : ℕ) → w ≡ widthOf (s .ld) → s .osd ≡ true
-    → ((n : ℕ) → rowBy glyphOf n strip ≡ done []) → out′ ≡ replicate w (plainOf (s .fbk)) ++ drop w out → StripDrawn ram font s strip f out 0 out′
+    → hasRow strip ≡ false → out′ ≡ replicate w (plainOf (s .fbk)) ++ drop w out → StripDrawn ram font s strip f out 0 out′
 unfolding value cells
 strip-plain ram font s strip f out out′ w q o none e =
-    let row : shownRow s strip ≡ done [] = row-none s strip o none in
-    let plain : paint s font f [] ≡ replicate (widthOf (s .ld)) (plainOf (s .fbk)) = paint-none s font f o in
     record {
       pixels =
-          e
+          rw (no-row s strip none)
+          (e
           ∙ ap (λ (k : ℕ). replicate k (plainOf (s .fbk)) ++ drop k out) q
-          ∙ ap (λ (l : List ℕ). l ++ drop (widthOf (s .ld)) out) (sym plain)
-          ∙ ap (λ (p : Reading (List Place)). paint s font f (value ram p) ++ drop (widthOf (s .ld)) out) (sym row);
-      reads = ap (λ (p : Reading (List Place)). length (cells ram p)) (sym row);
+          ∙ ap (λ (l : List ℕ). l ++ drop (widthOf (s .ld)) out) (sym (paint-none s font f o)));
+      reads = rw (no-row s strip none);
     }
-
--- spacing, and characters with DE 0, have no row
-pub spacing-none : (left n : ℕ) → rowBy glyphOf n (Spacing left) ≡ done []
-unfolding rowBy
-spacing-none left n = refl
-
-pub disabled-none : (address height : ℕ) (zoom enabled : Bool) (line : ScanLine) → enabled ≡ false → (n : ℕ)
-    → rowBy glyphOf n (Characters address height zoom enabled line) ≡ done []
-unfolding rowBy
-disabled-none address height zoom enabled line e n = rw e
-
--- does a strip show a row?
-unfoldable pub hasRow : Strip → Bool
-hasRow (Spacing left) = false
-hasRow (Characters address height zoom enabled line) = enabled
-
-pub no-row : (s : Settings) (t : Strip) → hasRow t ≡ false → shownRow s t ≡ done []
-unfolding shownBy rowBy hasRow
-no-row s (Spacing left) e = cond-same (s .osd) (done [])
-no-row s (Characters address height zoom enabled line) e = rw e (cond-same (s .osd) (done []))
-
--- at each of its lines alike
-pub still-row : (t : Strip) → hasRow (advanced t) ≡ hasRow t
-unfolding advanced hasRow
-still-row (Spacing left) = refl
-still-row (Characters address height zoom enabled line) = refl
 
 -- a line of characters
 pub strip-characters : (ram font : List ℕ) (s : Settings) (address height : ℕ) (zoom enabled : Bool) (line : ScanLine) (f : ℕ) (out : List ℕ) (n : ℕ) (out′ : List ℕ)
@@ -140,17 +137,17 @@ pub strip-characters : (ram font : List ℕ) (s : Settings) (address height : �
     → x ≡ firstPixelOf (s .dd) → w ≡ widthOf (s .ld)
     → CharactersDrawn ram font address pen x w out n out′
     → StripDrawn ram font s (Characters address height zoom enabled line) f out n out′
-unfolding paint shownBy rowBy
+unfolding paint
 strip-characters ram font s address height zoom enabled line f out n out′ pen x w o en p q r d =
     let d′ : CharactersDrawn ram font address (record { slice = interpolated line height zoom; plain = plainOf (s .fbk); hidden = hiddenIn (s .fl) f })
     (firstPixelOf (s .dd)) (widthOf (s .ld)) out n out′ = rw (p, q, r) at d
     in
     record {
       pixels =
-          rw (o, en)
+          rw (en, row-shown s address height zoom line o, o)
           (d′ .pixels
           ∙ sym (append-assoc (replicate (min (firstPixelOf (s .dd)) (widthOf (s .ld))) (plainOf (s .fbk))) _ (drop (widthOf (s .ld)) out)));
-      reads = rw (o, en) (d′ .reads);
+      reads = rw (en, row-shown s address height zoom line o) (d′ .reads);
     }
 
 -- ---- the strip as the code took it apart
@@ -174,26 +171,24 @@ walked-line ram ch w =
     let any : Role → ℕ → Type 0 = λ q c. Unit {0} in
     only-value any (λ (v : Walk). OnLine (v .strip)) ram (nextLine ch w) (nextLine-only any (λ c l. tt) ch w)
 
--- what a line finds, over any lookup: where the walk goes, and its row
-pub scan-value : (look : ℕ → Slice → Reading Glyph) (ram : List ℕ) (s : Settings) (w : Walk)
-    → value ram (scanBy look s w)
-    ≡ record { walk = value ram (nextLine (s .ch) w); row = value ram (shownBy look s (value ram (nextLine (s .ch) w) .strip)) }
-unfolding scanBy
-scan-value look ram s w =
-    value-bind ram (nextLine (s .ch) w) _ ∙ value-fmap ram _ (shownBy look s (value ram (nextLine (s .ch) w) .strip))
+-- over any way to read a row
+module _ (row : Settings → Strip → Reading (List Place)) (ram : List ℕ) (s : Settings) (w : Walk) where
+  -- what a line finds: where the walk goes, and its row
+  pub scan-value : value ram (scanBy row s w)
+      ≡ record { walk = value ram (nextLine (s .ch) w); row = value ram (row s (value ram (nextLine (s .ch) w) .strip)) }
+  unfolding scanBy
+  scan-value = value-bind ram (nextLine (s .ch) w) _ ∙ value-fmap ram _ (row s (value ram (nextLine (s .ch) w) .strip))
 
--- what it reads: its descriptor, and its row
-pub scan-cells : (ram : List ℕ) (s : Settings) (w : Walk)
-    → cells ram (scan s w) ≡ cells ram (nextLine (s .ch) w) ++ cells ram (shownRow s (value ram (nextLine (s .ch) w) .strip))
-unfolding scanBy
-scan-cells ram s w =
-    cells-bind ram (nextLine (s .ch) w) _
-    ∙ ap (λ (l : List ℕ). cells ram (nextLine (s .ch) w) ++ l) (cells-fmap ram _ (shownRow s (value ram (nextLine (s .ch) w) .strip)))
+  -- what it reads: its descriptor, and its row
+  pub scan-cells : cells ram (scanBy row s w) ≡ cells ram (nextLine (s .ch) w) ++ cells ram (row s (value ram (nextLine (s .ch) w) .strip))
+  unfolding scanBy
+  scan-cells =
+      cells-bind ram (nextLine (s .ch) w) _
+      ∙ ap (λ (l : List ℕ). cells ram (nextLine (s .ch) w) ++ l) (cells-fmap ram _ (row s (value ram (nextLine (s .ch) w) .strip)))
 
-scan-length : (ram : List ℕ) (s : Settings) (w : Walk)
-    → length (cells ram (scan s w)) ≡ length (cells ram (nextLine (s .ch) w)) + length (cells ram (shownRow s (value ram (nextLine (s .ch) w) .strip)))
-scan-length ram s w =
-    ap length (scan-cells ram s w) ∙ length-append (cells ram (nextLine (s .ch) w)) (cells ram (shownRow s (value ram (nextLine (s .ch) w) .strip)))
+  scan-length : length (cells ram (scanBy row s w))
+      ≡ length (cells ram (nextLine (s .ch) w)) + length (cells ram (row s (value ram (nextLine (s .ch) w) .strip)))
+  scan-length = ap length scan-cells ∙ length-append (cells ram (nextLine (s .ch) w)) (cells ram (row s (value ram (nextLine (s .ch) w) .strip)))
 
 -- the walk's next line and a line of its strip are the frame's next line
 module _ (ram font : List ℕ) (r : Registers) (w : Walk) (f : ℕ) (out : List ℕ) (n : ℕ) (out′ : List ℕ) where
@@ -204,9 +199,9 @@ module _ (ram font : List ℕ) (r : Registers) (w : Walk) (f : ℕ) (out : List 
       record {
         pixels =
             d .pixels
-            ∙ ap (λ (x : Scanned). paint (settingsOf r) font f (x .row) ++ drop (widthOf (settingsOf r .ld)) out) (sym (scan-value glyphOf ram (settingsOf r) w));
-        walk = ap (λ (x : Scanned). x .walk) (sym (scan-value glyphOf ram (settingsOf r) w));
-        reads = ap (λ (k : ℕ). length (cells ram (nextLine (settingsOf r .ch) w)) + k) (d .reads) ∙ sym (scan-length ram (settingsOf r) w);
+            ∙ ap (λ (x : Scanned). paint (settingsOf r) font f (x .row) ++ drop (widthOf (settingsOf r .ld)) out) (sym (scan-value shownRow ram (settingsOf r) w));
+        walk = ap (λ (x : Scanned). x .walk) (sym (scan-value shownRow ram (settingsOf r) w));
+        reads = ap (λ (k : ℕ). length (cells ram (nextLine (settingsOf r .ch) w)) + k) (d .reads) ∙ sym (scan-length shownRow ram (settingsOf r) w);
       }
 
   pub line-drawn : (s : Settings) (k : Walked) → s ≡ settingsOf r → k ≡ walked ram (s .ch) w → StripDrawn ram font s (k .walk .strip) f out n out′

@@ -19,12 +19,13 @@ use Rattle.walk.specs.Walk.{even, next}
 use Rattle.glyph.specs.declared.Word.{Word}
 use Rattle.glyph.specs.Glyph.{endsLine, glyphOf, inRam}
 use Rattle.glyph.specs.Words.{wordIn}
+use Rattle.glyph.proofs.Cells.{glyph-most}
 use Rattle.glyph.proofs.Laws.{word-low}
 use Rattle.paint.specs.declared.Drawn.{Drawn}
 use Rattle.paint.specs.Tables.{columnPixels, CharacterDrawn}
 use Rattle.line.specs.declared.Pen.{Pen}
 use Rattle.line.proofs.Laws.{character-length, painted-length}
-use Rattle.line.proofs.Counts.{glyph-most, codes-most}
+use Rattle.line.proofs.Counts.{codes-most}
 use Rattle.line.specs.declared.Coded.{Coded}
 use Rattle.line.specs.Contracts.{placeAt, CodeShown, RowDrawn, rowIn, roomOf}
 use Rattle.line.specs.Line.{shownOf, character, codesBy, codes, painted}

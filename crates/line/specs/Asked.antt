@@ -13,7 +13,7 @@ use Rattle.raster.specs.declared.Slice.{Slice}
 use Rattle.raster.specs.Raster.{OnScreen}
 use Rattle.walk.specs.declared.Walk.{Walk}
 use Rattle.glyph.specs.Glyph.{Glyph, font, user, blank, glyphOf}
-use Rattle.line.specs.Line.{Place, scanBy, scan}
+use Rattle.line.specs.Line.{Place, shownBy, scanBy, scan}
 
 -- a lookup that notes the slice that it is asked for, by reading the cell of that number as a slice, and gives what `glyphOf` gives
 unfoldable pub noting : List ℕ → ℕ → Slice → Reading Glyph
@@ -21,7 +21,7 @@ noting ram high s = read slice (s .0) λ x. done (value ram (glyphOf high s))
 
 -- the slices that a line asks for, character by character: what is noted, as the line's own program reads nothing as a slice
 unfoldable pub asked : List ℕ → Settings → Walk → List ℕ
-asked ram s w = cellsAs slice ram (scanBy (noting ram) s w)
+asked ram s w = cellsAs slice ram (scanBy (shownBy (noting ram)) s w)
 
 -- a font character's glyph has a slice on screen. The font is read there when the line is painted (`bitsOf`)
 unfoldable pub FontOnScreen : Glyph → Type 0
@@ -37,7 +37,7 @@ EachGlyph P (p ∷ ps) = P (p .glyph) × EachGlyph P ps
 -- what a line asks for, over a RAM of any length
 pub record Asks (ram : List ℕ) (s : Settings) (w : Walk) : Type 0 where
   -- noting changes nothing: the line finds what it finds without
-  pub same : value ram (scanBy (noting ram) s w) ≡ value ram (scan s w)
+  pub same : value ram (scanBy (shownBy (noting ram)) s w) ≡ value ram (scan s w)
   -- one slice for each character on the line
   pub each : length (asked ram s w) ≡ length (value ram (scan s w) .row)
   -- each is 1 to 18, so never 0

@@ -28,7 +28,7 @@ pub record Scanned : Type 0 where
   pub walk : Walk
   pub row : List Place
 
--- what a code's high byte shows in a slice is asked of a lookup. The program of a line is written over any, so that what it asks for can be
+-- what a code's high byte shows in a slice is asked of a lookup. The program of a row is written over any, so that what it asks for can be
 -- told apart from what it is given
 module _ (look : ℕ → Slice → Reading Glyph) where
   -- the codes from an address on, n at the most, up to the end of line (whose two bytes are read), each looked up in the slice. A code
@@ -51,10 +51,6 @@ module _ (look : ℕ → Slice → Reading Glyph) where
   unfoldable pub shownBy : Settings → Strip → Reading (List Place)
   shownBy s strip = cond (s .osd) (rowBy (charactersOf (s .ld) (s .dd)) strip) (done [])
 
-  -- a line reads its descriptor, with OSD 0 too, and then its row
-  unfoldable pub scanBy : Settings → Walk → Reading Scanned
-  scanBy s w = bind (nextLine (s .ch) w) λ v. fmap (λ row. record { walk = v; row = row }) (shownBy s (v .strip))
-
 -- the lookup is `glyphOf`
 abbrev pub codes : ℕ → Slice → ℕ → Reading (List Place)
 codes = codesBy glyphOf
@@ -62,8 +58,12 @@ codes = codesBy glyphOf
 abbrev pub shownRow : Settings → Strip → Reading (List Place)
 shownRow = shownBy glyphOf
 
+-- a line reads its descriptor, with OSD 0 too, and then its row, over any way to read a row
+unfoldable pub scanBy : (Settings → Strip → Reading (List Place)) → Settings → Walk → Reading Scanned
+scanBy row s w = bind (nextLine (s .ch) w) λ v. fmap (λ places. record { walk = v; row = places }) (row s (v .strip))
+
 abbrev pub scan : Settings → Walk → Reading Scanned
-scan = scanBy glyphOf
+scan = scanBy shownRow
 
 -- ---- paint
 

@@ -19,77 +19,37 @@ use Rattle.raster.specs.Raster.{beforeFirst, following, interpolated, widthOf, 
 use Rattle.walk.specs.declared.Strip.{Strip}
 use Rattle.walk.specs.declared.Strip.the-variants.{Spacing, Characters}
 use Rattle.walk.specs.declared.Walk.{Walk}
-use Rattle.walk.specs.declared.Walked.{Walked}
-use Rattle.walk.specs.Walk.{even, next, walkFrom, atLeastOne, isSpacing, enabledBy, zoomedBy, codesAt, showsCodes, stripOf, over, linesLeft, advanced, nextLine, walked}
-use Rattle.walk.proofs.Laws.{left-over, none-over, left-advanced, advancedBy, left-by, codes-shown, walked-read, walked-on}
-use Rattle.glyph.specs.Glyph.{glyphOf}
+use Rattle.walk.specs.Walk.{even, next, walkAt, walkFrom, atLeastOne, isSpacing, enabledBy, zoomedBy, codesAt, showsCodes, stripOf, over, linesLeft, advanced}
+use Rattle.walk.proofs.Laws.{none-over, advancedBy, left-by, stripAt, codes-shown}
+use Rattle.walk.proofs.Lines.{walkAfter, one-more, after-both, next-strip}
 use Rattle.paint.specs.Pixels.{plainOf}
 use Rattle.line.specs.declared.Pen.{Pen}
-use Rattle.line.specs.Line.{Place, Scanned, rowBy, shownBy, shownRow, scan, paint}
+use Rattle.line.specs.Line.{Place, Scanned, shownRow, scan, paint}
 use Rattle.line.specs.Contracts.{roomOf}
 use Rattle.line.proofs.Laws.{at-front, at-rest}
-use Rattle.line.proofs.Strips.{paint-none, hasRow, no-row, still-row, scan-value}
+use Rattle.line.proofs.Strips.{hasRow, still-row, no-row, row-shown, paint-none, scan-value}
 use Rattle.pixel.specs.declared.Pair.{Pair}
 use Rattle.pixel.specs.declared.StripLine.{StripLine}
 use Rattle.pixel.specs.Pixel.{pairAt, linesOf, fallsIn, rowPixel, charactersPixel, pixelAt}
 use Rattle.pixel.proofs.Laws.{lines-left, lines-some, pair-same, falls-here, falls-later}
 use Rattle.pixel.proofs.Rows.{rowOf, room-pixel}
 
--- ---- the walk, line by line
+-- ---- the walk, line by line, and the strip that a line falls in
 
 module _ (ram : List ℕ) (ch : ℕ) where
-  -- after so many lines
-  unfoldable pub walkAfter : ℕ → Walk → Walk
-  walkAfter zero w = w
-  walkAfter (suc n) w = walkAfter n (value ram (nextLine ch w))
-
-  pub one-more : (n : ℕ) (w : Walk) → walkAfter (suc n) w ≡ value ram (nextLine ch (walkAfter n w))
-  unfolding walkAfter
-  one-more zero w = refl
-  one-more (suc n) w = one-more n (value ram (nextLine ch w))
-
-  after-both : (m n : ℕ) (w : Walk) → walkAfter (m + n) w ≡ walkAfter n (walkAfter m w)
-  unfolding walkAfter
-  after-both zero n w = ap (λ (k : ℕ). walkAfter k w) (zero-add n)
-  after-both (suc m) n w =
-      let e : suc m + n ≡ suc (m + n) = omega arith in
-      ap (λ (k : ℕ). walkAfter k w) e ∙ after-both m n (value ram (nextLine ch w))
-
-  -- in a strip that has them left
-  on-strip : (k a : ℕ) (t : Strip) → k ≤ linesLeft t
-      → walkAfter k (record { descriptor = a; strip = t }) ≡ record { descriptor = a; strip = advancedBy k t }
-  unfolding walkAfter advancedBy walked
-  on-strip zero a t h = refl
-  on-strip (suc k) a t h =
-      ap (λ (v : Walked). walkAfter k (v .walk)) (walked-on ram ch (record { descriptor = a; strip = t }) (left-over t (omega arith)))
-      ∙ on-strip k a (advanced t) (omega (arith, left-advanced t))
-
-  -- the strip whose descriptor lies at an address
-  abbrev stripAt : ℕ → Strip
-  stripAt a = stripOf ch (pairAt ram a .low) (pairAt ram a .high)
-
-  -- in the next descriptor's strip
-  next-strip : (k : ℕ) (w : Walk) → over (w .strip) ≡ true → 1 ≤ k → k ≤ linesLeft (stripAt (w .descriptor))
-      → walkAfter k w ≡ record { descriptor = next (even (w .descriptor)); strip = advancedBy k (stripAt (w .descriptor)) }
-  unfolding walkAfter advancedBy walked
-  next-strip zero w o m h = absurd (omega arith)
-  next-strip (suc k) w o m h =
-      ap (λ (v : Walked). walkAfter k (v .walk)) (walked-read ram ch w o)
-      ∙ on-strip k (next (even (w .descriptor))) (advanced (stripAt (w .descriptor))) (omega (arith, left-advanced (stripAt (w .descriptor))))
-
   -- the strip at its line
   abbrev shownStrip : StripLine → Strip
   shownStrip l = advancedBy (l .line .0) (stripOf ch (l .descriptor .low) (l .descriptor .high))
 
   -- the walk is at the line that y falls in
   abbrev Falls : ℕ → ℕ → Walk → Type 0
-  Falls y a w = over (w .strip) ≡ true → even (w .descriptor) ≡ even a → walkAfter (suc y) w .strip ≡ shownStrip (fallsIn y ram ch a y)
+  Falls y a w = over (w .strip) ≡ true → even (w .descriptor) ≡ even a → walkAfter ram ch (suc y) w .strip ≡ shownStrip (fallsIn y ram ch a y)
 
   falls-first : (y a : ℕ) (w : Walk) → y < linesOf ch (pairAt ram a) → Falls y a w
   falls-first y a w h o e =
       let same : pairAt ram (w .descriptor) ≡ pairAt ram a = pair-same ram (w .descriptor) a e in
       let from-one : suc y ≡ y + 1 = omega arith in
-      ap (λ (v : Walk). v .strip) (next-strip (suc y) w o (omega arith) (omega (arith, ap (linesOf ch) same, lines-left ch (pairAt ram (w .descriptor)))))
+      ap (λ (v : Walk). v .strip) (next-strip ram ch (suc y) w o (omega arith) (omega (arith, ap (linesOf ch) same, lines-left ch (pairAt ram (w .descriptor)))))
       ∙ ap₂ (λ (k : ℕ) (d : Pair). advancedBy k (stripOf ch (d .low) (d .high))) from-one same
       ∙ ap shownStrip (sym (falls-here ram ch y a y h))
 
@@ -97,17 +57,17 @@ module _ (ram : List ℕ) (ch : ℕ) where
       → ((v : Walk) → Falls (y - linesOf ch (pairAt ram a)) (next a) v) → Falls y a w
   falls-past y a w h ih o e =
       let lines : ℕ = linesOf ch (pairAt ram a) in
-      let left : linesLeft (stripAt (w .descriptor)) ≡ lines =
+      let left : linesLeft (stripAt ram ch (w .descriptor)) ≡ lines =
       sym (lines-left ch (pairAt ram (w .descriptor))) ∙ ap (linesOf ch) (pair-same ram (w .descriptor) a e) in
-      let passed : walkAfter lines w ≡ record { descriptor = next (even (w .descriptor)); strip = advancedBy lines (stripAt (w .descriptor)) } =
-      next-strip lines w o (lines-some ch (pairAt ram a)) (omega (arith, left)) in
+      let passed : walkAfter ram ch lines w ≡ walkAt (next (even (w .descriptor))) (advancedBy lines (stripAt ram ch (w .descriptor))) =
+      next-strip ram ch lines w o (lines-some ch (pairAt ram a)) (omega (arith, left)) in
       let then : suc y ≡ lines + suc (y - lines) = omega arith in
       let from-even : next (even a) ≡ next a = omega arith in
-      ap (λ (k : ℕ). walkAfter k w .strip) then
-      ∙ ap (λ (v : Walk). v .strip) (after-both lines (suc (y - lines)) w)
-      ∙ ih (walkAfter lines w)
+      ap (λ (k : ℕ). walkAfter ram ch k w .strip) then
+      ∙ ap (λ (v : Walk). v .strip) (after-both ram ch lines (suc (y - lines)) w)
+      ∙ ih (walkAfter ram ch lines w)
       (ap (λ (v : Walk). over (v .strip)) passed
-      ∙ none-over (advancedBy lines (stripAt (w .descriptor))) (left-by lines (stripAt (w .descriptor)) ∙ omega (arith, left)))
+      ∙ none-over (advancedBy lines (stripAt ram ch (w .descriptor))) (left-by lines (stripAt ram ch (w .descriptor)) ∙ omega (arith, left)))
       (ap (λ (v : Walk). even (v .descriptor)) passed ∙ ap (λ (i : ℕ). even (next i)) e ∙ ap even from-even)
       ∙ ap shownStrip (sym (falls-later ram ch a y h))
 
@@ -175,8 +135,8 @@ module _ (ram font : List ℕ) (s : Settings) (f x : ℕ) (inside : x < widthOf 
     row-pixel : getD (paint s font f (value ram (shownRow s (Characters address height zoom true line)))) x 0
         ≡ cond (ltb x (firstPixelOf (s .dd))) (plainOf (s .fbk))
         (rowPixel ram font (rowOf pen address) (x - firstPixelOf (s .dd)))
-    unfolding paint shownBy rowBy
-    row-pixel = rw on (by (decLt x first))
+    unfolding paint
+    row-pixel = rw (row-shown s address height zoom line on, on) (by (decLt x first))
       where
         margin : List ℕ
         margin = replicate (min first (widthOf (s .ld))) (plainOf (s .fbk))
@@ -238,7 +198,7 @@ unfolding pixelAt walkFrom over
 pixel-is r ram font f x y h =
     let s : Settings = settingsOf r in
     let w : Walk = walkFrom (pageOf r) in
-    ap (λ (z : Scanned). getD (paint s font f (z .row)) x 0) (scan-value glyphOf ram s (walkAfter ram (s .ch) y w))
+    ap (λ (z : Scanned). getD (paint s font f (z .row)) x 0) (scan-value shownRow ram s (walkAfter ram (s .ch) y w))
     ∙ ap (λ (t : Strip). getD (paint s font f (value ram (shownRow s t))) x 0)
     (ap (λ (v : Walk). v .strip) (sym (one-more ram (s .ch) y w)) ∙ falls-strip ram (s .ch) y y (pageOf r * 64) w (omega arith) refl refl)
     ∙ line-pixel ram font s f x h (fallsIn y ram (s .ch) (pageOf r * 64) y)

@@ -5,19 +5,20 @@ use mathlib.Core.Path.{_≡_, refl, sym, ap, _∙_}
 use mathlib.Core.Bool.{Bool, true, false, cond, false≢true}
 use native.Mathlib.Omega.{arith}
 use borrow.Author.Tests.{eqb-false, eq-eqb, ne-eqb}
-use mathlib.Core.List.{List}
+use mathlib.Core.List.{List, [], _∷_}
 use lib.Dec.{eqb}
 use lib.ListN.{getD}
 use Rattle.facts.proofs.Choice.{either}
 use Rattle.cells.specs.Reading.{Role, descriptor, done, read, fmap, value, cells}
-use Rattle.cells.proofs.Bounds.{Only, only-fmap}
+use Rattle.cells.proofs.Bounds.{Only}
+use Rattle.cells.proofs.Counts.{Few, few-done, two, few-two}
 use Rattle.raster.specs.declared.ScanLine.{ScanLine}
 use Rattle.raster.specs.Raster.{beforeFirst}
 use Rattle.raster.proofs.Laws.{some-after, one-less, last-none, following-in}
 use Rattle.walk.specs.declared.Strip.{Strip}
 use Rattle.walk.specs.declared.Strip.the-variants.{Spacing, Characters}
 use Rattle.walk.specs.declared.Walk.{Walk}
-use Rattle.walk.specs.Walk.{even, next, atLeastOne, isSpacing, enabledBy, zoomedBy, codesAt, showsCodes, stripOf, over, linesLeft, begun, advanced, nextLine, OnLine, walked}
+use Rattle.walk.specs.Walk.{even, next, walkAt, atLeastOne, isSpacing, enabledBy, zoomedBy, codesAt, showsCodes, stripOf, over, linesLeft, begun, advanced, nextLine, OnLine, walked}
 
 -- ---- addresses
 
@@ -98,53 +99,89 @@ unfolding linesLeft advanced OnLine
 left-on (Spacing left) h = tt
 left-on (Characters address height zoom enabled line) h = following-in line height zoom h
 
--- a line reads at most a descriptor, two cells at an even address, and brings the strip to one of its lines
-module _ (P : Role → ℕ → Type 0) (descriptors : (c : ℕ) → c < 1024 → P descriptor c) (ch : ℕ) (w : Walk) where
-  -- its strip is at a line once it is advanced
-  begun-only : (t : Bool) → over (w .strip) ≡ t
-      → Only P (λ (v : Walk). OnLine (advanced (v .strip)))
-      (cond t
-      (read descriptor (even (w .descriptor)) λ low.
-      read descriptor (even (w .descriptor) + 1) λ high.
-      done (record { descriptor = next (even (w .descriptor)); strip = stripOf ch low high }))
-      (done w))
-  unfolding Only
-  begun-only true e = (
-    descriptors _ (omega arith),
-    λ low. (descriptors _ (even-bound (w .descriptor)), λ high. left-on (stripOf ch low high) (stripOf-some ch low high)),
-  )
-  begun-only false e = left-on (w .strip) (over-left (w .strip) e)
+-- ---- the walk's next line. No other file opens `nextLine`: what is above cites these
 
-  pub nextLine-only : Only P (λ (v : Walk). OnLine (v .strip)) (nextLine ch w)
-  unfolding nextLine begun
-  nextLine-only =
-      only-fmap P (λ (v : Walk). OnLine (advanced (v .strip))) (λ (v : Walk). OnLine (v .strip)) _ (begun ch w)
-      (begun-only (over (w .strip)) refl) (λ v h. h)
+-- the strip whose descriptor lies at an address
+abbrev pub stripAt : List ℕ → ℕ → ℕ → Strip
+stripAt ram ch a = stripOf ch (getD ram (even a) 0) (getD ram (even a + 1) 0)
+
+-- a strip that has just begun is not over
+pub stripOf-begun : (ch low high : ℕ) → over (stripOf ch low high) ≡ false
+stripOf-begun ch low high = left-over (stripOf ch low high) (stripOf-some ch low high)
+
+-- a strip with a line left goes on, and nothing is read
+pub step-on : (ch : ℕ) (w : Walk) → over (w .strip) ≡ false → nextLine ch w ≡ done (walkAt (w .descriptor) (advanced (w .strip)))
+unfolding nextLine begun fmap
+step-on ch w e = rw e
+
+-- one that is over gives way to the next descriptor's
+step-read : (ch : ℕ) (w : Walk) → over (w .strip) ≡ true
+    → nextLine ch w
+    ≡ (read descriptor (even (w .descriptor)) λ low.
+    read descriptor (even (w .descriptor) + 1) λ high.
+    done (walkAt (next (even (w .descriptor))) (advanced (stripOf ch low high))))
+unfolding nextLine begun fmap
+step-read ch w e = rw e
+
+-- whichever strip is over, and whichever of its two addresses the descriptor is given by
+pub step-same : (ch a b : ℕ) (t u : Strip) → over t ≡ true → over u ≡ true → even a ≡ even b → nextLine ch (walkAt a t) ≡ nextLine ch (walkAt b u)
+step-same ch a b t u e f p =
+    step-read ch (walkAt a t) e
+    ∙ ap (λ (x : ℕ). read descriptor x λ low. read descriptor (x + 1) λ high. done (walkAt (next x) (advanced (stripOf ch low high)))) p
+    ∙ sym (step-read ch (walkAt b u) f)
+
+-- what it finds and what it reads, where the strip is over and where it has a line left
+module _ (ram : List ℕ) (ch : ℕ) (w : Walk) where
+  pub read-value : over (w .strip) ≡ true → value ram (nextLine ch w) ≡ walkAt (next (even (w .descriptor))) (advanced (stripAt ram ch (w .descriptor)))
+  unfolding value
+  read-value e = ap (value ram) (step-read ch w e)
+
+  pub read-cells : over (w .strip) ≡ true → cells ram (nextLine ch w) ≡ even (w .descriptor) ∷ (even (w .descriptor) + 1) ∷ []
+  unfolding cells
+  read-cells e = ap (cells ram) (step-read ch w e)
+
+  pub on-value : over (w .strip) ≡ false → value ram (nextLine ch w) ≡ walkAt (w .descriptor) (advanced (w .strip))
+  unfolding value
+  on-value e = ap (value ram) (step-on ch w e)
+
+  pub on-cells : over (w .strip) ≡ false → cells ram (nextLine ch w) ≡ []
+  unfolding cells
+  on-cells e = ap (cells ram) (step-on ch w e)
+
+-- it reads at most a descriptor, two cells at an even address, and brings the strip to one of its lines
+pub nextLine-only : (P : Role → ℕ → Type 0) → ((c : ℕ) → c < 1024 → P descriptor c) → (ch : ℕ) (w : Walk)
+    → Only P (λ (v : Walk). OnLine (v .strip)) (nextLine ch w)
+unfolding Only
+nextLine-only P descriptors ch w = by (over (w .strip)) refl
+  where
+    by : (t : Bool) → over (w .strip) ≡ t → Only P (λ (v : Walk). OnLine (v .strip)) (nextLine ch w)
+    by true e =
+        rw (step-read ch w e) (
+          descriptors _ (omega arith),
+          λ low. (descriptors _ (even-bound (w .descriptor)), λ high. left-on (stripOf ch low high) (stripOf-some ch low high)),
+        )
+    by false e = rw (step-on ch w e) (left-on (w .strip) (over-left (w .strip) e))
+
+pub nextLine-few : (r : Role) (ram : List ℕ) (ch : ℕ) (w : Walk) → Few r ram (two r descriptor) (nextLine ch w)
+nextLine-few r ram ch w = by (over (w .strip)) refl
+  where
+    by : (t : Bool) → over (w .strip) ≡ t → Few r ram (two r descriptor) (nextLine ch w)
+    by true e = rw (step-read ch w e) (few-two r ram descriptor _ 0 _ _ _ (omega arith) (few-done r ram 0 _))
+    by false e = rw (step-on ch w e) (few-done r ram _ _)
 
 -- ---- what the code's steps need
 
 pub left-pos : (left : ℕ) → eqb left 0 ≡ false → 1 ≤ left
 left-pos left e = omega (arith, eqb-false left 0 e)
 
--- a strip that has just begun is not over
-pub stripOf-begun : (ch low high : ℕ) → over (stripOf ch low high) ≡ false
-stripOf-begun ch low high = left-over (stripOf ch low high) (stripOf-some ch low high)
-
 -- the walk's next line where the strip is over: a descriptor is read
 pub walked-read : (ram : List ℕ) (ch : ℕ) (w : Walk) → over (w .strip) ≡ true
-    → walked ram ch w
-    ≡ record {
-      walk = record {
-        descriptor = next (even (w .descriptor));
-        strip = advanced (stripOf ch (getD ram (even (w .descriptor)) 0) (getD ram (even (w .descriptor) + 1) 0));
-      };
-      cells = 2;
-    }
-unfolding walked nextLine begun fmap value cells
-walked-read ram ch w e = rw e
+    → walked ram ch w ≡ record { walk = walkAt (next (even (w .descriptor))) (advanced (stripAt ram ch (w .descriptor))); cells = 2 }
+unfolding walked
+walked-read ram ch w e = rw (read-value ram ch w e, read-cells ram ch w e)
 
 -- and where it has a line left
 pub walked-on : (ram : List ℕ) (ch : ℕ) (w : Walk) → over (w .strip) ≡ false
-    → walked ram ch w ≡ record { walk = record { descriptor = w .descriptor; strip = advanced (w .strip) }; cells = 0 }
-unfolding walked nextLine begun fmap value cells
-walked-on ram ch w e = rw e
+    → walked ram ch w ≡ record { walk = walkAt (w .descriptor) (advanced (w .strip)); cells = 0 }
+unfolding walked
+walked-on ram ch w e = rw (on-value ram ch w e, on-cells ram ch w e)

@@ -20,9 +20,13 @@ even a = a / 2 % 512 * 2
 abbrev pub next : ℕ → ℕ
 next a = even (a + 2)
 
+-- the walk in a strip, with the next descriptor at an address
+abbrev pub walkAt : ℕ → Strip → Walk
+walkAt a t = record { descriptor = a; strip = t }
+
 -- a frame start sets the descriptor address to P times 64; the first line reads the first descriptor
 unfoldable pub walkFrom : ℕ → Walk
-walkFrom p = record { descriptor = p * 64; strip = Spacing 0 }
+walkFrom p = walkAt (p * 64) (Spacing 0)
 
 -- SL or CH of 0 is taken as 1 (H)
 abbrev pub atLeastOne : ℕ → ℕ
@@ -75,7 +79,7 @@ begun ch w =
     cond (over (w .strip))
     (read descriptor (even (w .descriptor)) λ low.
     read descriptor (even (w .descriptor) + 1) λ high.
-    done (record { descriptor = next (even (w .descriptor)); strip = stripOf ch low high }))
+    done (walkAt (next (even (w .descriptor))) (stripOf ch low high)))
     (done w)
 
 -- the strip at its next line
@@ -85,7 +89,7 @@ advanced (Characters address height zoom enabled line) = Characters address heig
 
 -- the walk at the frame's next line: the strip on screen, and its line
 unfoldable pub nextLine : ℕ → Walk → Reading Walk
-nextLine ch w = fmap (λ b. record { descriptor = b .descriptor; strip = advanced (b .strip) }) (begun ch w)
+nextLine ch w = fmap (λ b. walkAt (b .descriptor) (advanced (b .strip))) (begun ch w)
 
 -- the strip on screen is at one of its lines
 unfoldable pub OnLine : Strip → Type 0

@@ -1,9 +1,10 @@
 -- `draw_strip`: each way through the code is a case of `paint` and `shownRow`.
 -- Assumes nothing.
 use Rattle.paint.specs.Pixels.{plainOf}
+use mathlib.Core.Path.{refl}
 use native.Mathlib.Omega.{arith}
 use borrow.Author.Tests.{not-true, not-false}
-use Rattle.line.proofs.Strips.{on-strip, on-line, slice-on, strip-off, strip-plain, strip-characters, spacing-none, disabled-none}
+use Rattle.line.proofs.Strips.{on-strip, on-line, slice-on, strip-off, strip-plain, strip-characters, hasRow}
 use borrow.Author.Needs.{needs}
 use Rattle.line.proofs.draw_strip.Statement.{statement}
 use Rattle.line.proofs.draw_strip.Tie as tie
@@ -15,7 +16,7 @@ returns-2 : tie.Need-returns-2
 returns-2 c =
     let v = c .before .before .before .before .before .before .strip .given in
     on-strip _ _ _ _ _ _ _ _ (v .1)
-    (strip-plain _ _ _ _ _ _ _ _ (c .before .before .before .before .before .before .before .before .before .before .before .width .ensures) (not-false _ (c .before .before .before .before .before .before .before .before .if1 .left)) (disabled-none _ _ _ _ _ (not-true _ (c .before .before .before .before .if2 .taken)))
+    (strip-plain _ _ _ _ _ _ _ _ (c .before .before .before .before .before .before .before .before .before .before .before .width .ensures) (not-false _ (c .before .before .before .before .before .before .before .before .if1 .left)) (unfold hasRow in not-true _ (c .before .before .before .before .if2 .taken))
     (c .before .before .fill-line3 .ensures))
 
 slice-requires : tie.Need-slice-requires
@@ -35,7 +36,7 @@ returns-3 : tie.Need-returns-3
 returns-3 c =
     let v = c .before .before .before .before .enum-told .given in
     on-strip _ _ _ _ _ _ _ _ (v .1)
-    (strip-plain _ _ _ _ _ _ _ _ (c .before .before .before .before .before .before .before .before .before .width .ensures) (not-false _ (c .before .before .before .before .before .before .if1 .left)) (spacing-none _) (c .before .before .fill-line2 .ensures))
+    (strip-plain _ _ _ _ _ _ _ _ (c .before .before .before .before .before .before .before .before .before .width .ensures) (not-false _ (c .before .before .before .before .before .before .if1 .left)) (unfold hasRow in refl) (c .before .before .fill-line2 .ensures))
 
 returns-4 : tie.Need-returns-4
 returns-4 c =

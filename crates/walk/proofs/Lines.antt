@@ -1,0 +1,48 @@
+-- The walk line by line, while the RAM stays put: through the lines of a strip, and into the next descriptor's.
+-- Assumes nothing.
+use Prim.Native.Nat.{ℕ, zero, suc, _+_, _≤_}
+use mathlib.Core.Path.{_≡_, refl, ap, _∙_}
+use mathlib.Core.Bool.{true}
+use mathlib.Core.List.{List}
+use native.Mathlib.Nat.{zero-add}
+use native.Mathlib.Omega.{arith}
+use Rattle.cells.specs.Reading.{value}
+use Rattle.walk.specs.declared.Strip.{Strip}
+use Rattle.walk.specs.declared.Walk.{Walk}
+use Rattle.walk.specs.Walk.{even, next, walkAt, over, linesLeft, advanced, nextLine}
+use Rattle.walk.proofs.Laws.{left-over, left-advanced, advancedBy, stripAt, read-value, on-value}
+
+module _ (ram : List ℕ) (ch : ℕ) where
+  -- after so many lines
+  unfoldable pub walkAfter : ℕ → Walk → Walk
+  walkAfter zero w = w
+  walkAfter (suc n) w = walkAfter n (value ram (nextLine ch w))
+
+  pub one-more : (n : ℕ) (w : Walk) → walkAfter (suc n) w ≡ value ram (nextLine ch (walkAfter n w))
+  unfolding walkAfter
+  one-more zero w = refl
+  one-more (suc n) w = one-more n (value ram (nextLine ch w))
+
+  pub after-both : (m n : ℕ) (w : Walk) → walkAfter (m + n) w ≡ walkAfter n (walkAfter m w)
+  unfolding walkAfter
+  after-both zero n w = ap (λ (k : ℕ). walkAfter k w) (zero-add n)
+  after-both (suc m) n w =
+      let e : suc m + n ≡ suc (m + n) = omega arith in
+      ap (λ (k : ℕ). walkAfter k w) e ∙ after-both m n (value ram (nextLine ch w))
+
+  -- in a strip that has them left
+  on-strip : (k a : ℕ) (t : Strip) → k ≤ linesLeft t → walkAfter k (walkAt a t) ≡ walkAt a (advancedBy k t)
+  unfolding walkAfter advancedBy
+  on-strip zero a t h = refl
+  on-strip (suc k) a t h =
+      ap (walkAfter k) (on-value ram ch (walkAt a t) (left-over t (omega arith)))
+      ∙ on-strip k a (advanced t) (omega (arith, left-advanced t))
+
+  -- in the next descriptor's strip
+  pub next-strip : (k : ℕ) (w : Walk) → over (w .strip) ≡ true → 1 ≤ k → k ≤ linesLeft (stripAt ram ch (w .descriptor))
+      → walkAfter k w ≡ walkAt (next (even (w .descriptor))) (advancedBy k (stripAt ram ch (w .descriptor)))
+  unfolding walkAfter advancedBy
+  next-strip zero w o m h = absurd (omega arith)
+  next-strip (suc k) w o m h =
+      ap (walkAfter k) (read-value ram ch w o)
+      ∙ on-strip k (next (even (w .descriptor))) (advanced (stripAt ram ch (w .descriptor))) (omega (arith, left-advanced (stripAt ram ch (w .descriptor))))
