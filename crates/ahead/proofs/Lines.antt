@@ -10,7 +10,7 @@ use borrow.Author.Tests.{eq-eqb, ne-eqb}
 use lib.Dec.{eqb}
 use lib.ListN.{getD}
 use Rattle.facts.proofs.Pairs.{pair-is}
-use Rattle.cells.specs.Reading.{descriptor, Reading, done, read, bind, fmap, value, cells, among}
+use Rattle.cells.specs.Reading.{Reading, value, cells, among}
 use Rattle.cells.proofs.Laws.{cells-bind, among-append}
 use Rattle.registers.specs.declared.Settings.{Settings}
 use Rattle.raster.specs.declared.ScanLine.{ScanLine}
@@ -24,10 +24,9 @@ use Rattle.walk.specs.declared.Strip.the-variants.{Spacing, Characters}
 use Rattle.walk.specs.declared.Walk.{Walk}
 use Rattle.walk.specs.Walk.{even, next, walkAt, stripOf, over, linesLeft, advanced, nextLine}
 use Rattle.walk.proofs.Laws.{left-over, none-over, left-advanced, advancedBy, left-by, stripAt, stripOf-begun, step-same, read-value, read-cells, on-value, on-cells}
-use Rattle.glyph.specs.Glyph.{glyphOf}
 use Rattle.glyph.specs.Cells.{ofUser, userSlice}
 use Rattle.glyph.proofs.Cells.{ofSlice}
-use Rattle.line.specs.Line.{Place, Scanned, codes, rowBy, shownBy, shownRow, scanBy, scan}
+use Rattle.line.specs.Line.{Place, shownRow, scanBy, scan}
 use Rattle.line.proofs.Strips.{hasRow, still-row, row-off, no-row, row-shown, scan-value, scan-cells}
 use Rattle.ahead.specs.Ahead.{remaining}
 use Rattle.ahead.specs.Looking.{rowReads, userShown, rowCells, stripReads, pairOf, codesAtMost}
@@ -167,11 +166,11 @@ descriptor-passed : (ram : List ℕ) (s : Settings) (n a : ℕ) (t : Strip) → 
     → cells ram (remaining s n (walkAt a t))
     ≡ even a
     ∷ (even a + 1)
-    ∷ cells ram (remaining s n (walkAt (next (even a)) (stripAt ram (s .ch) a)))
+    ∷ cells ram (remaining s n (walkAt (next a) (stripAt ram (s .ch) a)))
 descriptor-passed ram s zero a t h e = absurd (not-suc-le-zero h)
 descriptor-passed ram s (suc n) a t h e =
     line-first ram s n (walkAt a t) _ _ (read-value ram (s .ch) (walkAt a t) e) (read-cells ram (s .ch) (walkAt a t) e)
-    ∙ ap (λ (l : List ℕ). even a ∷ (even a + 1) ∷ l) (sym (line-on ram s n (next (even a)) (stripAt ram (s .ch) a) (stripOf-begun (s .ch) _ _)))
+    ∙ ap (λ (l : List ℕ). even a ∷ (even a + 1) ∷ l) (sym (line-on ram s n (next a) (stripAt ram (s .ch) a) (stripOf-begun (s .ch) _ _)))
 
 -- ---- descriptor by descriptor
 
@@ -183,7 +182,7 @@ module _ (ram : List ℕ) (s : Settings) (c : ℕ) where
   with-descriptor : (n a : ℕ) → 1 ≤ n
       → among c (cells ram (remaining s n (walkAt a (Spacing 0))))
       ≡ eqb (pairOf c) (even a)
-      || among c (cells ram (remaining s n (walkAt (next (even a)) (stripAt ram (s .ch) a))))
+      || among c (cells ram (remaining s n (walkAt (next a) (stripAt ram (s .ch) a))))
   unfolding among over
   with-descriptor n a h =
       ap (among c) (descriptor-passed ram s n a (Spacing 0) h refl)
@@ -212,7 +211,7 @@ module _ (ram : List ℕ) (s : Settings) (c : ℕ) where
         let z : n - lines ≡ n - linesLeft t = omega arith in
         with-descriptor n a some
         ∙ or-with _ (ne-eqb (pairOf c) (even a) (λ y. e (omega arith)))
-        ∙ ap (λ (x : ℕ). among c (cells ram (remaining s n (walkAt (next x) (stripOf (s .ch) (getD ram x 0) (getD ram (x + 1) 0)))))) p
+        ∙ ap (λ (x : ℕ). among c (cells ram (remaining s n (walkAt (next a) (stripOf (s .ch) (getD ram x 0) (getD ram (x + 1) 0)))))) p
         ∙ ap (λ (u : Strip). among c (cells ram (remaining s n (walkAt (next a) u)))) (sym q)
         ∙ strip-passed ram s n (next a) t lines c m
         ∙ ap (λ (x : ℕ). stripReads ram s lines t c || among c (cells ram (remaining s x (walkAt (next a) (Spacing 0))))) z

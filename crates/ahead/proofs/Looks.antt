@@ -16,7 +16,7 @@ use Rattle.raster.proofs.Slices.{whole-zoom}
 use Rattle.walk.specs.declared.Strip.{Strip}
 use Rattle.walk.specs.declared.Strip.the-variants.{Spacing, Characters}
 use Rattle.walk.specs.declared.Walk.{Walk}
-use Rattle.walk.specs.Walk.{atLeastOne, zoomedBy, codesAt, showsCodes, stripOf, linesLeft}
+use Rattle.walk.specs.Walk.{heightOf, zoomedBy, codesAt, showsCodes, stripOf, linesLeft}
 use Rattle.walk.proofs.Laws.{stripOf-some, codes-shown, codes-none}
 use Rattle.glyph.specs.Cells.{ofUser, userSlice}
 use Rattle.ahead.specs.Ahead.{remaining}
@@ -102,9 +102,9 @@ whole-dark ram q low high e =
 
 -- the slices that a strip that begins shows in all
 whole-shown : (q : Sought) (zoom : Bool) → Posed q
-    → q .whole ≡ userShown (q .cell) beforeFirst (linesAfter beforeFirst (atLeastOne (q .settings .ch)) zoom) (atLeastOne (q .settings .ch)) zoom
+    → q .whole ≡ userShown (q .cell) beforeFirst (linesAfter beforeFirst (heightOf (q .settings .ch)) zoom) (heightOf (q .settings .ch)) zoom
 whole-shown q zoom w =
-    let height = atLeastOne (q .settings .ch) in
+    let height = heightOf (q .settings .ch) in
     w .whole
     ∙ ap (λ (x : Bool). x && ofUser (q .cell))
     (sym (ap (λ (n : ℕ). sliceShown beforeFirst n height zoom (userSlice (q .cell))) (all-after height zoom)
@@ -120,7 +120,7 @@ whole-looked ram q low high marks marks′ r bytes w e l =
     strip-shown ram q strip (linesLeft strip) marks marks′ r bytes w t (q .whole) refl
     (stripOf-some (q .settings .ch) low high) (omega arith)
     (whole-shown q (zoomedBy high) w
-    ∙ ap (λ (n : ℕ). userShown (q .cell) beforeFirst n (atLeastOne (q .settings .ch)) (zoomedBy high)) (sym (ap linesLeft t)))
+    ∙ ap (λ (n : ℕ). userShown (q .cell) beforeFirst n (heightOf (q .settings .ch)) (zoomedBy high)) (sym (ap linesLeft t)))
     l
 
 -- ---- the lines from a descriptor on

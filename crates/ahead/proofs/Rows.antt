@@ -130,7 +130,7 @@ codeBack c j = 2 * ((c / 2 + 511 * j) % 512)
 
 -- the code there ends a line
 abbrev pub EndsBack : List ℕ → ℕ → ℕ → Type 0
-EndsBack ram c j = getD ram (codeBack c j + 1) 0 ≡ 255
+EndsBack ram c j = endsLine (getD ram (codeBack c j + 1) 0) ≡ true
 
 own : (c : ℕ) → c < 1024 → (c / 2 + 511 * 0) % 512 ≡ c / 2
 own c h =
@@ -181,7 +181,7 @@ module _ (ram : List ℕ) (c : ℕ) (small : c < 1024) where
   reaches d zero a l e f = absurd (not-suc-le-zero l)
   reaches zero (suc n) a l e f = rw (eq-eqb (pairOf c) (even a) (omega (arith, own c small)))
   reaches (suc d) (suc n) a l e f =
-      rw (ne-eqb (getD ram (even a + 1) 0) 255 (λ q. f (suc d) (omega arith) (omega arith) (subst (λ (x : ℕ). getD ram (x + 1) 0 ≡ 255) e q)))
+      rw (ne-eqb (getD ram (even a + 1) 0) 255 (λ q. f (suc d) (omega arith) (omega arith) (subst (λ (x : ℕ). endsLine (getD ram (x + 1) 0) ≡ true) e (eq-eqb _ 255 q))))
       (ap (λ (r : Bool). eqb (pairOf c) (even a) || r) (reaches d n (next a) (omega arith) (back-on c d a e) (λ j h k. f j h (omega arith)))
       ∙ or-true (eqb (pairOf c) (even a)))
 
@@ -210,7 +210,7 @@ module _ (ram : List ℕ) (c : ℕ) (small : c < 1024) where
       by (no q) after =
           let y : suc d ≡ m = omega arith in
           let z : even a ≡ codeBack c m = e ∙ ap (codeBack c) y in
-          rw (ne-eqb (pairOf c) (even a) other, eq-eqb (getD ram (even a + 1) 0) 255 (subst (λ (x : ℕ). getD ram (x + 1) 0 ≡ 255) (sym z) t))
+          rw (ne-eqb (pairOf c) (even a) other, subst (λ (x : ℕ). endsLine (getD ram (x + 1) 0) ≡ true) (sym z) t)
 
   to-own : (a : ℕ) → even a ≡ codeBack c (codesTo c a)
   to-own a =

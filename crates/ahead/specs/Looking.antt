@@ -16,7 +16,7 @@ use mathlib.Core.Bool.{Bool, true, false, cond, _&&_, _||_}
 use mathlib.Core.List.{List, [], _++_}
 use lib.Dec.{eqb, ltb}
 use lib.ListN.{getD, length}
-use Rattle.limits.specs.Limits.{ramLength}
+use Rattle.limits.specs.Limits.{ramLength, ramPairs}
 use Rattle.cells.specs.Reading.{cells, among}
 use Rattle.registers.specs.declared.Settings.{Settings}
 use Rattle.raster.specs.declared.ScanLine.{ScanLine}
@@ -24,7 +24,7 @@ use Rattle.raster.specs.Raster.{beforeFirst, charactersOf}
 use Rattle.raster.specs.Search.{sliceShown}
 use Rattle.walk.specs.declared.Strip.{Strip}
 use Rattle.walk.specs.declared.Strip.the-variants.{Spacing}
-use Rattle.walk.specs.Walk.{even, next, walkAt, advanced, atLeastOne, stripOf, linesLeft}
+use Rattle.walk.specs.Walk.{even, next, walkAt, advanced, heightOf, stripOf, linesLeft}
 use Rattle.glyph.specs.Glyph.{endsLine}
 use Rattle.glyph.specs.Cells.{ofUser, userHigh, userSlice}
 use Rattle.line.specs.Line.{shownRow}
@@ -44,21 +44,21 @@ abbrev pub codesAtMost : Settings → ℕ
 codesAtMost s = cond (s .osd) (charactersOf (s .ld) (s .dd)) 0
 
 -- is the cell read by the codes from an address on, n at the most? shown: the cell is of a user character's slice on screen
-unfoldable pub rowReads : List ℕ → ℕ → Bool → ℕ → ℕ → Bool
+unfoldable pub rowReads : (ram : List ℕ) (c : ℕ) (shown : Bool) (n a : ℕ) → Bool
 rowReads ram c shown zero a = false
 rowReads ram c shown (suc n) a =
     eqb (pairOf c) (even a)
     || cond (endsLine (getD ram (even a + 1) 0)) false ((shown && eqb (getD ram (even a + 1) 0) (userHigh c)) || rowReads ram c shown n (next a))
 
 -- is the cell's user character shown by them?
-unfoldable pub userReads : List ℕ → ℕ → ℕ → ℕ → Bool
+unfoldable pub userReads : (ram : List ℕ) (c n a : ℕ) → Bool
 userReads ram c zero a = false
 userReads ram c (suc n) a =
     cond (endsLine (getD ram (even a + 1) 0)) false (eqb (getD ram (even a + 1) 0) (userHigh c) || userReads ram c n (next a))
 
 -- how many codes before the cell's own an address is
 abbrev pub codesTo : ℕ → ℕ → ℕ
-codesTo c a = (c / 2 + 512 - a / 2 % 512) % 512
+codesTo c a = (c / 2 + ramPairs - a / 2 % ramPairs) % ramPairs
 
 -- rows of n codes read the cell as a code exactly if they start fewer than m codes before the cell's own (0: at it)
 pub record Starts (ram : List ℕ) (c n m : ℕ) : Type 0 where
@@ -105,7 +105,7 @@ anyBelow ram c n marks zero = false
 anyBelow ram c n marks (suc k) = (isMarked marks k && userReads ram c n (2 * k)) || anyBelow ram c n marks k
 
 abbrev pub anyRow : List ℕ → ℕ → ℕ → List ℕ → Bool
-anyRow ram c n marks = anyBelow ram c n marks 512
+anyRow ram c n marks = anyBelow ram c n marks ramPairs
 
 -- the row at an address was marked
 pub record Marks (marks : List ℕ) (a : ℕ) (marks′ : List ℕ) : Type 0 where
@@ -127,14 +127,14 @@ pub record Lowest (x r : ℕ) : Type 0 where
 -- so many of its n codes a marked row is looked through for: all, or up to the next marked row, which sees the rest
 pub record OwnCodes (n row after own : ℕ) : Type 0 where
   pub most : own ≤ n
-  pub cut : own < n → (after < 512) × (row + own ≡ after)
+  pub cut : own < n → (after < ramPairs) × (row + own ≡ after)
 
 -- r is the first marked row from p on, or 512
 pub record NextRow (marks : List ℕ) (p r : ℕ) : Type 0 where
   pub from : p ≤ r
-  pub most : r ≤ 512
+  pub most : r ≤ ramPairs
   pub none : (i : ℕ) → p ≤ i → i < r → isMarked marks i ≡ false
-  pub is : r < 512 → isMarked marks r ≡ true
+  pub is : r < ramPairs → isMarked marks r ≡ true
 
 -- ---- the search
 
@@ -142,7 +142,7 @@ pub record NextRow (marks : List ℕ) (p r : ℕ) : Type 0 where
 pub record Posed (q : Sought) : Type 0 where
   pub cell : q .cell < ramLength
   pub codes : q .codes ≡ codesAtMost (q .settings)
-  pub whole : q .whole ≡ userShown (q .cell) beforeFirst (atLeastOne (q .settings .ch)) (atLeastOne (q .settings .ch)) false
+  pub whole : q .whole ≡ userShown (q .cell) beforeFirst (heightOf (q .settings .ch)) (heightOf (q .settings .ch)) false
 
 -- the parts of a frame that are looked at: do they read the cell?
 abbrev pub rowRead : List ℕ → Sought → Bool → ℕ → Bool

@@ -57,7 +57,7 @@ fn starts(ram: &[u8], n: u16, cell: u16) -> u16
     while m < n {
         m += 1;
         let p = (own + 511 * m as usize) % 512;
-        if ram[2 * p + 1] == 255 {
+        if glyph::ends_line(ram[2 * p + 1]) {
             return m;
         }
     }
@@ -214,7 +214,7 @@ fn look_lines(
         }
         let low = ram[2 * p];
         let high = ram[2 * p + 1];
-        let lines = walk::strip_lines(sought.settings.ch, low, high);
+        let lines = walk::descriptor_lines(sought.settings.ch, low, high);
         if left < lines {
             let strip = Strip::of_descriptor(sought.settings.ch, low, high);
             return look_strip(ram, marks, near, sought, strip, left);
@@ -234,7 +234,7 @@ fn look_lines(
 }
 
 // Do the codes of a row, n at the most, show the cell's user character?
-fn row_reads(ram: &[u8], row: usize, n: usize, cell: u16) -> bool
+fn user_reads(ram: &[u8], row: usize, n: usize, cell: u16) -> bool
     requires { ⌜ length (now ram) ≡ ramLength ⌝ }
     requires { ⌜ (row < 512) × (cell < ramLength) ⌝ }
     ensures { λ r. ⌜ r ≡ userReads (now (ram .entry)) cell n (2 * row) ⌝ }
@@ -244,7 +244,7 @@ fn row_reads(ram: &[u8], row: usize, n: usize, cell: u16) -> bool
     let mut left = n;
     while left > 0 {
         let high = ram[2 * p + 1];
-        if high == 255 {
+        if glyph::ends_line(high) {
             return false;
         }
         if high == user {
@@ -322,7 +322,7 @@ fn own_codes(n: usize, row: usize, next: usize) -> usize
 }
 
 // Does one of the marked rows show the cell's user character?
-fn rows_read<'a>(ram: &'a [u8], marks: &'a [u32; 16], n: u16, cell: u16) -> bool
+fn any_row<'a>(ram: &'a [u8], marks: &'a [u32; 16], n: u16, cell: u16) -> bool
     requires { ⌜ length (now ram) ≡ ramLength ⌝ }
     requires { ⌜ Kept (now marks) × (cell < ramLength) ⌝ }
     ensures { λ r. ⌜ r ≡ anyRow (now (ram .entry)) cell n (now (marks .entry)) ⌝ }
@@ -331,7 +331,7 @@ fn rows_read<'a>(ram: &'a [u8], marks: &'a [u32; 16], n: u16, cell: u16) -> bool
     while row < 512 {
         let next = next_row(marks, row + 1);
         let own = own_codes(n as usize, row, next);
-        if row_reads(ram, row, own, cell) {
+        if user_reads(ram, row, own, cell) {
             return true;
         }
         row = next;
@@ -344,7 +344,7 @@ fn seek(settings: Settings, cell: u16) -> Sought
     requires { ⌜ cell < ramLength ⌝ }
     ensures { λ r. ⌜ (r .cell ≡ cell) × (r .settings ≡ settings) × Posed r ⌝ }
 {
-    let height = walk::at_least_one(settings.ch);
+    let height = walk::height(settings.ch);
     Sought {
         cell: cell,
         settings: settings,
@@ -378,5 +378,5 @@ pub fn reads(ram: &[u8], settings: Settings, left: u16, walk: Walk, cell: u16) -
     if looked.found {
         return true;
     }
-    rows_read(ram, &marks, sought.codes, cell)
+    any_row(ram, &marks, sought.codes, cell)
 }

@@ -16,7 +16,7 @@ use Rattle.raster.specs.Raster.{beforeFirst, following, isLast, interpolated, s
 use Rattle.bus.specs.declared.Event.the-variants.{Byte}
 use Rattle.bus.specs.Bus.{step, ramWith, registersWith, answerTo, taken, busEvent}
 use Rattle.walk.specs.Walk.{walkFrom, stripOf, over, begun, advanced, nextLine}
-use Rattle.glyph.specs.Glyph.{glyphOf, inRam, bitsOf}
+use Rattle.glyph.specs.Glyph.{glyphOf, inRam, ofBytes}
 use Rattle.paint.specs.Pixels.{inkOf, columns, twelveColumns}
 use Rattle.line.specs.Line.{codesBy, rowBy, shownBy, scanBy, shownOf, character, painted, paint}
 use Rattle.ahead.specs.Ahead.{remaining}
@@ -153,7 +153,7 @@ unfolding addressing write font heard starts traffic picture buffer turning refu
     runTest quietTest pixelOf pixelIn answer after isEvent Stores freshDevice hearEvent startFrame inFrame pixelsOf lineOn lineDrawn drawVerdict drawBy drawLine
     cellsLeft askCell log end select step ramWith registersWith answerTo taken busEvent settingsOf remaining scanBy nextLine walkFrom
     over begun advanced stripOf rowBy shownBy codesBy glyphOf inRam bind fmap value cells cellsAs sameRole among beforeFirst following isLast
-    interpolated sliceNumber paint painted character shownOf twelveColumns inkOf columns bitsOf
+    interpolated sliceNumber paint painted character shownOf twelveColumns inkOf columns ofBytes
     finished feedAfter outputs feedVerdict chunkFed feedBy eventsBy feedChunk fallsIn ended rowPixel pixelAt pixelVerdict pixelBy askPixel
 pixelTest i s cs =
     eqb (pixelIn i (select (λ x. not (isEvent (x .call))) (log (calls font) s cs))) (pixelIn i (log (calls font) s (othersOf (calls font) cs)))

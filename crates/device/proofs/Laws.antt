@@ -8,7 +8,8 @@ use native.Mathlib.Omega.{arith}
 use borrow.Author.Tests.{eq-eqb, ne-eqb, le-ltb, ltb-false}
 use lib.Dec.{T, eqb, ltb}
 use lib.ListN.{length, getD, drop, List·getD-append}
-use Rattle.limits.specs.Limits.{ramLength, fontLength, frameLines, noFrame}
+use Rattle.limits.specs.Limits.{ramLength, fontLength, frameLines, badLineCount}
+use Rattle.limits.proofs.Laws.{some-frame}
 use Rattle.facts.proofs.Choice.{either}
 use Rattle.cells.specs.Reading.{value}
 use Rattle.refusals.specs.declared.Refusal.{Refusal}
@@ -26,11 +27,7 @@ use Rattle.device.specs.Device.{StartOutcome, inFrame, startFrame, DrawO
 pub by-start : (P : StartOutcome → Type 0) (d : Device) (lines : ℕ) → P (record { device = d; reply = refused FrameLines })
     → P (record { device = inFrame d lines; reply = accepted 0 }) → P (startFrame d lines)
 unfolding startFrame
-by-start P d lines h k = either P (noFrame lines) _ _ h k
-
--- 1 to 2,048 lines are some frame's
-pub some-frame : (lines : ℕ) → 1 ≤ lines → lines ≤ frameLines → noFrame lines ≡ false
-some-frame lines h k = rw (ne-eqb lines 0 (λ e. omega arith), le-ltb frameLines lines k)
+by-start P d lines h k = either P (badLineCount lines) _ _ h k
 
 -- a frame start that is not refused
 pub start-passed : (d : Device) (lines : ℕ) → 1 ≤ lines → lines ≤ frameLines → startFrame d lines ≡ record { device = inFrame d lines; reply = accepted 0 }

@@ -1,3 +1,4 @@
 pub mod Claims
 pub mod FirstCells
 pub mod Laws
+pub mod ReadCount

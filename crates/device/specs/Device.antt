@@ -6,7 +6,7 @@ use mathlib.Core.Bool.{not, cond}
 use mathlib.Core.List.{List, _++_}
 use lib.Dec.{eqb, leb, ltb}
 use lib.ListN.{length, drop}
-use Rattle.limits.specs.Limits.{ramLength, fontLength, noFrame}
+use Rattle.limits.specs.Limits.{ramLength, fontLength, badLineCount}
 use Rattle.cells.specs.Reading.{Reading, value, cells, among}
 use Rattle.refusals.specs.declared.Refusal.{Refusal}
 use Rattle.refusals.specs.declared.Refusal.the-variants.{RamLength, FontLength, LineLength, NoLine, FrameLines, CellRange}
@@ -30,7 +30,7 @@ use Rattle.device.specs.declared.DrawAnswer.the-variants as draw
 use Rattle.device.specs.declared.CellAnswer.{CellAnswer}
 use Rattle.device.specs.declared.CellAnswer.the-variants as cell
 
--- ---- the paper's numbers for each answer
+-- ---- document 01's numbers for each answer
 
 -- an accepted frame start has no number of its own
 abbrev pub startReply : StartAnswer → Reply
@@ -63,6 +63,7 @@ freshDevice =
 
 -- ---- bus event
 
+-- what an event leaves and says
 pub record EventOutcome : Type 0 where
   pub device : Device
   pub ram : List ℕ
@@ -84,6 +85,11 @@ eventOutcome d ram = record { device = d .device; ram = ram; reply = busReply (d
 
 -- ---- frame start
 
+-- frame numbers are 0 to 63 and round again
+abbrev pub frameNumber : ℕ → ℕ
+frameNumber n = n % 64
+
+-- what a frame start leaves and says
 pub record StartOutcome : Type 0 where
   pub device : Device
   pub reply : Reply
@@ -94,14 +100,14 @@ inFrame d lines =
     record {
       bus = d .bus;
       registers = d .registers;
-      frame = record { left = lines; number = d .next % 64; walk = walkFrom (pageOf (d .registers)) };
-      next = (d .next % 64 + 1) % 64;
+      frame = record { left = lines; number = frameNumber (d .next); walk = walkFrom (pageOf (d .registers)) };
+      next = frameNumber (frameNumber (d .next) + 1);
     }
 
 -- a frame start names its lines, 1 to 2,048; else refusal 6
 unfoldable pub startFrame : Device → ℕ → StartOutcome
 startFrame d lines =
-    cond (noFrame lines)
+    cond (badLineCount lines)
     (record { device = d; reply = refused FrameLines })
     (record { device = inFrame d lines; reply = accepted 0 })
 
@@ -110,6 +116,7 @@ startOutcome d = record { device = d .device; reply = startReply (d .answer) }
 
 -- ---- draw
 
+-- what a draw leaves and says
 pub record DrawOutcome : Type 0 where
   pub device : Device
   pub line : List ℕ
@@ -142,7 +149,7 @@ abbrev pub notDrawn : Device → List ℕ → Refusal → DrawOutcome
 notDrawn d line r = record { device = d; line = line; reply = refused r }
 
 -- a draw writes W bytes; later bytes stay. It reports how many RAM cells the line read
-unfoldable pub lineDrawn : Device → List ℕ → List ℕ → List ℕ → DrawOutcome
+unfoldable pub lineDrawn : Device → (ram font line : List ℕ) → DrawOutcome
 lineDrawn d ram font line =
     record {
       device = lineOn d ram;
@@ -150,19 +157,21 @@ lineDrawn d ram font line =
       reply = accepted (length (cells ram (nextScan d)));
     }
 
--- order of refusals: 1, 2, 4, 3, by the lengths that are lent
-unfoldable pub drawVerdict : Device → ℕ → ℕ → ℕ → Verdict
-drawVerdict d ram font line =
-    refuseIf (not (eqb ram ramLength)) RamLength
-    (refuseIf (not (eqb font fontLength)) FontLength
-    (refuseIf (eqb (d .frame .left) 0) NoLine
-    (refuseIf (ltb line (lineWidth d)) LineLength passed)))
+-- RAM and font are tested first where both are lent, by their lengths: 1, 2
+abbrev pub lentVerdict : (ram font : ℕ) → Verdict → Verdict
+lentVerdict ram font later = refuseIf (not (eqb ram ramLength)) RamLength (refuseIf (not (eqb font fontLength)) FontLength later)
 
-unfoldable pub drawBy : Verdict → Device → List ℕ → List ℕ → List ℕ → DrawOutcome
+-- order of refusals: 1, 2, 4, 3
+unfoldable pub drawVerdict : Device → (ram font line : ℕ) → Verdict
+drawVerdict d ram font line =
+    lentVerdict ram font (refuseIf (eqb (d .frame .left) 0) NoLine (refuseIf (ltb line (lineWidth d)) LineLength passed))
+
+-- by what they find
+unfoldable pub drawBy : Verdict → Device → (ram font line : List ℕ) → DrawOutcome
 drawBy passed d ram font line = lineDrawn d ram font line
 drawBy (failed r) d ram font line = notDrawn d line r
 
-unfoldable pub drawLine : Device → List ℕ → List ℕ → List ℕ → DrawOutcome
+unfoldable pub drawLine : Device → (ram font line : List ℕ) → DrawOutcome
 drawLine d ram font line = drawBy (drawVerdict d (length ram) (length font) (length line)) d ram font line
 
 abbrev pub drawOutcome : DrawDone → List ℕ → DrawOutcome

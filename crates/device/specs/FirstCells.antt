@@ -2,14 +2,15 @@
 -- lines read them as descriptors or codes.
 -- For every device record, made-up ones too, and every RAM of 1,024 cells.
 -- Assumes nothing.
-use Prim.Native.Nat.{ℕ, _+_, _*_, _<_}
+use Prim.Native.Nat.{ℕ, _+_, _<_}
 use mathlib.Core.Path.{_≡_}
 use mathlib.Core.Bool.{Bool, false, cond, _||_}
 use mathlib.Core.List.{List}
 use lib.ListN.{length}
-use Rattle.limits.specs.Limits.{ramLength}
+use Rattle.limits.specs.Limits.{ramLength, userCharacters}
 use Rattle.cells.specs.Reading.{Role, descriptor, code, slice, cellsAs, among}
 use Rattle.refusals.specs.Refusals.{accepted}
+use Rattle.glyph.specs.Glyph.{userCell}
 use Rattle.device.specs.declared.Device.{Device}
 use Rattle.device.specs.Device.{remainingOf, askCell}
 
@@ -25,4 +26,4 @@ pub record NoSlice (d : Device) (ram : List ℕ) (c : ℕ) : Type 0 where
 
 -- the claim: this holds of the cells 38 n and 38 n + 1 of each user character n, 0 to 25
 abbrev pub FirstCells : Type 0
-FirstCells = (d : Device) (ram : List ℕ) (n i : ℕ) → length ram ≡ ramLength → n < 26 → i < 2 → NoSlice d ram (38 * n + i)
+FirstCells = (d : Device) (ram : List ℕ) (n i : ℕ) → length ram ≡ ramLength → n < userCharacters → i < 2 → NoSlice d ram (userCell n 0 + i)

@@ -1,2 +1,3 @@
 pub mod Device
 pub mod FirstCells
+pub mod ReadCount

@@ -108,10 +108,7 @@ impl Device {
     pub fn start_frame(self, lines: u32) -> StartDone
         ensures { λ r. ⌜ startOutcome r ≡ startFrame self lines ⌝ }
     {
-        if lines == 0 {
-            return self.not_started();
-        }
-        if lines > limits::FRAME_LINES {
+        if limits::bad_line_count(lines) {
             return self.not_started();
         }
         let bus = self.bus;

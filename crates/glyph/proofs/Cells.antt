@@ -17,8 +17,8 @@ use Rattle.cells.specs.Reading.{Role, slice, sameRole, done, read, cells, among
 use Rattle.cells.proofs.Bounds.{Only}
 use Rattle.cells.proofs.Counts.{Few, few-done, two, few-two, few-all}
 use Rattle.raster.specs.declared.Slice.{Slice}
-use Rattle.raster.specs.Raster.{InCharacter, OnScreen}
-use Rattle.raster.specs.Search.{sameSlice}
+use Rattle.raster.specs.Raster.{OnScreen}
+use Rattle.raster.specs.Search.{InCharacter, sameSlice}
 use Rattle.glyph.specs.Glyph.{Glyph, font, user, blank, userCell, inRam, glyphOf}
 use Rattle.glyph.specs.Cells.{ofUser, userHigh, userSlice}
 

@@ -13,7 +13,7 @@ use lib.ListN.{length, getD, take, drop, length-take, length-drop}
 use Rattle.facts.proofs.Parts.{getD-part}
 use Rattle.cells.specs.Reading.{slice, Reading, done, read, value, cells}
 use Rattle.raster.specs.declared.Slice.{Slice}
-use Rattle.glyph.specs.Glyph.{Glyph, font, user, blank, userCell, fontByte, inRam, glyphOf, twelve, bitsOf, slicePart, Lent, HasSlices}
+use Rattle.glyph.specs.Glyph.{Glyph, font, user, blank, userCell, fontByte, inRam, glyphOf, ofBytes, twelve, bitsOf, slicePart, Lent, HasSlices}
 use Rattle.glyph.specs.Words.{inOrder, wordOf, wordIn}
 
 -- ---- the two bytes of a slice are the part that the lookup returns
@@ -45,13 +45,13 @@ module _ (ram f : List ℕ) (high : ℕ) (s : Slice) where
   -- a font character
   pub word-font : high < 128
       → record { bits = wordAt (slicePart ram f high (s .0)); cells = 0; ends = false } ≡ wordIn ram f high s
-  unfolding slicePart wordIn glyphOf value cells wordOf
+  unfolding slicePart wordIn glyphOf value cells ofBytes
   word-font h = rw (eq-eqb (high / 128 % 2) 0 (omega arith), part-word, ne-eqb high 255 (λ e. omega arith))
 
   -- a user character
   pub word-user : 128 ≤ high → high < 154
       → record { bits = wordAt (slicePart ram f high (s .0)); cells = 2; ends = false } ≡ wordIn ram f high s
-  unfolding slicePart wordIn glyphOf inRam value cells wordOf
+  unfolding slicePart wordIn glyphOf inRam value cells ofBytes
   word-user l h =
       rw (
         ne-eqb (high / 128 % 2) 0 (λ e. omega arith),
@@ -62,7 +62,7 @@ module _ (ram f : List ℕ) (high : ℕ) (s : Slice) where
 
   -- all background, or the end of line
   pub word-blank : 154 ≤ high → high < 256 → record { bits = 0; cells = 0; ends = eqb high 255 } ≡ wordIn ram f high s
-  unfolding wordIn glyphOf inRam value cells wordOf
+  unfolding wordIn glyphOf inRam value cells ofBytes
   word-blank l h = rw (ne-eqb (high / 128 % 2) 0 (λ e. omega arith), le-ltb (high % 128) 26 (omega arith))
 
 -- ---- what a word shows
@@ -74,7 +74,7 @@ low-twelve first second h = omega arith
 -- a word's low twelve bits are the glyph's
 pub word-low : (ram f : List ℕ) (high : ℕ) (s : Slice) → ((i : ℕ) → getD ram i 0 < 256) → ((i : ℕ) → getD f i 0 < 256)
     → wordIn ram f high s .bits % 4096 ≡ bitsOf f (value ram (glyphOf high s))
-unfolding wordIn glyphOf inRam value wordOf bitsOf
+unfolding wordIn glyphOf inRam value ofBytes
 word-low ram f high s b d = by (eqb (high / 128 % 2) 0) (ltb (high % 128) 26)
   where
     of-ram : Bool → Reading Glyph

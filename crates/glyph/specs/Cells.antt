@@ -3,7 +3,7 @@
 use Prim.Native.Nat.{ℕ, _+_, _/_, _%_}
 use mathlib.Core.Bool.{Bool}
 use lib.Dec.{ltb}
-use Rattle.limits.specs.Limits.{userCells}
+use Rattle.limits.specs.Limits.{userLength, userCells}
 use Rattle.raster.specs.declared.Slice.{Slice}
 
 -- it is a cell of the user characters 0 to 25
@@ -12,8 +12,8 @@ ofUser c = ltb c userCells
 
 -- the high byte of its character's code
 abbrev pub userHigh : ℕ → ℕ
-userHigh c = 128 + c / 38
+userHigh c = 128 + c / userLength
 
 -- the number of its slice; 0 for the first two cells of a character, which are of none
 unfoldable pub userSlice : ℕ → Slice
-userSlice c = record { 0 = c % 38 / 2 }
+userSlice c = record { 0 = c % userLength / 2 }

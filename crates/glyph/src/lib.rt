@@ -3,11 +3,22 @@ ghost use mathlib.Core.Path.{_≡_};
 ghost use Prim.Native.Nat.{_<_};
 ghost use lib.ListN.{length};
 ghost use Rattle.limits.specs.Limits.{ramLength};
-ghost use Rattle.glyph.specs.Glyph.{slicePart, Lent, HasSlices};
-ghost use Rattle.raster.specs.Raster.{InCharacter, OnScreen};
+ghost use Rattle.glyph.specs.Glyph.{endsLine, slicePart, Lent, HasSlices};
+ghost use Rattle.raster.specs.Raster.{OnScreen};
+ghost use Rattle.raster.specs.Search.{InCharacter};
 ghost use Rattle.glyph.specs.Words.{inOrder, wordIn};
 ghost use Rattle.glyph.specs.Cells.{ofUser, userHigh, userSlice};
 use raster::Slice;
+
+// High bytes from here on are of no user character: SET, and number 26.
+const BLANK_FROM: u8 = 154;
+
+// A code's high byte: does it end the line?
+pub fn ends_line(high: u8) -> bool
+    ensures { λ r. ⌜ r ≡ endsLine high ⌝ }
+{
+    high == 255
+}
 
 // The two bytes of a slice: a part of the lent RAM or of the lent font, chosen by SET.
 pub fn slice_bytes<'a>(ram: &'a [u8], font: &'a [u8], high: u8, slice: Slice) -> &'a [u8]
@@ -56,7 +67,7 @@ pub fn lookup<'a>(ram: &'a [u8], font: &'a [u8], high: u8, slice: Slice) -> Word
             ends: false,
         };
     }
-    if high < 154 {
+    if high < BLANK_FROM {
         let part = slice_bytes(ram, font, high, slice);
         return Word {
             bits: two_bytes(part[0], part[1]),
@@ -67,7 +78,7 @@ pub fn lookup<'a>(ram: &'a [u8], font: &'a [u8], high: u8, slice: Slice) -> Word
     Word {
         bits: 0,
         cells: 0,
-        ends: high == 255,
+        ends: ends_line(high),
     }
 }
 
@@ -83,7 +94,7 @@ pub fn user_high(cell: u16) -> u8
     requires { ⌜ cell < ramLength ⌝ }
     ensures { λ r. ⌜ r ≡ userHigh cell ⌝ }
 {
-    (128 + cell / 38) as u8
+    (128 + cell / limits::USER_LENGTH) as u8
 }
 
 // The number of a cell's slice; 0 for the first two cells of a character, which are of none.
@@ -91,5 +102,5 @@ pub fn user_slice(cell: u16) -> Slice
     ensures slice { λ r. ⌜ r ≡ userSlice cell ⌝ }
     ensures inside { λ r. ⌜ InCharacter r ⌝ }
 {
-    Slice((cell % 38 / 2) as u8)
+    Slice((cell % limits::USER_LENGTH / 2) as u8)
 }

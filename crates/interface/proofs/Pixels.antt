@@ -22,7 +22,7 @@ use Rattle.calls.proofs.Pixels.{pixels-agree}
 use Rattle.layout.specs.Layout.{recordLength, registersIn}
 use Rattle.layout.specs.FeedLayout.{feedIn}
 use Rattle.interface.specs.Interface.{answerOf}
-use Rattle.interface.specs.OnePage.{Call, draw, cell, bus, feed, anew, pixel, State, answer, after, calls}
+use Rattle.interface.specs.OnePage.{Call, draw, cell, bus, feed, anew, pixel, State, after, calls}
 use Rattle.interface.specs.Pixels.{started, StayPut, drew, linesDrawn, PixelsAgreeBytes}
 use Rattle.interface.proofs.Laws.{refusal-zero}
 use Rattle.interface.proofs.OnePage.{taken, takenAt, same-length, unanswered, untouched, reads, made, inBytes, carried}

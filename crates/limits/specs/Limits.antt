@@ -1,6 +1,6 @@
 -- Lengths and limits of document 01, and of document 02's requests, each named once.
 -- Assumes nothing.
-use Prim.Native.Nat.{ℕ}
+use Prim.Native.Nat.{ℕ, _*_}
 use mathlib.Core.Bool.{Bool, _||_}
 use lib.Dec.{eqb, ltb}
 
@@ -16,17 +16,27 @@ fontLength = 4608
 abbrev pub fontFileLength : ℕ
 fontFileLength = 5120
 
--- the 26 user characters have 38 cells each
+-- descriptors and codes are pairs of bytes: RAM has 512
+abbrev pub ramPairs : ℕ
+ramPairs = 512
+
+-- there are 26 user characters, of 38 cells each
+abbrev pub userCharacters : ℕ
+userCharacters = 26
+
+abbrev pub userLength : ℕ
+userLength = 38
+
 abbrev pub userCells : ℕ
-userCells = 988
+userCells = userCharacters * userLength
 
 -- a frame has 1 to 2,048 lines
 abbrev pub frameLines : ℕ
 frameLines = 2048
 
--- a count that no frame has: 0, or above 2,048
-abbrev pub noFrame : ℕ → Bool
-noFrame lines = eqb lines 0 || ltb frameLines lines
+-- a count of lines that no frame has: 0, or above 2,048
+abbrev pub badLineCount : ℕ → Bool
+badLineCount lines = eqb lines 0 || ltb frameLines lines
 
 -- a line reads at most 246 cells
 abbrev pub lineCells : ℕ

@@ -1,4 +1,6 @@
 // Lengths and limits that code tests, each named once, at the width of the test. specs/Limits.antt has those of definitions.
+ghost use mathlib.Core.Path.{_≡_};
+ghost use Rattle.limits.specs.Limits.{badLineCount};
 
 // Bytes of the lent RAM, of the lent font, and of a font file.
 pub const RAM_LENGTH: usize = 1024;
@@ -7,10 +9,25 @@ pub const FONT_LENGTH: usize = 4608;
 
 pub const FONT_FILE_LENGTH: usize = 5120;
 
-// RAM cells: those that there are, and those of the 26 user characters.
+// RAM cells, and pairs of them: a descriptor or a code is one.
 pub const RAM_CELLS: u32 = 1024;
+
+pub const RAM_PAIRS: usize = 512;
+
+// Cells of a user character, and of all 26.
+pub const USER_LENGTH: u16 = 38;
 
 pub const USER_CELLS: u16 = 988;
 
 // Lines of a frame at the most.
 pub const FRAME_LINES: u32 = 2048;
+
+// No frame has this many lines: 0, or above the most.
+pub fn bad_line_count(lines: u32) -> bool
+    ensures { λ r. ⌜ r ≡ badLineCount lines ⌝ }
+{
+    if lines == 0 {
+        return true;
+    }
+    lines > FRAME_LINES
+}

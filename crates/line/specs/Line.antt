@@ -1,19 +1,19 @@
--- Document 01, "Pixels", as request K7 mends it: a line is scanned, then painted.
+-- Document 01, "Codes and glyphs" along a row, and "Pixels", as request K7 mends it: a line is scanned, then painted.
 -- `scan` reads descriptor, codes and user slices and no font, so the cells that a line reads are known without one.
 -- `paint` makes the line's W pixels of what was scanned.
 -- Assumes nothing.
-use Prim.Native.Nat.{ℕ, zero, suc, _+_, _-_, min}
+use Prim.Native.Nat.{ℕ, zero, suc, _-_, min}
 use mathlib.Core.Bool.{Bool, cond}
 use mathlib.Core.List.{List, [], _∷_, _++_}
 use lib.ListN.{take, replicate}
-use Rattle.cells.specs.Reading.{code, Reading, done, read, bind, fmap}
+use Rattle.cells.specs.Reading.{code, Reading, done, bind, fmap}
 use Rattle.registers.specs.declared.Settings.{Settings}
 use Rattle.raster.specs.declared.Slice.{Slice}
 use Rattle.raster.specs.Raster.{interpolated, widthOf, firstPixelOf, charactersOf, hiddenIn}
 use Rattle.walk.specs.declared.Strip.{Strip}
 use Rattle.walk.specs.declared.Strip.the-variants.{Spacing, Characters}
 use Rattle.walk.specs.declared.Walk.{Walk}
-use Rattle.walk.specs.Walk.{even, next, nextLine}
+use Rattle.walk.specs.Walk.{next, readPair, nextLine}
 use Rattle.glyph.specs.Glyph.{Glyph, endsLine, glyphOf, bitsOf}
 use Rattle.paint.specs.Pixels.{plainOf, shownBits, twelveColumns}
 
@@ -24,6 +24,7 @@ pub record Place : Type 0 where
   pub low : ℕ
   pub glyph : Glyph
 
+-- what a line finds: where it brings the walk, and its characters
 pub record Scanned : Type 0 where
   pub walk : Walk
   pub row : List Place
@@ -36,8 +37,7 @@ module _ (look : ℕ → Slice → Reading Glyph) where
   unfoldable pub codesBy : ℕ → Slice → ℕ → Reading (List Place)
   codesBy zero s a = done []
   codesBy (suc n) s a =
-      read code (even a) λ low.
-      read code (even a + 1) λ high.
+      readPair code a λ low high.
       cond (endsLine high)
       (done [])
       (bind (look high s) λ g. fmap (λ places. (record { low = low; glyph = g }) ∷ places) (codesBy n s (next a)))

@@ -1,7 +1,7 @@
 -- Request K7: what it changes of document 01's line, and that it changes nothing else.
 -- For every record of settings, font, frame number and row, made-up ones too.
 -- Assumes nothing.
-use Prim.Native.Nat.{ℕ, _-_, _/_, _%_, _<_}
+use Prim.Native.Nat.{ℕ, _-_, _/_, _%_, _^_, _<_}
 use mathlib.Core.Path.{_≡_}
 use mathlib.Core.Bool.{Bool, false, cond, _&&_}
 use mathlib.Core.List.{List, [], _∷_, _++_}
@@ -25,7 +25,7 @@ paintApart s font f row = inLine s (apart font (plainOf (s .fbk)) (hiddenIn (s .
 -- shadowed (BK3 1 and BK1 1); and p drew foreground in its last column, PX0, so it is neither hidden nor blank
 unfoldable pub crosses : List ℕ → Bool → Place → Place → Bool
 crosses font hidden p q =
-    eqb (shownOf font hidden q / 2048 % 2) 0 && (eqb (q .low / 8 % 2) 1 && (eqb (q .low / 2 % 2) 1 && eqb (shownOf font hidden p % 2) 1))
+    eqb (shownOf font hidden q / 2 ^ 11 % 2) 0 && (eqb (q .low / 8 % 2) 1 && (eqb (q .low / 2 % 2) 1 && eqb (shownOf font hidden p % 2) 1))
 
 -- column j of a row, counted from its first character's first pixel, is the leftmost of a character that the shadow of the one just to its left
 -- crosses into. The first character has none

@@ -17,8 +17,8 @@ use lib.ListN.{length, drop, set}
 use lib.Seq.{drop-drop, drop-length}
 use Rattle.paint.specs.declared.Paint.{Paint}
 use Rattle.paint.specs.declared.Fours.{Fours}
-use Rattle.paint.specs.Pixels.{Ink, inkOf, pixel, columns, shownBits, twelveColumns}
-use Rattle.paint.specs.Tables.{inFour, facing, casting, ofPixel, fores, backs, shows, paintOf, takesShadow, solid, shadowed, IsPlain, fourOf, inFours, columnPixels, CharacterDrawn}
+use Rattle.paint.specs.Pixels.{Ink, inkOf, pixel, columns, shownBits, twelveColumns, takesShadow}
+use Rattle.paint.specs.Tables.{inFour, facing, casting, ofPixel, fores, backs, shows, paintOf, solid, shadowed, IsPlain, fourOf, inFours, columnPixels, CharacterDrawn}
 use Rattle.paint.proofs.Laws.{Inks, ink-below}
 
 -- ---- exclusive or and masks on bytes

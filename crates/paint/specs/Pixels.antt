@@ -17,6 +17,10 @@ flashes low = eqb (low / 128 % 2) 1
 abbrev pub foreground : ℕ → ℕ
 foreground low = 8 + low / 16 % 8
 
+-- a shadowed character, whose background takes shadow: BK3 1 and BK1 1
+abbrev pub takesShadow : ℕ → Bool
+takesShadow low = cond (eqb (low / 8 % 2) 0) false (cond (eqb (low / 2 % 2) 0) false true)
+
 -- background with BK3 0: colour BK[2:0], FBLK 1. BK3 1 and BK1 0: plain. BK3 1 and BK1 1: black with FBLK 1 where the pixel to
 -- the left is foreground (beside), else plain; to the left of a leftmost column stands the last column of the character just to its left
 -- (K7). BK2 and BK0 are then ignored (H)
@@ -30,6 +34,7 @@ pub record Ink : Type 0 where
   pub cast : ℕ
   pub back : ℕ
 
+-- by its low byte
 unfoldable pub inkOf : ℕ → ℕ → Ink
 inkOf plain low = record { fore = foreground low; cast = background plain low true; back = background plain low false }
 

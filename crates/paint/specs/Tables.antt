@@ -2,10 +2,10 @@
 -- Assumes nothing.
 use Prim.Native.Nat.{ℕ, zero, suc, _+_, _-_, _*_, _/_, _%_, _<_}
 use mathlib.Core.Path.{_≡_}
-use mathlib.Core.Bool.{Bool, true, false, cond, _&&_}
+use mathlib.Core.Bool.{Bool, cond, _&&_}
 use mathlib.Core.List.{List, [], _∷_, _++_}
 use lib.Bits.{bitAnd, bitOr, bitXor}
-use lib.Dec.{eqb, ltb, leb}
+use lib.Dec.{ltb, leb}
 use lib.ListN.{take}
 use Rattle.paint.specs.declared.Paint.{Paint}
 use Rattle.paint.specs.declared.Fours.{Fours}
@@ -65,10 +65,6 @@ paintOf plain hidden low =
       fore = bitXor (backs plain (low % 16)) (fores (low / 16));
       kept = shows hidden (low / 16);
     }
-
--- BK3 1 and BK1 1: a shadowed character, whose background takes shadow
-abbrev pub takesShadow : ℕ → Bool
-takesShadow low = cond (eqb (low / 8 % 2) 0) false (cond (eqb (low / 2 % 2) 0) false true)
 
 -- four columns with no shadow, and with it
 unfoldable pub solid : Paint → ℕ → ℕ

@@ -3,7 +3,8 @@ ghost use mathlib.Core.Path.{_≡_};
 ghost use mathlib.Core.Bool.{cond};
 ghost use Prim.Native.Nat.{_%_, _≤_, _<_};
 ghost use lib.ListN.{length, take};
-ghost use Rattle.paint.specs.Tables.{HasMasks, IsPlain, rowTable, ofPixel, paintOf, takesShadow, solid, shadowed, fourOf, inFours, columnPixels, CharacterDrawn};
+ghost use Rattle.paint.specs.Pixels.{takesShadow};
+ghost use Rattle.paint.specs.Tables.{HasMasks, IsPlain, rowTable, ofPixel, paintOf, solid, shadowed, fourOf, inFours, columnPixels, CharacterDrawn};
 
 // What a code draws four columns with: a byte for a column.
 pub struct Paint {
@@ -64,7 +65,7 @@ const BACKS: usize = 80;
 
 const SHOWS: usize = 96;
 
-fn four_of(pixel: u8) -> u32
+fn of_pixel(pixel: u8) -> u32
     ensures { λ r. ⌜ r ≡ ofPixel pixel ⌝ }
 {
     pixel as u32 * 0x01010101
@@ -82,7 +83,7 @@ fn bits_kept(hidden: bool) -> u32
 pub fn row_table(plain: u8, hidden: bool) -> [u32; 112]
     ensures { λ r. ⌜ r ≡ rowTable plain hidden ⌝ }
 {
-    let p = four_of(plain);
+    let p = of_pixel(plain);
     let a = bits_kept(false);
     let h = bits_kept(hidden);
     [

@@ -2,27 +2,29 @@
 -- Assumes nothing.
 use Prim.Native.Nat.{ℕ, zero, suc, _+_, _-_, _/_, _%_, _≤_, _<_}
 use mathlib.Core.Path.{_≡_, refl, sym, ap, _∙_}
-use mathlib.Core.Bool.{Bool, true, false, cond, false≢true}
+use mathlib.Core.Bool.{Bool, true, false, cond, _||_, false≢true}
 use mathlib.Core.List.{List}
 use native.Mathlib.Omega.{arith}
 use borrow.Author.Tests.{eq-eqb, ltb-true, lt-ltb, le-ltb, lt-leb}
-use lib.Dec.{eqb, ltb}
+use lib.Dec.{eqb, leb, ltb}
 use lib.ListN.{length, getD}
-use Rattle.limits.specs.Limits.{ramLength, fontLength, frameLines}
+use Rattle.limits.specs.Limits.{ramLength, fontLength, frameLines, badLineCount}
+use Rattle.limits.proofs.Laws.{some-frame}
 use Rattle.cells.specs.Reading.{slice, done, read, value}
-use Rattle.refusals.specs.Refusals.{accepted}
+use Rattle.refusals.specs.declared.Refusal.the-variants.{PixelRange}
+use Rattle.refusals.specs.Refusals.{accepted, passed, refuseIf}
 use Rattle.registers.specs.declared.Registers.{Registers}
 use Rattle.registers.specs.Registers.{settingsOf}
 use Rattle.raster.specs.declared.Slice.{Slice}
 use Rattle.raster.specs.Raster.{InStrip, beforeFirst, stripLines, widthOf}
 use Rattle.raster.proofs.Laws.{all-after}
 use Rattle.walk.specs.declared.Strip.the-variants.{Spacing, Characters}
-use Rattle.walk.specs.Walk.{even, next, atLeastOne, isSpacing, enabledBy, zoomedBy, codesAt, showsCodes, stripOf, linesLeft}
+use Rattle.walk.specs.Walk.{even, next, spacingLines, heightOf, isSpacing, enabledBy, zoomedBy, codesAt, showsCodes, stripOf, linesLeft}
 use Rattle.walk.proofs.Laws.{stripOf-some}
 use Rattle.glyph.specs.Words.{wordIn}
 use Rattle.glyph.proofs.Laws.{word-low}
-use Rattle.glyph.specs.Glyph.{font, user, blank, endsLine, userCell, fontByte, inRam, glyphOf, bitsOf}
-use Rattle.device.proofs.Laws.{some-frame}
+use Rattle.glyph.specs.Glyph.{font, user, blank, endsLine, userCell, fontByte, inRam, glyphOf, ofBytes, bitsOf}
+use Rattle.device.specs.Device.{frameNumber}
 use Rattle.pixel.specs.declared.Pair.{Pair}
 use Rattle.pixel.specs.declared.StripLine.{StripLine}
 use Rattle.pixel.specs.Pixel.{pairAt, linesOf, fallsIn, ended, twelveAt, sliceBits, pixelAt}
@@ -36,13 +38,13 @@ unfolding stripOf linesLeft
 lines-left ch d = by (isSpacing (d .high))
   where
     by : (t : Bool)
-        → cond t (atLeastOne (d .low)) (stripLines (atLeastOne ch) (zoomedBy (d .high)))
+        → cond t (spacingLines (d .low)) (stripLines (heightOf ch) (zoomedBy (d .high)))
         ≡ linesLeft
         (cond t
-        (Spacing (atLeastOne (d .low)))
-        (Characters (codesAt (d .low) (d .high)) (atLeastOne ch) (zoomedBy (d .high)) (enabledBy (d .high)) beforeFirst))
+        (Spacing (spacingLines (d .low)))
+        (Characters (codesAt (d .low) (d .high)) (heightOf ch) (zoomedBy (d .high)) (enabledBy (d .high)) beforeFirst))
     by true = refl
-    by false = sym (all-after (atLeastOne ch) (zoomedBy (d .high)))
+    by false = sym (all-after (heightOf ch) (zoomedBy (d .high)))
 
 pub lines-some : (ch : ℕ) (d : Pair) → 1 ≤ linesOf ch d
 lines-some ch d = omega (arith, lines-left ch d, stripOf-some ch (d .low) (d .high))
@@ -98,15 +100,15 @@ module _ (ram : List ℕ) (ch : ℕ) where
 
   -- a line of its strip, where that shows codes
   pub falls-shown : (a y : ℕ) → showsCodes (fallsIn y ram ch a y .descriptor .high) ≡ true
-      → InStrip (fallsIn y ram ch a y .line) (atLeastOne ch) (zoomedBy (fallsIn y ram ch a y .descriptor .high))
+      → InStrip (fallsIn y ram ch a y .line) (heightOf ch) (zoomedBy (fallsIn y ram ch a y .descriptor .high))
   falls-shown a y e = by (isSpacing (l .descriptor .high)) e (falls-within y a y (omega arith) .1)
     where
       l : StripLine
       l = fallsIn y ram ch a y
 
       by : (t : Bool) → cond t false (enabledBy (l .descriptor .high)) ≡ true
-          → l .line .0 ≤ cond t (atLeastOne (l .descriptor .low)) (stripLines (atLeastOne ch) (zoomedBy (l .descriptor .high)))
-          → InStrip (l .line) (atLeastOne ch) (zoomedBy (l .descriptor .high))
+          → l .line .0 ≤ cond t (spacingLines (l .descriptor .low)) (stripLines (heightOf ch) (zoomedBy (l .descriptor .high)))
+          → InStrip (l .line) (heightOf ch) (zoomedBy (l .descriptor .high))
       by true q h = absurd (false≢true q)
       by false q h = record { from = falls-within y a y (omega arith) .0; to = h }
 
@@ -129,7 +131,7 @@ module _ (ram : List ℕ) (a : ℕ) where
 
 -- what the glyph lookup gives of a code
 pub bits-glyph : (ram f : List ℕ) (high : ℕ) (s : Slice) → sliceBits ram f high (s .0) ≡ bitsOf f (value ram (glyphOf high s))
-unfolding glyphOf inRam value bitsOf
+unfolding glyphOf inRam value ofBytes
 bits-glyph ram f high s = by (eqb (high / 128 % 2) 0) (ltb (high % 128) 26)
   where
     by : (t u : Bool)
@@ -149,16 +151,18 @@ pub bits-word : (ram f : List ℕ) (high : ℕ) (s : Slice) → ((i : ℕ) → g
     → wordIn ram f high s .bits % 4096 ≡ sliceBits ram f high (s .0)
 bits-word ram f high s b d = word-low ram f high s b d ∙ sym (bits-glyph ram f high s)
 
--- ---- a question that no test refuses
+-- ---- a question's tests
 
-pub ask-passed : (r : Registers) (ram f : List ℕ) (lines frame x y : ℕ) → length ram ≡ ramLength → length f ≡ fontLength → 1 ≤ lines → lines ≤ frameLines
-    → x < widthOf (settingsOf r .ld) → y < lines → askPixel r ram f lines frame x y ≡ accepted (pixelAt r ram f (frame % 64) x y)
-unfolding askPixel pixelVerdict pixelBy
-ask-passed r ram f lines frame x y a b h k w v =
-    rw (
-      eq-eqb (length ram) ramLength a,
-      eq-eqb (length f) fontLength b,
-      some-frame lines h k,
-      lt-leb (widthOf (settingsOf r .ld)) x w,
-      lt-leb lines y v,
-    )
+module _ (r : Registers) (ram f : List ℕ) (lines frame x y : ℕ) (a : length ram ≡ ramLength) (b : length f ≡ fontLength) where
+  -- where those before it find nothing, the range decides
+  pub by-range : badLineCount lines ≡ false
+      → askPixel r ram f lines frame x y
+      ≡ pixelBy (refuseIf (leb (widthOf (settingsOf r .ld)) x || leb lines y) PixelRange passed) (pixelAt r ram f (frameNumber frame) x y)
+  unfolding askPixel pixelVerdict
+  by-range h = rw (eq-eqb (length ram) ramLength a, eq-eqb (length f) fontLength b, h)
+
+  -- where none finds anything, the pixel is answered
+  pub ask-passed : 1 ≤ lines → lines ≤ frameLines → x < widthOf (settingsOf r .ld) → y < lines
+      → askPixel r ram f lines frame x y ≡ accepted (pixelAt r ram f (frameNumber frame) x y)
+  unfolding pixelBy
+  ask-passed h k w v = by-range (some-frame lines h k) ∙ rw (lt-leb (widthOf (settingsOf r .ld)) x w, lt-leb lines y v)

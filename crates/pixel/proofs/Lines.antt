@@ -1,6 +1,6 @@
 -- The pixel of a line is the one that the line has there: the walk comes, line by line, to the line that is found strip by strip.
 -- Assumes nothing.
-use Prim.Native.Nat.{ℕ, zero, suc, _+_, _-_, _*_, _≤_, _<_, min}
+use Prim.Native.Nat.{ℕ, zero, suc, _+_, _-_, _≤_, _<_, min}
 use mathlib.Core.Path.{_≡_, refl, sym, ap, ap₂, _∙_}
 use mathlib.Core.Bool.{Bool, true, false, not, cond}
 use mathlib.Core.List.{List, [], _++_}
@@ -19,8 +19,8 @@ use Rattle.raster.specs.Raster.{beforeFirst, following, interpolated, widthOf, 
 use Rattle.walk.specs.declared.Strip.{Strip}
 use Rattle.walk.specs.declared.Strip.the-variants.{Spacing, Characters}
 use Rattle.walk.specs.declared.Walk.{Walk}
-use Rattle.walk.specs.Walk.{even, next, walkAt, walkFrom, atLeastOne, isSpacing, enabledBy, zoomedBy, codesAt, showsCodes, stripOf, over, linesLeft, advanced}
-use Rattle.walk.proofs.Laws.{none-over, advancedBy, left-by, stripAt, codes-shown}
+use Rattle.walk.specs.Walk.{even, next, walkAt, pageAddress, walkFrom, isSpacing, enabledBy, zoomedBy, codesAt, spacingLines, heightOf, showsCodes, stripOf, over, linesLeft, advanced}
+use Rattle.walk.proofs.Laws.{next-even, none-over, advancedBy, left-by, stripAt, codes-shown}
 use Rattle.walk.proofs.Lines.{walkAfter, one-more, after-both, next-strip}
 use Rattle.paint.specs.Pixels.{plainOf}
 use Rattle.line.specs.declared.Pen.{Pen}
@@ -59,16 +59,15 @@ module _ (ram : List ℕ) (ch : ℕ) where
       let lines : ℕ = linesOf ch (pairAt ram a) in
       let left : linesLeft (stripAt ram ch (w .descriptor)) ≡ lines =
       sym (lines-left ch (pairAt ram (w .descriptor))) ∙ ap (linesOf ch) (pair-same ram (w .descriptor) a e) in
-      let passed : walkAfter ram ch lines w ≡ walkAt (next (even (w .descriptor))) (advancedBy lines (stripAt ram ch (w .descriptor))) =
+      let passed : walkAfter ram ch lines w ≡ walkAt (next (w .descriptor)) (advancedBy lines (stripAt ram ch (w .descriptor))) =
       next-strip ram ch lines w o (lines-some ch (pairAt ram a)) (omega (arith, left)) in
       let then : suc y ≡ lines + suc (y - lines) = omega arith in
-      let from-even : next (even a) ≡ next a = omega arith in
       ap (λ (k : ℕ). walkAfter ram ch k w .strip) then
       ∙ ap (λ (v : Walk). v .strip) (after-both ram ch lines (suc (y - lines)) w)
       ∙ ih (walkAfter ram ch lines w)
       (ap (λ (v : Walk). over (v .strip)) passed
       ∙ none-over (advancedBy lines (stripAt ram ch (w .descriptor))) (left-by lines (stripAt ram ch (w .descriptor)) ∙ omega (arith, left)))
-      (ap (λ (v : Walk). even (v .descriptor)) passed ∙ ap (λ (i : ℕ). even (next i)) e ∙ ap even from-even)
+      (ap (λ (v : Walk). even (v .descriptor)) passed ∙ ap even (sym (next-even (w .descriptor)) ∙ ap next e ∙ next-even a))
       ∙ ap shownStrip (sym (falls-later ram ch a y h))
 
   -- line by line as strip by strip: n bounds the strips
@@ -103,7 +102,7 @@ unfolding stripOf hasRow
 row-of ch low high = by (isSpacing high)
   where
     by : (t : Bool)
-        → hasRow (cond t (Spacing (atLeastOne low)) (Characters (codesAt low high) (atLeastOne ch) (zoomedBy high) (enabledBy high) beforeFirst))
+        → hasRow (cond t (Spacing (spacingLines low)) (Characters (codesAt low high) (heightOf ch) (zoomedBy high) (enabledBy high) beforeFirst))
         ≡ cond t false (enabledBy high)
     by true = refl
     by false = refl
@@ -165,13 +164,13 @@ module _ (ram font : List ℕ) (s : Settings) (f x : ℕ) (inside : x < widthOf 
   unfolding beforeFirst
   characters-pixel at o e =
       let d : Pair = at .descriptor in
-      let shown : shownStrip ram (s .ch) at ≡ Characters (codesAt (d .low) (d .high)) (atLeastOne (s .ch)) (zoomedBy (d .high)) true (at .line) =
+      let shown : shownStrip ram (s .ch) at ≡ Characters (codesAt (d .low) (d .high)) (heightOf (s .ch)) (zoomedBy (d .high)) true (at .line) =
       ap (advancedBy (at .line .0)) (codes-shown (s .ch) (d .low) (d .high) e)
-      ∙ characters-by (at .line .0) (codesAt (d .low) (d .high)) (atLeastOne (s .ch)) (zoomedBy (d .high)) true beforeFirst
-      ∙ ap (λ (j : ℕ). Characters (codesAt (d .low) (d .high)) (atLeastOne (s .ch)) (zoomedBy (d .high)) true (record { 0 = j })) (zero-add (at .line .0))
+      ∙ characters-by (at .line .0) (codesAt (d .low) (d .high)) (heightOf (s .ch)) (zoomedBy (d .high)) true beforeFirst
+      ∙ ap (λ (j : ℕ). Characters (codesAt (d .low) (d .high)) (heightOf (s .ch)) (zoomedBy (d .high)) true (record { 0 = j })) (zero-add (at .line .0))
       in
       ap (λ (t : Strip). getD (paint s font f (value ram (shownRow s t))) x 0) shown
-      ∙ row-pixel (codesAt (d .low) (d .high)) (atLeastOne (s .ch)) (zoomedBy (d .high)) (at .line) (omega arith) o
+      ∙ row-pixel (codesAt (d .low) (d .high)) (heightOf (s .ch)) (zoomedBy (d .high)) (at .line) (omega arith) o
 
   line-pixel : (at : StripLine)
       → getD (paint s font f (value ram (shownRow s (shownStrip ram (s .ch) at)))) x 0
@@ -200,5 +199,5 @@ pixel-is r ram font f x y h =
     let w : Walk = walkFrom (pageOf r) in
     ap (λ (z : Scanned). getD (paint s font f (z .row)) x 0) (scan-value shownRow ram s (walkAfter ram (s .ch) y w))
     ∙ ap (λ (t : Strip). getD (paint s font f (value ram (shownRow s t))) x 0)
-    (ap (λ (v : Walk). v .strip) (sym (one-more ram (s .ch) y w)) ∙ falls-strip ram (s .ch) y y (pageOf r * 64) w (omega arith) refl refl)
-    ∙ line-pixel ram font s f x h (fallsIn y ram (s .ch) (pageOf r * 64) y)
+    (ap (λ (v : Walk). v .strip) (sym (one-more ram (s .ch) y w)) ∙ falls-strip ram (s .ch) y y (pageAddress (pageOf r)) w (omega arith) refl refl)
+    ∙ line-pixel ram font s f x h (fallsIn y ram (s .ch) (pageAddress (pageOf r)) y)

@@ -13,8 +13,8 @@ use Rattle.registers.specs.declared.Settings.{Settings}
 use Rattle.registers.specs.Registers.{settingsOf, pageOf}
 use Rattle.raster.specs.declared.Slice.{Slice}
 use Rattle.raster.specs.Raster.{stripLines, interpolated, firstPixelOf, hiddenIn}
-use Rattle.walk.specs.Walk.{even, next, atLeastOne, isSpacing, zoomedBy, codesAt, showsCodes}
-use Rattle.glyph.specs.Glyph.{endsLine, userCell, fontByte, twelve}
+use Rattle.walk.specs.Walk.{even, next, pageAddress, isSpacing, zoomedBy, codesAt, spacingLines, heightOf, showsCodes}
+use Rattle.glyph.specs.Glyph.{fromFont, numberIn, isUser, endsLine, fontByte, userCell, twelve}
 use Rattle.paint.specs.Pixels.{plainOf, flashes, foreground, background}
 use Rattle.pixel.specs.declared.Pair.{Pair}
 use Rattle.pixel.specs.declared.StripLine.{StripLine}
@@ -28,11 +28,11 @@ pairAt ram a = record { low = getD ram (even a) 0; high = getD ram (even a + 1) 
 
 -- spacing has SL lines; characters have CH lines, or twice that with ZY. SL or CH of 0 is taken as 1 (H)
 abbrev pub linesOf : ℕ → Pair → ℕ
-linesOf ch d = cond (isSpacing (d .high)) (atLeastOne (d .low)) (stripLines (atLeastOne ch) (zoomedBy (d .high)))
+linesOf ch d = cond (isSpacing (d .high)) (spacingLines (d .low)) (stripLines (heightOf ch) (zoomedBy (d .high)))
 
 -- line y, counted from the first line of the strip whose descriptor lies at an address, is a line of that strip, where lines count from 1, or it
 -- falls in the strips after it. n is how many strips may still be passed: y is enough, since each has a line at least, and where n is 0 so is y
-unfoldable pub fallsIn : ℕ → List ℕ → ℕ → ℕ → ℕ → StripLine
+unfoldable pub fallsIn : (n : ℕ) (ram : List ℕ) (ch a y : ℕ) → StripLine
 fallsIn zero ram ch a y = record { descriptor = pairAt ram a; line = record { 0 = y + 1 } }
 fallsIn (suc n) ram ch a y =
     cond (ltb y (linesOf ch (pairAt ram a)))
@@ -43,7 +43,7 @@ fallsIn (suc n) ram ch a y =
 
 -- the slice that a line of characters shows: n times 18 over CH, rounded, halves up (H), and 1 at the least (K2)
 abbrev pub sliceOf : ℕ → StripLine → Slice
-sliceOf ch at = interpolated (at .line) (atLeastOne ch) (zoomedBy (at .descriptor .high))
+sliceOf ch at = interpolated (at .line) (heightOf ch) (zoomedBy (at .descriptor .high))
 
 -- ---- "Codes and glyphs"
 
@@ -57,18 +57,18 @@ abbrev pub twelveAt : List ℕ → ℕ → ℕ
 twelveAt bytes i = twelve (getD bytes i 0) (getD bytes (i + 1) 0)
 
 -- what a code's high byte shows in a slice. SET 0: a font character. SET 1, 0 to 25: a user character; 26 to 126: all background (H)
-abbrev pub sliceBits : List ℕ → List ℕ → ℕ → ℕ → ℕ
+abbrev pub sliceBits : (ram font : List ℕ) (high slice : ℕ) → ℕ
 sliceBits ram font high slice =
-    let number : ℕ = high % 128 in
-    cond (eqb (high / 128 % 2) 0)
+    let number : ℕ = numberIn high in
+    cond (fromFont high)
     (twelveAt font (fontByte number slice))
-    (cond (ltb number 26) (twelveAt ram (userCell number slice)) 0)
+    (cond (isUser number) (twelveAt ram (userCell number slice)) 0)
 
 -- ---- "Pixels"
 
 -- is column c of a character, 0 to 11, foreground? PX11 is leftmost. A flashing character in its hidden time draws foreground as background and
 -- casts no shadow
-abbrev pub isForeground : Bool → ℕ → ℕ → ℕ → Bool
+abbrev pub isForeground : (hidden : Bool) (low bits c : ℕ) → Bool
 isForeground hidden low bits c = not (hidden && flashes low) && eqb (bits / 2 ^ (11 - c) % 2) 1
 
 -- the code of column j of a row: columns are counted from its first character's first pixel, twelve a code
@@ -95,7 +95,7 @@ rowPixel ram font row j =
     (cond (foregroundAt ram font row j) (foreground low) (background (row .plain) low (besideAt ram font row j)))
 
 -- column x of a line of characters: plain before the first character, then the row. x is below W, so its code is read; W cuts the last
-abbrev pub charactersPixel : Settings → List ℕ → List ℕ → ℕ → StripLine → ℕ → ℕ
+abbrev pub charactersPixel : Settings → (ram font : List ℕ) (f : ℕ) → StripLine → (x : ℕ) → ℕ
 charactersPixel s ram font f at x =
     let first : ℕ = firstPixelOf (s .dd) in
     let row : Row =
@@ -110,9 +110,9 @@ charactersPixel s ram font f at x =
 
 -- the pixel at column x, below W, of line y, in a frame with number f, 0 to 63. Descriptors from P times 64 on. OSD 0: every pixel 0. Spacing
 -- strips and strips with DE 0 are plain
-unfoldable pub pixelAt : Registers → List ℕ → List ℕ → ℕ → ℕ → ℕ → ℕ
+unfoldable pub pixelAt : Registers → (ram font : List ℕ) (f x y : ℕ) → ℕ
 pixelAt r ram font f x y =
     let s : Settings = settingsOf r in
-    let at : StripLine = fallsIn y ram (s .ch) (pageOf r * 64) y in
+    let at : StripLine = fallsIn y ram (s .ch) (pageAddress (pageOf r)) y in
     cond (not (s .osd)) 0
     (cond (not (showsCodes (at .descriptor .high))) (plainOf (s .fbk)) (charactersPixel s ram font f at x))

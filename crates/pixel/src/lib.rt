@@ -1,11 +1,11 @@
 // One pixel of a frame, asked for by column and line: document 01 as plainly as it can be read, for the bench. Nothing is kept between
 // calls, so every call walks from the frame's first descriptor. A line is drawn faster by the device's own draw.
 ghost use mathlib.Core.Path.{_≡_};
-ghost use Prim.Native.Nat.{_<_, _≤_};
+ghost use Prim.Native.Nat.{_<_};
 ghost use lib.ListN.{length};
 ghost use Rattle.limits.specs.Limits.{ramLength, frameLines};
 ghost use Rattle.raster.specs.Raster.{InStrip, OnScreen};
-ghost use Rattle.walk.specs.Walk.{atLeastOne, zoomedBy};
+ghost use Rattle.walk.specs.Walk.{zoomedBy, heightOf};
 ghost use Rattle.glyph.specs.Glyph.{Lent};
 ghost use Rattle.paint.specs.Pixels.{foreground, background};
 ghost use Rattle.pixel.specs.Pixel.{pairAt, linesOf, fallsIn, sliceOf, ended, isForeground, codeOf, foregroundAt, besideAt, rowPixel, pixelAt};
@@ -59,13 +59,13 @@ fn pair_at(ram: &[u8], address: u16) -> Pair
 fn lines_of(ch: u8, descriptor: Pair) -> u16
     ensures { λ r. ⌜ r ≡ linesOf ch descriptor ⌝ }
 {
-    walk::strip_lines(ch, descriptor.low, descriptor.high)
+    walk::descriptor_lines(ch, descriptor.low, descriptor.high)
 }
 
 // Strip by strip: the strip that line y falls in, of those from a descriptor on.
 fn falls_in(ram: &[u8], ch: u8, first: u16, y: u16) -> StripLine
     requires { ⌜ length (now ram) ≡ ramLength ⌝ }
-    requires { ⌜ (first ≤ 1022) × (y < frameLines) ⌝ }
+    requires { ⌜ (first < ramLength) × (y < frameLines) ⌝ }
     ensures { λ r. ⌜ r ≡ fallsIn y (now (ram .entry)) ch first y ⌝ }
 {
     let mut at = first;
@@ -80,7 +80,7 @@ fn falls_in(ram: &[u8], ch: u8, first: u16, y: u16) -> StripLine
             };
         }
         left -= lines;
-        at = walk::even_address(at + 2);
+        at = walk::next_address(at);
     }
 }
 
@@ -106,27 +106,27 @@ fn is_foreground(hidden: bool, low: u8, bits: u16, column: u16) -> bool
 // Is one of a row's first codes, up to the one with this number, the end of line?
 fn ended_by(ram: &[u8], first: u16, number: u16) -> bool
     requires { ⌜ length (now ram) ≡ ramLength ⌝ }
-    requires { ⌜ first ≤ 1022 ⌝ }
+    requires { ⌜ first < ramLength ⌝ }
     ensures { λ r. ⌜ r ≡ ended number (now (ram .entry)) first ⌝ }
 {
     let mut at = first;
     let mut left = number;
     while left > 0 {
         let code = pair_at(ram, at);
-        if code.high == 255 {
+        if glyph::ends_line(code.high) {
             return true;
         }
         left -= 1;
-        at = walk::even_address(at + 2);
+        at = walk::next_address(at);
     }
     let code = pair_at(ram, at);
-    code.high == 255
+    glyph::ends_line(code.high)
 }
 
 // The code of a column of a row, counted from its first character's first pixel.
 fn code_of(ram: &[u8], row: Row, column: u16) -> Pair
     requires { ⌜ length (now ram) ≡ ramLength ⌝ }
-    requires { ⌜ row .address ≤ 1022 ⌝ }
+    requires { ⌜ row .address < ramLength ⌝ }
     ensures { λ r. ⌜ r ≡ codeOf (now (ram .entry)) row column ⌝ }
 {
     pair_at(ram, row.address + 2 * (column / 12))
@@ -136,7 +136,7 @@ fn code_of(ram: &[u8], row: Row, column: u16) -> Pair
 fn foreground_at<'a>(ram: &'a [u8], font: &'a [u8], row: Row, column: u16) -> bool
     requires { ⌜ Lent (now ram) (now font) ⌝ }
     requires { ⌜ OnScreen (row .slice) ⌝ }
-    requires { ⌜ row .address ≤ 1022 ⌝ }
+    requires { ⌜ row .address < ramLength ⌝ }
     ensures { λ r. ⌜ r ≡ foregroundAt (now (ram .entry)) (now (font .entry)) row column ⌝ }
 {
     let code = code_of(ram, row, column);
@@ -148,7 +148,7 @@ fn foreground_at<'a>(ram: &'a [u8], font: &'a [u8], row: Row, column: u16) -> bo
 fn background_at<'a>(ram: &'a [u8], font: &'a [u8], row: Row, low: u8, column: u16) -> u8
     requires { ⌜ Lent (now ram) (now font) ⌝ }
     requires { ⌜ OnScreen (row .slice) ⌝ }
-    requires { ⌜ row .address ≤ 1022 ⌝ }
+    requires { ⌜ row .address < ramLength ⌝ }
     ensures { λ r. ⌜ r ≡ background (row .plain) low (besideAt (now (ram .entry)) (now (font .entry)) row column) ⌝ }
 {
     if low / 8 % 2 == 0 {
@@ -171,7 +171,7 @@ fn background_at<'a>(ram: &'a [u8], font: &'a [u8], row: Row, low: u8, column: u
 fn row_pixel<'a>(ram: &'a [u8], font: &'a [u8], row: Row, column: u16) -> u8
     requires { ⌜ Lent (now ram) (now font) ⌝ }
     requires { ⌜ OnScreen (row .slice) ⌝ }
-    requires { ⌜ row .address ≤ 1022 ⌝ }
+    requires { ⌜ row .address < ramLength ⌝ }
     ensures { λ r. ⌜ r ≡ rowPixel (now (ram .entry)) (now (font .entry)) row column ⌝ }
 {
     if ended_by(ram, row.address, column / 12) {
@@ -186,12 +186,12 @@ fn row_pixel<'a>(ram: &'a [u8], font: &'a [u8], row: Row, column: u16) -> u8
 
 // The slice that a line of characters shows.
 fn slice_of(ch: u8, at: StripLine) -> Slice
-    requires { ⌜ InStrip (at .line) (atLeastOne ch) (zoomedBy (at .descriptor .high)) ⌝ }
+    requires { ⌜ InStrip (at .line) (heightOf ch) (zoomedBy (at .descriptor .high)) ⌝ }
     ensures { λ r. ⌜ r ≡ sliceOf ch at ⌝ }
 {
     let descriptor = at.descriptor;
     let line = at.line;
-    line.slice_by_steps(walk::at_least_one(ch), walk::zoom(descriptor.high))
+    line.slice_by_steps(walk::height(ch), walk::zoom(descriptor.high))
 }
 
 fn pixel_at<'a>(
@@ -248,10 +248,7 @@ pub fn ask<'a>(
     if font.len() != limits::FONT_LENGTH {
         return PixelAnswer::Refused(Refusal::FontLength);
     }
-    if lines == 0 {
-        return PixelAnswer::Refused(Refusal::FrameLines);
-    }
-    if lines > limits::FRAME_LINES {
+    if limits::bad_line_count(lines) {
         return PixelAnswer::Refused(Refusal::FrameLines);
     }
     let registers = device.registers;

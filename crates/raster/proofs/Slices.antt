@@ -15,12 +15,12 @@ use Rattle.facts.proofs.Tests.{iff, or-cases, or-first, or-second}
 use Rattle.raster.specs.declared.ScanLine.{ScanLine}
 use Rattle.raster.specs.declared.Slice.{Slice}
 use Rattle.raster.specs.Raster.{stripLines, beforeFirst, following, linesAfter, unzoomed, sliceNumber, interpolated}
-use Rattle.raster.specs.Search.{sameSlice, sliceShown, startsAt}
+use Rattle.raster.specs.Search.{sameSlice, sliceShown, heightsTo}
 use Rattle.raster.proofs.Laws.{height-pos, following-in}
 
 -- line n shows slice u or one above it
-from-start : (ch n u : ℕ) → 0 < ch → u ≤ sliceNumber ch n ↔ startsAt u * ch ≤ 36 * n
-unfolding sliceNumber startsAt
+from-start : (ch n u : ℕ) → 0 < ch → u ≤ sliceNumber ch n ↔ heightsTo u * ch ≤ 36 * n
+unfolding sliceNumber heightsTo
 from-start ch n u pos = by (decLe 2 u)
   where
     d : u ≤ (36 * n + ch) / (2 * ch) ↔ u * (2 * ch) ≤ 36 * n + ch
@@ -98,12 +98,12 @@ rising false j a b h = omega arith
 
 -- the first line, unzoomed, after line j whose slice is not below s
 abbrev pub firstOf : ScanLine → ℕ → Bool → Slice → ℕ
-firstOf j ch zoom s = max (unzoomed zoom (j .0 + 1)) ((startsAt (s .0) * ch + 35) / 36)
+firstOf j ch zoom s = max (unzoomed zoom (j .0 + 1)) ((heightsTo (s .0) * ch + 35) / 36)
 
 module _ (j : ScanLine) (k ch : ℕ) (zoom : Bool) (s : Slice) (pos : 0 < ch) (some : 1 ≤ k) where
   -- a line that shows the slice is not before it, and the next slice starts after that line
   shows-from : (m : Some j k ch zoom s)
-      → (firstOf j ch zoom s ≤ unzoomed zoom (j .0 + m .by)) × (36 * unzoomed zoom (j .0 + m .by) < startsAt (s .0 + 1) * ch)
+      → (firstOf j ch zoom s ≤ unzoomed zoom (j .0 + m .by)) × (36 * unzoomed zoom (j .0 + m .by) < heightsTo (s .0 + 1) * ch)
   shows-from m =
       let n : ℕ = unzoomed zoom (j .0 + m .by) in
       let above = from-start ch n (s .0 + 1) pos .1 in (
@@ -121,20 +121,20 @@ module _ (j : ScanLine) (k ch : ℕ) (zoom : Bool) (s : Slice) (pos : 0 < ch) (s
 
   -- it is one of the lines: they show the slice exactly if it does
   pub shown-first : firstOf j ch zoom s ≤ unzoomed zoom (j .0 + k)
-      → ltb (36 * firstOf j ch zoom s) (startsAt (s .0 + 1) * ch) ≡ sliceShown j k ch zoom s
+      → ltb (36 * firstOf j ch zoom s) (heightsTo (s .0 + 1) * ch) ≡ sliceShown j k ch zoom s
   shown-first h =
-      iff (ltb (36 * firstOf j ch zoom s) (startsAt (s .0 + 1) * ch)) (sliceShown j k ch zoom s)
+      iff (ltb (36 * firstOf j ch zoom s) (heightsTo (s .0 + 1) * ch)) (sliceShown j k ch zoom s)
       (λ t.
       let n : ℕ = firstOf j ch zoom s in
       let b = between zoom k (j .0) n some (omega arith) h in
-      let u = ltb→lt (36 * n) (startsAt (s .0 + 1) * ch) t in
+      let u = ltb→lt (36 * n) (heightsTo (s .0 + 1) * ch) t in
       let l = from-start ch n (s .0) pos .1 (omega arith) in
       let a = lt-of-not-le (λ q. omega (arith, u, from-start ch n (s .0 + 1) pos .0 q)) in
       some-shown ch zoom s k j (b .by) (b .from) (b .to) (ap (sliceNumber ch) (b .is) ∙ omega (arith, l, a)))
       (λ t.
       let m : Some j k ch zoom s = shown-some ch zoom s k j t in
       let r = shows-from m in
-      lt→ltb (36 * firstOf j ch zoom s) (startsAt (s .0 + 1) * ch) (omega (arith, r .0, r .1)))
+      lt→ltb (36 * firstOf j ch zoom s) (heightsTo (s .0 + 1) * ch) (omega (arith, r .0, r .1)))
 
 -- a strip that is shown whole shows the same slices with zoom
 pub whole-zoom : (ch : ℕ) (zoom : Bool) (s : Slice) → sliceShown beforeFirst (stripLines ch zoom) ch zoom s ≡ sliceShown beforeFirst ch ch false s
@@ -153,8 +153,8 @@ whole-zoom ch true s =
 
 -- ---- what the code's sums need
 
-pub start-bound : (u ch : ℕ) → u ≤ 19 → ch < 256 → startsAt u * ch ≤ 9435
-unfolding startsAt
+pub start-bound : (u ch : ℕ) → u ≤ 19 → ch < 256 → heightsTo u * ch ≤ 9435
+unfolding heightsTo
 start-bound u ch l h = mul-le-mul {n₁ = cond (ltb u 2) 0 (2 * u - 1)} {m₁ = ch} {n₂ = 37} {m₂ = 255} most (omega arith)
   where
     most : cond (ltb u 2) 0 (2 * u - 1) ≤ 37

@@ -40,14 +40,10 @@ HasNext j = j .0 < 65535
 
 -- ---- the slices of a character
 
--- a number that the search for a cell asks about: a slice's, 1 to 18, or 0, which a user character's first two cells have and no line shows
-abbrev pub InCharacter : Slice → Type 0
-InCharacter s = s .0 ≤ 18
-
 -- a slice of a character, as lines show it and as the lookup is asked for it: 1 to 18
 pub record OnScreen (s : Slice) : Type 0 where
   pub from : 1 ≤ s .0
-  pub to : InCharacter s
+  pub to : s .0 ≤ 18
 
 -- ---- from line to slice
 

@@ -1,8 +1,8 @@
 // The geometry of a line: which slice a scan line shows, how wide a line is, where its characters start, and what flashes.
 ghost use mathlib.Core.Path.{_≡_};
 ghost use Prim.Native.Nat.{_-_, _*_, _/_, _≤_, _<_, max};
-ghost use Rattle.raster.specs.Raster.{stripLines, beforeFirst, following, InStrip, isLast, linesAfter, HasNext, InCharacter, unzoomed, interpolated, widthOf, firstPixelOf, charactersOf, hiddenIn};
-ghost use Rattle.raster.specs.Search.{sliceShown, startsAt};
+ghost use Rattle.raster.specs.Raster.{stripLines, beforeFirst, following, InStrip, isLast, linesAfter, HasNext, unzoomed, interpolated, widthOf, firstPixelOf, charactersOf, hiddenIn};
+ghost use Rattle.raster.specs.Search.{InCharacter, sliceShown, heightsTo};
 
 // A scan line of a strip, counted from 1; 0 before the first.
 pub struct ScanLine(pub u16);
@@ -95,9 +95,9 @@ fn strip_lines(height: u8, zoom: bool) -> u16
 }
 
 // Line n of a strip shows this slice, or one above it, where 36 n is so many times CH or more. Every line shows slice 1 or more.
-fn starts_at(slice: u16) -> u16
+fn heights_to(slice: u16) -> u16
     requires { ⌜ slice ≤ 19 ⌝ }
-    ensures { λ r. ⌜ r ≡ startsAt slice ⌝ }
+    ensures { λ r. ⌜ r ≡ heightsTo slice ⌝ }
 {
     if slice < 2 {
         return 0;
@@ -174,14 +174,14 @@ impl ScanLine {
     {
         let s = slice.0 as u16;
         let ch = height as u16;
-        let first = (starts_at(s) * ch + 35) / 36;
+        let first = (heights_to(s) * ch + 35) / 36;
         let line = self.0 as u32;
         let n = most(unzoom(line + 1, zoom) as u16, first);
         let last = unzoom(line + count as u32, zoom) as u16;
         if last < n {
             return false;
         }
-        36 * n < starts_at(s + 1) * ch
+        36 * n < heights_to(s + 1) * ch
     }
 }
 

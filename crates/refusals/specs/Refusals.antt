@@ -9,6 +9,7 @@ use Rattle.refusals.specs.declared.FileRefusal.the-variants.{Length, Che
 use Rattle.refusals.specs.declared.Refusal.{Refusal}
 use Rattle.refusals.specs.declared.Refusal.the-variants.{RamLength, FontLength, LineLength, NoLine, NotAcknowledged, FrameLines, BenchLength, CellRange, FeedShut, OutputRoom, PixelRange}
 
+-- the column "No."
 abbrev pub numberOf : Refusal → ℕ
 numberOf RamLength = 1
 numberOf FontLength = 2
@@ -25,11 +26,12 @@ numberOf (NotAcknowledged NotAddressed) = 12
 numberOf (NotAcknowledged Reading) = 13
 numberOf (NotAcknowledged Writing) = 14
 
--- an answer as the paper has it: the refusal's number, 0 where the call is accepted, and the answer's own number
+-- an answer as document 01 has it: the refusal's number, 0 where the call is accepted, and the answer's own number
 pub record Reply : Type 0 where
   pub refusal : ℕ
   pub value : ℕ
 
+-- no refusal, and the answer's own number
 abbrev pub accepted : ℕ → Reply
 accepted v = record { refusal = 0; value = v }
 
@@ -52,6 +54,7 @@ valueIn PixelRange = 0
 abbrev pub refusedWith : Refusal → ℕ → Reply
 refusedWith r v = record { refusal = numberOf r; value = v }
 
+-- a refusal with its own
 abbrev pub refused : Refusal → Reply
 refused r = refusedWith r (valueIn r)
 

@@ -28,10 +28,11 @@ loaded bytes = record { bytes = zipWith bitAnd bytes kept }
 abbrev pub stored : Registers → ℕ → ℕ → Registers
 stored r i byte = record { bytes = set (r .bytes) (i % 16) (bitAnd byte (getD kept (i % 16) 0)) }
 
+-- a fetch gives the register as it is kept
 abbrev pub fetched : Registers → ℕ → ℕ
 fetched r i = getD (r .bytes) (i % 16) 0
 
--- the column "Meaning": VSP, HSP, PP, FM, the time constants and the PWM registers are stored only
+-- the column "Meaning": VSP, HSP, FR, AS, BS, AF, BF, PP, FM and the PWM registers are stored only
 -- 3FF0: VSP, HSP, LD[5:0]; 3FF1: DD; 3FF2: CH; 3FF3: OSD, FBK, FL[1:0], unused, P[8:6]
 -- the settings LD, DD, CH, OSD, FBK and FL, all that a line reads of the registers
 unfoldable pub settingsOf : Registers → Settings

@@ -1,13 +1,14 @@
 -- The laws of the walk: addresses lie below 1,024, and the strip on screen is at one of its lines.
 -- Assumes nothing.
 use Prim.Native.Nat.{ℕ, zero, suc, _+_, _-_, _≤_, _<_}
-use mathlib.Core.Path.{_≡_, refl, sym, ap, _∙_}
+use mathlib.Core.Path.{_≡_, refl, sym, ap, ap₂, _∙_}
 use mathlib.Core.Bool.{Bool, true, false, cond, false≢true}
 use native.Mathlib.Omega.{arith}
 use borrow.Author.Tests.{eqb-false, eq-eqb, ne-eqb}
 use mathlib.Core.List.{List, [], _∷_}
 use lib.Dec.{eqb}
 use lib.ListN.{getD}
+use Rattle.limits.specs.Limits.{ramLength}
 use Rattle.facts.proofs.Choice.{either}
 use Rattle.cells.specs.Reading.{Role, descriptor, done, read, fmap, value, cells}
 use Rattle.cells.proofs.Bounds.{Only}
@@ -18,13 +19,17 @@ use Rattle.raster.proofs.Laws.{some-after, one-less, last-none, following-in}
 use Rattle.walk.specs.declared.Strip.{Strip}
 use Rattle.walk.specs.declared.Strip.the-variants.{Spacing, Characters}
 use Rattle.walk.specs.declared.Walk.{Walk}
-use Rattle.walk.specs.Walk.{even, next, walkAt, atLeastOne, isSpacing, enabledBy, zoomedBy, codesAt, showsCodes, stripOf, over, linesLeft, begun, advanced, nextLine, OnLine, walked}
+use Rattle.walk.specs.Walk.{even, next, readPair, walkAt, spacingLines, heightOf, isSpacing, enabledBy, zoomedBy, codesAt, showsCodes, stripOf, over, linesLeft, begun, advanced, nextLine, OnLine, walked}
 
 -- ---- addresses
 
--- both bytes at an even address lie below 1,024
-pub even-bound : (a : ℕ) → even a + 1 < 1024
+-- both bytes at an even address lie in the RAM
+pub even-bound : (a : ℕ) → even a + 1 < ramLength
 even-bound a = omega arith
+
+-- the next one of an address is that of its even one
+pub next-even : (a : ℕ) → next (even a) ≡ next a
+next-even a = omega arith
 
 -- ---- the lines that a strip has left
 
@@ -63,21 +68,21 @@ left-by (suc k) t = left-by k (advanced t) ∙ omega (arith, left-advanced t)
 pub stripOf-some : (ch low high : ℕ) → 1 ≤ linesLeft (stripOf ch low high)
 unfolding stripOf linesLeft
 stripOf-some ch low high =
-    either (λ (s : Strip). 1 ≤ linesLeft s) (isSpacing high) _ _ (omega arith) (some-after (atLeastOne ch) (zoomedBy high) (omega arith))
+    either (λ (s : Strip). 1 ≤ linesLeft s) (isSpacing high) _ _ (omega arith) (some-after (heightOf ch) (zoomedBy high) (omega arith))
 
 -- ---- the strip of a descriptor
 
 -- codes are read on its lines
 pub codes-shown : (ch low high : ℕ) → showsCodes high ≡ true
-    → stripOf ch low high ≡ Characters (codesAt low high) (atLeastOne ch) (zoomedBy high) true beforeFirst
+    → stripOf ch low high ≡ Characters (codesAt low high) (heightOf ch) (zoomedBy high) true beforeFirst
 unfolding stripOf
 codes-shown ch low high e = by (isSpacing high) (enabledBy high) e
   where
     by : (t u : Bool) → cond t false u ≡ true
-        → cond t (Spacing (atLeastOne low)) (Characters (codesAt low high) (atLeastOne ch) (zoomedBy high) u beforeFirst)
-        ≡ Characters (codesAt low high) (atLeastOne ch) (zoomedBy high) true beforeFirst
+        → cond t (Spacing (spacingLines low)) (Characters (codesAt low high) (heightOf ch) (zoomedBy high) u beforeFirst)
+        ≡ Characters (codesAt low high) (heightOf ch) (zoomedBy high) true beforeFirst
     by true u q = absurd (false≢true q)
-    by false u q = ap (λ (b : Bool). Characters (codesAt low high) (atLeastOne ch) (zoomedBy high) b beforeFirst) q
+    by false u q = ap (λ (b : Bool). Characters (codesAt low high) (heightOf ch) (zoomedBy high) b beforeFirst) q
 
 -- none are: it is spacing, or has DE 0
 pub codes-none : (P : Strip → Type 0) (ch low high : ℕ) → showsCodes high ≡ false → ((left : ℕ) → P (Spacing left))
@@ -86,10 +91,10 @@ unfolding stripOf
 codes-none P ch low high e f g = by (isSpacing high) (enabledBy high) e
   where
     by : (t u : Bool) → cond t false u ≡ false
-        → P (cond t (Spacing (atLeastOne low)) (Characters (codesAt low high) (atLeastOne ch) (zoomedBy high) u beforeFirst))
-    by true u q = f (atLeastOne low)
+        → P (cond t (Spacing (spacingLines low)) (Characters (codesAt low high) (heightOf ch) (zoomedBy high) u beforeFirst))
+    by true u q = f (spacingLines low)
     by false true q = absurd (false≢true (sym q))
-    by false false q = g (codesAt low high) (atLeastOne ch) (zoomedBy high) beforeFirst
+    by false false q = g (codesAt low high) (heightOf ch) (zoomedBy high) beforeFirst
 
 -- ---- the strip on screen is at one of its lines
 
@@ -117,22 +122,21 @@ step-on ch w e = rw e
 -- one that is over gives way to the next descriptor's
 step-read : (ch : ℕ) (w : Walk) → over (w .strip) ≡ true
     → nextLine ch w
-    ≡ (read descriptor (even (w .descriptor)) λ low.
-    read descriptor (even (w .descriptor) + 1) λ high.
-    done (walkAt (next (even (w .descriptor))) (advanced (stripOf ch low high))))
+    ≡ (readPair descriptor (w .descriptor) λ low high. done (walkAt (next (w .descriptor)) (advanced (stripOf ch low high))))
 unfolding nextLine begun fmap
 step-read ch w e = rw e
 
 -- whichever strip is over, and whichever of its two addresses the descriptor is given by
 pub step-same : (ch a b : ℕ) (t u : Strip) → over t ≡ true → over u ≡ true → even a ≡ even b → nextLine ch (walkAt a t) ≡ nextLine ch (walkAt b u)
 step-same ch a b t u e f p =
+    let n : next a ≡ next b = sym (next-even a) ∙ ap next p ∙ next-even b in
     step-read ch (walkAt a t) e
-    ∙ ap (λ (x : ℕ). read descriptor x λ low. read descriptor (x + 1) λ high. done (walkAt (next x) (advanced (stripOf ch low high)))) p
+    ∙ ap₂ (λ (x y : ℕ). read descriptor x λ low. read descriptor (x + 1) λ high. done (walkAt y (advanced (stripOf ch low high)))) p n
     ∙ sym (step-read ch (walkAt b u) f)
 
 -- what it finds and what it reads, where the strip is over and where it has a line left
 module _ (ram : List ℕ) (ch : ℕ) (w : Walk) where
-  pub read-value : over (w .strip) ≡ true → value ram (nextLine ch w) ≡ walkAt (next (even (w .descriptor))) (advanced (stripAt ram ch (w .descriptor)))
+  pub read-value : over (w .strip) ≡ true → value ram (nextLine ch w) ≡ walkAt (next (w .descriptor)) (advanced (stripAt ram ch (w .descriptor)))
   unfolding value
   read-value e = ap (value ram) (step-read ch w e)
 
@@ -149,7 +153,7 @@ module _ (ram : List ℕ) (ch : ℕ) (w : Walk) where
   on-cells e = ap (cells ram) (step-on ch w e)
 
 -- it reads at most a descriptor, two cells at an even address, and brings the strip to one of its lines
-pub nextLine-only : (P : Role → ℕ → Type 0) → ((c : ℕ) → c < 1024 → P descriptor c) → (ch : ℕ) (w : Walk)
+pub nextLine-only : (P : Role → ℕ → Type 0) → ((c : ℕ) → c < ramLength → P descriptor c) → (ch : ℕ) (w : Walk)
     → Only P (λ (v : Walk). OnLine (v .strip)) (nextLine ch w)
 unfolding Only
 nextLine-only P descriptors ch w = by (over (w .strip)) refl
@@ -176,7 +180,7 @@ left-pos left e = omega (arith, eqb-false left 0 e)
 
 -- the walk's next line where the strip is over: a descriptor is read
 pub walked-read : (ram : List ℕ) (ch : ℕ) (w : Walk) → over (w .strip) ≡ true
-    → walked ram ch w ≡ record { walk = walkAt (next (even (w .descriptor))) (advanced (stripAt ram ch (w .descriptor))); cells = 2 }
+    → walked ram ch w ≡ record { walk = walkAt (next (w .descriptor)) (advanced (stripAt ram ch (w .descriptor))); cells = 2 }
 unfolding walked
 walked-read ram ch w e = rw (read-value ram ch w e, read-cells ram ch w e)
 

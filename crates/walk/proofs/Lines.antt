@@ -9,7 +9,7 @@ use native.Mathlib.Omega.{arith}
 use Rattle.cells.specs.Reading.{value}
 use Rattle.walk.specs.declared.Strip.{Strip}
 use Rattle.walk.specs.declared.Walk.{Walk}
-use Rattle.walk.specs.Walk.{even, next, walkAt, over, linesLeft, advanced, nextLine}
+use Rattle.walk.specs.Walk.{next, walkAt, over, linesLeft, advanced, nextLine}
 use Rattle.walk.proofs.Laws.{left-over, left-advanced, advancedBy, stripAt, read-value, on-value}
 
 module _ (ram : List ℕ) (ch : ℕ) where
@@ -40,9 +40,9 @@ module _ (ram : List ℕ) (ch : ℕ) where
 
   -- in the next descriptor's strip
   pub next-strip : (k : ℕ) (w : Walk) → over (w .strip) ≡ true → 1 ≤ k → k ≤ linesLeft (stripAt ram ch (w .descriptor))
-      → walkAfter k w ≡ walkAt (next (even (w .descriptor))) (advancedBy k (stripAt ram ch (w .descriptor)))
+      → walkAfter k w ≡ walkAt (next (w .descriptor)) (advancedBy k (stripAt ram ch (w .descriptor)))
   unfolding walkAfter advancedBy
   next-strip zero w o m h = absurd (omega arith)
   next-strip (suc k) w o m h =
       ap (walkAfter k) (read-value ram ch w o)
-      ∙ on-strip k (next (even (w .descriptor))) (advanced (stripAt ram ch (w .descriptor))) (omega (arith, left-advanced (stripAt ram ch (w .descriptor))))
+      ∙ on-strip k (next (w .descriptor)) (advanced (stripAt ram ch (w .descriptor))) (omega (arith, left-advanced (stripAt ram ch (w .descriptor))))

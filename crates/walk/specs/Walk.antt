@@ -5,20 +5,33 @@ use mathlib.Core.Bool.{Bool, false, cond}
 use lib.Dec.{eqb}
 use lib.ListN.{length}
 use mathlib.Core.List.{List}
-use Rattle.cells.specs.Reading.{descriptor, Reading, done, read, fmap, value, cells}
+use Rattle.limits.specs.Limits.{ramPairs}
+use Rattle.cells.specs.Reading.{Role, descriptor, Reading, done, read, fmap, value, cells}
 use Rattle.raster.specs.Raster.{beforeFirst, following, InStrip, isLast, linesAfter}
 use Rattle.walk.specs.declared.Strip.{Strip}
 use Rattle.walk.specs.declared.Strip.the-variants.{Spacing, Characters}
 use Rattle.walk.specs.declared.Walk.{Walk}
 use Rattle.walk.specs.declared.Walked.{Walked}
 
+-- ---- addresses
+
 -- two bytes at an even address; addresses wrap at 1,024 (H)
 abbrev pub even : ℕ → ℕ
-even a = a / 2 % 512 * 2
+even a = a / 2 % ramPairs * 2
 
 -- the address goes up by 2 and wraps at 1,024 (H)
 abbrev pub next : ℕ → ℕ
 next a = even (a + 2)
+
+-- a descriptor, or a code: its low byte, then its high byte
+abbrev pub readPair : {A : Type 0} → Role → ℕ → (ℕ → ℕ → Reading A) → Reading A
+readPair r a k = read r (even a) λ low. read r (even a + 1) λ high. k low high
+
+-- a page begins at P times 64
+abbrev pub pageAddress : ℕ → ℕ
+pageAddress p = p * 64
+
+-- ---- the walk
 
 -- the walk in a strip, with the next descriptor at an address
 abbrev pub walkAt : ℕ → Strip → Walk
@@ -26,11 +39,7 @@ walkAt a t = record { descriptor = a; strip = t }
 
 -- a frame start sets the descriptor address to P times 64; the first line reads the first descriptor
 unfoldable pub walkFrom : ℕ → Walk
-walkFrom p = walkAt (p * 64) (Spacing 0)
-
--- SL or CH of 0 is taken as 1 (H)
-abbrev pub atLeastOne : ℕ → ℕ
-atLeastOne n = max 1 n
+walkFrom p = walkAt (pageAddress p) (Spacing 0)
 
 -- ---- descriptors: two bytes, low byte first
 
@@ -50,16 +59,24 @@ zoomedBy high = eqb (high / 32 % 2) 1
 abbrev pub codesAt : ℕ → ℕ → ℕ
 codesAt low high = even (high % 4 * 256 + low)
 
+-- the low byte of spacing is SL, the number of lines; 0 is taken as 1 (H)
+abbrev pub spacingLines : ℕ → ℕ
+spacingLines low = max 1 low
+
+-- the height of characters is CH; 0 is taken as 1 (H)
+abbrev pub heightOf : ℕ → ℕ
+heightOf ch = max 1 ch
+
 -- codes are read on its lines: characters, with DE
 abbrev pub showsCodes : ℕ → Bool
 showsCodes high = cond (isSpacing high) false (enabledBy high)
 
--- its strip, before the first line. The low byte of spacing is SL, the number of lines; CH is the one given
+-- its strip, before the first line. CH is the one given
 unfoldable pub stripOf : ℕ → ℕ → ℕ → Strip
 stripOf ch low high =
     cond (isSpacing high)
-    (Spacing (atLeastOne low))
-    (Characters (codesAt low high) (atLeastOne ch) (zoomedBy high) (enabledBy high) beforeFirst)
+    (Spacing (spacingLines low))
+    (Characters (codesAt low high) (heightOf ch) (zoomedBy high) (enabledBy high) beforeFirst)
 
 -- ---- the strip on screen
 
@@ -77,9 +94,7 @@ linesLeft (Characters address height zoom enabled line) = linesAfter line height
 unfoldable pub begun : ℕ → Walk → Reading Walk
 begun ch w =
     cond (over (w .strip))
-    (read descriptor (even (w .descriptor)) λ low.
-    read descriptor (even (w .descriptor) + 1) λ high.
-    done (walkAt (next (even (w .descriptor))) (stripOf ch low high)))
+    (readPair descriptor (w .descriptor) λ low high. done (walkAt (next (w .descriptor)) (stripOf ch low high)))
     (done w)
 
 -- the strip at its next line

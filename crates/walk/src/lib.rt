@@ -1,9 +1,10 @@
 // The walk of a frame over its descriptors: which strip is on screen, and which of its lines.
 ghost use mathlib.Core.Path.{_≡_};
+ghost use Prim.Native.Nat.{_<_, max};
 ghost use mathlib.Core.Bool.{false};
 ghost use lib.ListN.{length};
 ghost use Rattle.limits.specs.Limits.{ramLength};
-ghost use Rattle.walk.specs.Walk.{even, walkFrom, atLeastOne, isSpacing, enabledBy, zoomedBy, codesAt, showsCodes, stripOf, over, linesLeft, advanced, walked};
+ghost use Rattle.walk.specs.Walk.{even, next, walkFrom, isSpacing, enabledBy, zoomedBy, codesAt, spacingLines, heightOf, showsCodes, stripOf, over, linesLeft, advanced, walked};
 use raster::ScanLine;
 
 // The strip on screen. One with no line left gives way to the next descriptor at the next line.
@@ -45,8 +46,16 @@ pub fn even_address(a: u16) -> u16
     a / 2 % 512 * 2
 }
 
-pub fn at_least_one(n: u8) -> u8
-    ensures { λ r. ⌜ r ≡ atLeastOne n ⌝ }
+// The even address of the two bytes after those at an address.
+pub fn next_address(a: u16) -> u16
+    requires { ⌜ a < ramLength ⌝ }
+    ensures { λ r. ⌜ r ≡ next a ⌝ }
+{
+    even_address(a + 2)
+}
+
+fn at_least_one(n: u8) -> u8
+    ensures { λ r. ⌜ r ≡ max 1 n ⌝ }
 {
     if n == 0 {
         return 1;
@@ -75,6 +84,20 @@ pub fn zoom(high: u8) -> bool
     high / 32 % 2 == 1
 }
 
+// How many lines spacing has, by its low byte.
+fn spacing_lines(low: u8) -> u8
+    ensures { λ r. ⌜ r ≡ spacingLines low ⌝ }
+{
+    at_least_one(low)
+}
+
+// The height of characters, by CH.
+pub fn height(ch: u8) -> u8
+    ensures { λ r. ⌜ r ≡ heightOf ch ⌝ }
+{
+    at_least_one(ch)
+}
+
 // Where the codes of a descriptor's strip start.
 pub fn code_address(low: u8, high: u8) -> u16
     ensures { λ r. ⌜ r ≡ codesAt low high ⌝ }
@@ -93,13 +116,13 @@ pub fn shows_codes(high: u8) -> bool
 }
 
 // How many lines its strip has.
-pub fn strip_lines(ch: u8, low: u8, high: u8) -> u16
+pub fn descriptor_lines(ch: u8, low: u8, high: u8) -> u16
     ensures { λ r. ⌜ r ≡ linesLeft (stripOf ch low high) ⌝ }
 {
     if is_spacing(high) {
-        return at_least_one(low) as u16;
+        return spacing_lines(low) as u16;
     }
-    ScanLine::before_first().lines_after(at_least_one(ch), zoom(high))
+    ScanLine::before_first().lines_after(height(ch), zoom(high))
 }
 
 impl Strip {
@@ -109,12 +132,12 @@ impl Strip {
     {
         if is_spacing(high) {
             return Strip::Spacing {
-                left: at_least_one(low),
+                left: spacing_lines(low),
             };
         }
         Strip::Characters {
             address: code_address(low, high),
-            height: at_least_one(ch),
+            height: height(ch),
             zoom: zoom(high),
             enabled: enabled(high),
             line: ScanLine::before_first(),
@@ -199,7 +222,7 @@ impl Walk {
             let next = Strip::of_descriptor(ch, low, high).advance();
             return Walked {
                 walk: Walk {
-                    descriptor: even_address(at + 2),
+                    descriptor: next_address(at),
                     strip: next,
                 },
                 cells: 2,

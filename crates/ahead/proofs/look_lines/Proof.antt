@@ -37,14 +37,14 @@ look-strip-requires c κs =
     let n = d .before .before in
     let l = n .before .before .before .before .before in
     let p = l .before .before .before .pre in
-    (p .0, (p .1 .0, ((l .loop .inv .1, l .loop .inv .2), omega (arith, ap linesLeft (d .of-descriptor .ensures), n .strip-lines .ensures, d .before .if2 .taken))))
+    (p .0, (p .1 .0, ((l .loop .inv .1, l .loop .inv .2), omega (arith, ap linesLeft (d .of-descriptor .ensures), n .descriptor-lines .ensures, d .before .if2 .taken))))
 
 returns-2 : tie.Need-returns-2 Inv-loop μ-loop
 returns-2 c =
     let d = c .before .before in
     let n = d .before .before in
     let l = n .before .before .before .before .before .loop in
-    let shorter : l .left ≤ linesLeft (d .of-descriptor .result) = omega (arith, ap linesLeft (d .of-descriptor .ensures), n .strip-lines .ensures, d .before .if2 .taken) in
+    let shorter : l .left ≤ linesLeft (d .of-descriptor .result) = omega (arith, ap linesLeft (d .of-descriptor .ensures), n .descriptor-lines .ensures, d .before .if2 .taken) in
     lines-last (l .p) (l .inv .3) (l .inv .0) (d .of-descriptor .result) (d .of-descriptor .ensures) (n .before .before .before .before .loop-test .taken)
     (n .before .before .before .if1 .left) (l .left) (omega (arith, shorter)) (c .look-strip .ensures) shorter
 
@@ -59,7 +59,7 @@ returns-3 c =
     let n = c .before .before .before .before in
     let l = n .before .before .before .before .before .loop in
     lines-found (l .p) (l .inv .3) (l .inv .0) _ refl (n .before .before .before .before .loop-test .taken) (n .before .before .before .if1 .left) _
-    (omega (arith, n .strip-lines .ensures, c .before .before .before .if2 .left)) (c .before .look-whole .ensures) (c .if3 .taken)
+    (omega (arith, n .descriptor-lines .ensures, c .before .before .before .if2 .left)) (c .before .look-whole .ensures) (c .if3 .taken)
 
 loop-less : tie.Need-loop-less Inv-loop μ-loop
 loop-less c =
@@ -67,7 +67,7 @@ loop-less c =
     let l = n .before .before .before .before .before .loop in
     let a = n .before .before .before .before .before .before .before .before .args in
     let some = stripOf-some (a .sought .settings .ch) (getD (now (a .ram)) (2 * l .p) 0) (getD (now (a .ram)) (2 * l .p + 1) 0) in
-    omega (arith, some, n .strip-lines .ensures, c .before .before .before .if2 .left, n .before .before .before .before .loop-test .taken)
+    omega (arith, some, n .descriptor-lines .ensures, c .before .before .before .if2 .left, n .before .before .before .before .loop-test .taken)
 
 loop-again : tie.Need-loop-again Inv-loop μ-loop
 loop-again c =
@@ -77,9 +77,9 @@ loop-again c =
       search needs,
       w .kept,
       w .far,
-      rw (n .strip-lines .ensures)
+      rw (n .descriptor-lines .ensures)
           (sum-on (l .p) (l .inv .3) (l .inv .0) _ refl (n .before .before .before .before .loop-test .taken) (n .before .before .before .if1 .left) _
-          (omega (arith, n .strip-lines .ensures, c .before .before .before .if2 .left)) w (c .if3 .left)),
+          (omega (arith, n .descriptor-lines .ensures, c .before .before .before .if2 .left)) w (c .if3 .left)),
     )
 
 returns-4 : tie.Need-returns-4 Inv-loop μ-loop

@@ -39,7 +39,7 @@ returns-3 c =
     let a = f .before .before .before .before .before .before .args in
     let q = f .before .before .before .before .seek in
     let e = f .before .before .least .ensures ∙ ap (λ (x : ℕ). min x (a .left)) (f .before .before .before .lines-left .ensures) in
-    c .rows-read .ensures
+    c .any-row .ensures
     ∙ rw (sym (q .ensures .0), sym (q .ensures .1))
     (found-row (now (a .ram)) (a .left) (a .walk) (q .result) _ e (f .look-strip .ensures) (c .before .before .before .look-lines .ensures) (c .before .before .before .before .before .if1 .left) (c .before .before .if2 .left))
 

@@ -10,12 +10,12 @@ use Rattle.ahead.proofs.seek.Tie as tie
 
 user-shown-requires : tie.Need-user-shown-requires
 user-shown-requires c κs =
-    let m = c .before .before .at-least-one in
+    let m = c .before .before .height in
     rw (c .before-first .ensures) (omega (arith, m .ensures), omega (arith, all-after (m .result) false))
 
 returns : tie.Need-returns
 returns c =
-    let m = c .before .before .before .at-least-one .ensures in (
+    let m = c .before .before .before .height .ensures in (
       refl,
       refl,
       record {

@@ -20,7 +20,7 @@ returns-2 c =
     (word-user _ _ _ _ (p .before .before .if1 .left) (p .before .if2 .taken))
 
 returns-3 : tie.Need-returns-3
-returns-3 c = word-blank _ _ _ _ (c .if2 .left) (omega (arith, c .before .before .before .before .fits .high))
+returns-3 c = rw (c .ends-line .ensures) (word-blank _ _ _ _ (c .before .if2 .left) (omega (arith, c .before .before .before .before .before .fits .high)))
 
 pub lookup-spec : {M : Type 1} → statement M
 lookup-spec =
@@ -36,4 +36,5 @@ lookup-spec =
     (λ c. search needs)
     (λ c κs. search needs)
     returns-2
+    (λ c κs. search needs)
     returns-3)

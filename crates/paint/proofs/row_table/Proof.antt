@@ -7,7 +7,7 @@ use Rattle.paint.proofs.row_table.Tie as tie
 
 returns : tie.Need-returns
 unfolding tabulate facing casting fores backs shows maskTable rowTable
-returns c = rw (c .before .before .four-of .ensures, c .before .bits-kept .ensures, c .bits-kept2 .ensures)
+returns c = rw (c .before .before .of-pixel .ensures, c .before .bits-kept .ensures, c .bits-kept2 .ensures)
 
 pub row-table-spec : {M : Type 1} → statement M
 row-table-spec =

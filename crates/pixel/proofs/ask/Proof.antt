@@ -1,8 +1,22 @@
 -- `ask`: the tests, in their order, pick the case of `askPixel`.
 -- Assumes nothing.
-use borrow.Author.Tests.{eq-eqb, ne-eqb, lt-ltb, le-ltb, le-leb, lt-leb}
-use Rattle.refusals.specs.Refusals.{accepted}
+use Prim.Native.Nat.{_<_}
+use mathlib.Core.Path.{_≡_, sym, ap, _∙_}
+use native.Mathlib.Omega.{arith}
+use borrow.Author.Tests.{eq-eqb, ne-eqb, le-leb, lt-leb}
+use denote.Ref.{now}
+use mathlib.Core.Bool.{_||_}
+use lib.Dec.{leb}
+use Rattle.limits.specs.Limits.{frameLines}
+use Rattle.limits.proofs.Laws.{frame-lines}
+use Rattle.refusals.specs.declared.Refusal.the-variants.{PixelRange}
+use Rattle.refusals.specs.Refusals.{accepted, passed, refuseIf}
+use Rattle.registers.specs.Registers.{settingsOf}
+use Rattle.raster.specs.Raster.{widthOf}
+use Rattle.device.specs.Device.{frameNumber}
+use Rattle.pixel.specs.Pixel.{pixelAt}
 use Rattle.pixel.specs.Ask.{pixelVerdict, pixelBy, askPixel}
+use Rattle.pixel.proofs.Laws.{by-range}
 use borrow.Author.Needs.{needs}
 use Rattle.pixel.proofs.ask.Statement.{statement}
 use Rattle.pixel.proofs.ask.Tie as tie
@@ -17,59 +31,53 @@ returns-2 c = rw (eq-eqb _ _ (c .before .if1 .left), ne-eqb _ _ (c .if2 .taken))
 
 returns-3 : tie.Need-returns-3
 unfolding pixelVerdict pixelBy askPixel
-returns-3 c = rw (eq-eqb _ _ (c .before .before .if1 .left), eq-eqb _ _ (c .before .if2 .left), eq-eqb _ _ (c .if3 .taken))
+returns-3 c =
+    let t = c .before .before in
+    rw (eq-eqb _ _ (t .before .if1 .left), eq-eqb _ _ (t .if2 .left), sym (c .before .bad-line-count .ensures) ∙ c .if3 .taken)
+
+-- the tests so far found nothing
+ranged : (c : tie.Else3)
+    → let a = c .before .before .before .before .before .before .args in
+    askPixel (a .device .registers) (now (a .ram)) (now (a .font)) (a .lines) (a .frame) (a .x) (a .y)
+    ≡ pixelBy (refuseIf (leb (widthOf (settingsOf (a .device .registers) .ld)) (a .x) || leb (a .lines) (a .y)) PixelRange passed)
+    (pixelAt (a .device .registers) (now (a .ram)) (now (a .font)) (frameNumber (a .frame)) (a .x) (a .y))
+ranged c =
+    let t = c .before .before in
+    by-range _ _ _ _ _ _ _ (t .before .if1 .left) (t .if2 .left) (sym (c .before .bad-line-count .ensures) ∙ c .if3 .left)
 
 returns-4 : tie.Need-returns-4
-unfolding pixelVerdict pixelBy askPixel
+unfolding pixelBy
 returns-4 c =
-    rw (
-      eq-eqb _ _ (c .before .before .before .if1 .left),
-      eq-eqb _ _ (c .before .before .if2 .left),
-      ne-eqb _ _ (c .before .if3 .left),
-      lt-ltb _ _ (c .if4 .taken),
-    )
+    let w = c .before in
+    sym (ranged (w .before .before .before) ∙ rw (le-leb _ _ (rw (w .width .ensures, w .before .settings .ensures) at (c .if4 .taken))))
 
 returns-5 : tie.Need-returns-5
-unfolding pixelVerdict pixelBy askPixel
+unfolding pixelBy
 returns-5 c =
-    let l = c .before .before .before .before in
-    rw (
-      eq-eqb _ _ (l .before .before .before .if1 .left),
-      eq-eqb _ _ (l .before .before .if2 .left),
-      ne-eqb _ _ (l .before .if3 .left),
-      le-ltb _ _ (l .if4 .left),
-      le-leb _ _ (rw (c .before .width .ensures, c .before .before .settings .ensures) at (c .if5 .taken)),
-    )
+    let w = c .before .before in
+    sym (ranged (w .before .before .before)
+    ∙ rw (lt-leb _ _ (rw (w .width .ensures, w .before .settings .ensures) at (c .before .if4 .left)), le-leb _ _ (c .if5 .taken)))
+
+-- the line is one of a frame's
+in-frame : (c : tie.Else5) → c .before .before .before .before .before .before .before .before .before .before .before .args .y < frameLines
+in-frame c =
+    let t = c .before .before .before .before .before in
+    omega (arith, c .if5 .left, frame-lines (t .before .before .before .before .before .before .args .lines) (sym (t .before .bad-line-count .ensures) ∙ t .if3 .left))
+
+cast-y : tie.Need-cast-pixel-at-3
+cast-y c = omega (arith, in-frame c)
+
+pixel-at-requires : tie.Need-pixel-at-requires
+pixel-at-requires c κs = (search needs, in-frame c)
 
 returns-6 : tie.Need-returns-6
-unfolding pixelVerdict pixelBy askPixel
+unfolding pixelBy
 returns-6 c =
-    let x = c .before in
-    let l = x .before .before .before .before in
-    rw (
-      eq-eqb _ _ (l .before .before .before .if1 .left),
-      eq-eqb _ _ (l .before .before .if2 .left),
-      ne-eqb _ _ (l .before .if3 .left),
-      le-ltb _ _ (l .if4 .left),
-      lt-leb _ _ (rw (x .before .width .ensures, x .before .before .settings .ensures) at (x .if5 .left)),
-      le-leb _ _ (c .if6 .taken),
-    )
-
-returns-7 : tie.Need-returns-7
-unfolding pixelVerdict pixelBy askPixel
-returns-7 c =
     let y = c .before in
-    let x = y .before in
-    let l = x .before .before .before .before in
-    rw (
-      eq-eqb _ _ (l .before .before .before .if1 .left),
-      eq-eqb _ _ (l .before .before .if2 .left),
-      ne-eqb _ _ (l .before .if3 .left),
-      le-ltb _ _ (l .if4 .left),
-      lt-leb _ _ (rw (x .before .width .ensures, x .before .before .settings .ensures) at (x .if5 .left)),
-      lt-leb _ _ (y .if6 .left),
-    )
-    (λ i. accepted (c .pixel-at .ensures i))
+    let w = y .before .before in
+    ap accepted (c .pixel-at .ensures)
+    ∙ sym (ranged (w .before .before .before)
+    ∙ rw (lt-leb _ _ (rw (w .width .ensures, w .before .settings .ensures) at (y .before .if4 .left)), lt-leb _ _ (y .if5 .left)))
 
 pub ask-spec : {M : Type 1} → statement M
 ask-spec =
@@ -77,15 +85,15 @@ ask-spec =
     (tie.spec
     returns
     returns-2
+    (λ c κs. search needs)
     returns-3
+    (λ c κs. search needs)
+    (λ c κs. search needs)
+    (λ c. search needs)
     returns-4
-    (λ c κs. search needs)
-    (λ c κs. search needs)
-    (λ c. search needs)
     returns-5
-    returns-6
     (λ c. search needs)
     (λ c. search needs)
-    (λ c. search needs)
-    (λ c κs. search needs)
-    returns-7)
+    cast-y
+    pixel-at-requires
+    returns-6)

@@ -1,9 +1,10 @@
 -- `falls_in`: each turn passes a strip that lies before the line (`falls-later`); at least one line of it is passed.
 -- Assumes nothing.
-use Prim.Native.Nat.{_≤_}
+use Prim.Native.Nat.{_≤_, _<_}
 use mathlib.Core.Path.{_≡_, refl, sym, _∙_}
 use native.Mathlib.Omega.{arith}
 use denote.Ref.{now}
+use Rattle.limits.specs.Limits.{ramLength}
 use Rattle.pixel.specs.Pixel.{fallsIn}
 use Rattle.pixel.proofs.Laws.{lines-some, falls-here, falls-later}
 use borrow.Author.Needs.{needs}
@@ -11,7 +12,7 @@ use Rattle.pixel.proofs.falls_in.Statement.{statement}
 use Rattle.pixel.proofs.falls_in.Tie as tie
 
 abbrev Inv-loop : tie.InvT-loop
-Inv-loop ram ch first y at₀ left₀ at left = (fallsIn left ram ch at left ≡ fallsIn y ram ch first y) × (at ≤ 1022) × (left ≤ y)
+Inv-loop ram ch first y at₀ left₀ at left = (fallsIn left ram ch at left ≡ fallsIn y ram ch first y) × (at < ramLength) × (left ≤ y)
 
 abbrev μ-loop : tie.MeasureT-loop
 μ-loop ram ch first y at₀ left₀ at left = left
@@ -41,7 +42,7 @@ loop-again c =
     let l = d .before .loop in
     let a = d .before .before .before .args in
     let lines = rw (d .pair-at .ensures) at (n .lines-of .ensures) in (
-      rw (c .even-address .ensures, lines)
+      rw (c .next-address .ensures, lines)
           (sym (falls-later (now (a .ram)) (a .ch) (l .at) (l .left) (omega (arith, lines, c .before .if1 .left))) ∙ l .inv .0),
       search needs,
       search needs,
@@ -58,7 +59,6 @@ falls-in-spec =
     (λ c κs. search needs)
     (λ c. search needs)
     returns
-    (λ c. search needs)
     (λ c κs. search needs)
     loop-less
     loop-again)

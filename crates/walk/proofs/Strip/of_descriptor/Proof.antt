@@ -10,7 +10,7 @@ use Rattle.walk.proofs.Strip.of_descriptor.Tie as tie
 returns : tie.Need-returns
 unfolding stripOf
 returns c =
-    rw (sym (c .before .before .is-spacing .ensures) ∙ c .before .if1 .taken) (ap Spacing (c .at-least-one .ensures))
+    rw (sym (c .before .before .is-spacing .ensures) ∙ c .before .if1 .taken) (ap Spacing (c .spacing-lines .ensures))
 
 returns-2 : tie.Need-returns-2
 unfolding stripOf
@@ -21,7 +21,7 @@ returns-2 c =
       c .before-first .ensures,
       c .before .enabled .ensures,
       c .before .before .zoom .ensures,
-      c .before .before .before .at-least-one2 .ensures,
+      c .before .before .before .height .ensures,
       c .before .before .before .before .code-address .ensures,
     ))
 

@@ -3,7 +3,7 @@
 use denote.Ref.{now}
 use mathlib.Core.Path.{sym, ap, _∙_}
 use Rattle.walk.specs.Walk.{over}
-use Rattle.walk.proofs.Laws.{stripOf-begun, walked-read, walked-on}
+use Rattle.walk.proofs.Laws.{next-even, stripOf-begun, walked-read, walked-on}
 use borrow.Author.Needs.{needs}
 use Rattle.walk.proofs.Walk.next_line.Statement.{statement}
 use Rattle.walk.proofs.Walk.next_line.Tie as tie
@@ -17,10 +17,11 @@ returns c =
     let a = t .before .before .before .before .args in
     rw (
       walked-read (now (a .ram)) (a .ch) (a .self) (sym (t .before .before .is-over .ensures) ∙ t .before .if1 .taken),
-      c .even-address2 .ensures,
+      c .next-address .ensures,
       c .before .advance .ensures,
       c .before .before .of-descriptor .ensures,
       t .even-address .ensures,
+      next-even,
     )
 
 advance-requires-2 : tie.Need-advance-requires-2
@@ -44,7 +45,6 @@ next-line-spec =
     (λ c. search needs)
     (λ c κs. search needs)
     advance-requires
-    (λ c. search needs)
     (λ c κs. search needs)
     returns
     advance-requires-2

@@ -1,4 +1,4 @@
--- `rows_read`: a marked row that shows the user character, if there is one, is still to come.
+-- `any_row`: a marked row that shows the user character, if there is one, is still to come.
 -- Assumes nothing.
 use Prim.Native.Nat.{_-_, _≤_, _<_}
 use mathlib.Core.Bool.{true}
@@ -8,8 +8,8 @@ use borrow.Author.Needs.{needs}
 use lib.Dec.{T}
 use Rattle.ahead.specs.Looking.{isMarked, anyRow}
 use Rattle.ahead.proofs.Marks.{Showing, showing-of, showing-from, showing-next, row-shows, none-showing}
-use Rattle.ahead.proofs.rows_read.Statement.{statement}
-use Rattle.ahead.proofs.rows_read.Tie as tie
+use Rattle.ahead.proofs.any_row.Statement.{statement}
+use Rattle.ahead.proofs.any_row.Tie as tie
 
 abbrev Inv-loop : tie.InvT-loop
 Inv-loop ram marks n cell row₀ row =
@@ -30,7 +30,7 @@ returns : tie.Need-returns Inv-loop μ-loop
 returns c =
     let l = c .before .before .before .before .before .loop in
     let h = c .before .before .before .before .loop-test .taken in
-    row-shows _ _ _ _ (l .row) _ (c .before .before .own-codes .ensures .most) h (l .inv .1 h) (sym (c .before .row-reads .ensures) ∙ c .if1 .taken)
+    row-shows _ _ _ _ (l .row) _ (c .before .before .own-codes .ensures .most) h (l .inv .1 h) (sym (c .before .user-reads .ensures) ∙ c .if1 .taken)
 
 loop-less : tie.Need-loop-less Inv-loop μ-loop
 loop-less c = omega (arith, c .before .before .before .next-row2 .ensures .from, c .before .before .before .before .loop-test .taken)
@@ -43,14 +43,14 @@ loop-again c =
       r .is,
       λ t.
           showing-next _ _ _ _ (l .row) _ r _ (c .before .before .own-codes .ensures)
-          (sym (c .before .row-reads .ensures) ∙ c .if1 .left) (l .inv .2 t),
+          (sym (c .before .user-reads .ensures) ∙ c .if1 .left) (l .inv .2 t),
     )
 
 returns-2 : tie.Need-returns-2 Inv-loop μ-loop
 returns-2 c = none-showing _ _ _ _ _ (c .loop-test .left) (c .before .loop .inv .2)
 
-pub rows-read-spec : {M : Type 1} → statement M
-rows-read-spec =
+pub any-row-spec : {M : Type 1} → statement M
+any-row-spec =
     tie.close
     (tie.spec
     Inv-loop

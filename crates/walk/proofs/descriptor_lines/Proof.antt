@@ -1,14 +1,14 @@
--- `strip_lines`: bit 7 picks the case of `stripOf`.
+-- `descriptor_lines`: bit 7 picks the case of `stripOf`.
 -- Assumes nothing.
 use mathlib.Core.Path.{sym, _∙_}
 use Rattle.walk.specs.Walk.{stripOf, linesLeft}
 use borrow.Author.Needs.{needs}
-use Rattle.walk.proofs.strip_lines.Statement.{statement}
-use Rattle.walk.proofs.strip_lines.Tie as tie
+use Rattle.walk.proofs.descriptor_lines.Statement.{statement}
+use Rattle.walk.proofs.descriptor_lines.Tie as tie
 
 returns : tie.Need-returns
 unfolding stripOf linesLeft
-returns c = rw (sym (c .before .before .is-spacing .ensures) ∙ c .before .if1 .taken) (c .at-least-one .ensures)
+returns c = rw (sym (c .before .before .is-spacing .ensures) ∙ c .before .if1 .taken) (c .spacing-lines .ensures)
 
 returns-2 : tie.Need-returns-2
 unfolding stripOf linesLeft
@@ -18,12 +18,12 @@ returns-2 c =
     (rw (
       c .lines-after .ensures,
       c .before .zoom .ensures,
-      c .before .before .at-least-one2 .ensures,
+      c .before .before .height .ensures,
       c .before .before .before .before-first .ensures,
     ))
 
-pub strip-lines-spec : {M : Type 1} → statement M
-strip-lines-spec =
+pub descriptor-lines-spec : {M : Type 1} → statement M
+descriptor-lines-spec =
     tie.close
     (tie.spec
     (λ c κs. search needs)
