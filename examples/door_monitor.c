@@ -1,5 +1,6 @@
 /*
- * Firmware in small: the font comes from a card, as a font file. A host sends a page over the two-wire bus and the monitor shows it.
+ * Firmware in small: the font comes from a card, as a font file. A host sends a page over the two-wire bus and the monitor shows it; its
+ * settings come from a logger's capture, and each line of the second frame is held against the pixels asked for, as at the bench.
  * During the frame the host writes a second page to cells that the frame does not read, and changes to it; the frame goes on as it was,
  * and the next one shows the new page. Then the host is out of step in each way that has a number, and the refusal says what to look for.
  * At the end the card is bad in each way that has a number.
@@ -19,7 +20,7 @@ static uint8_t device[OSD_DEVICE_LEN];
 static uint8_t ram[OSD_RAM_LEN];
 static uint8_t font[OSD_FONT_LEN];
 static uint8_t line[OSD_LINE_MAX];
-static uint8_t file[OSD_FONT_FILE_LEN]; /* as it was read from the card */
+static uint8_t file[OSD_FONT_FILE_LEN]; /* stands for the card */
 
 static uint32_t event(uint8_t kind, uint8_t byte)
 {
@@ -37,6 +38,21 @@ static int host_writes(uint16_t address, const uint8_t *bytes, size_t n)
     for (size_t i = 0; i < n; i++)
         refused += OSD_REFUSAL(event(OSD_BYTE, bytes[i])) != OSD_ACCEPTED;
     refused += OSD_REFUSAL(event(OSD_STOP, 0)) != OSD_ACCEPTED;
+    return refused;
+}
+
+/* The same transfer from a logger's capture, two bytes an event, which arrives in two chunks that are cut within an event. */
+static int capture_fed(const uint8_t *capture, size_t n, size_t cut)
+{
+    uint8_t feed[OSD_FEED_LEN], out[64];
+    int refused = 0;
+    osd_feed_fresh(feed, sizeof feed);
+    for (size_t from = 0; from < n; from = cut, cut = n) {
+        uint32_t answer = osd_feed(device, sizeof device, feed, sizeof feed, ram, sizeof ram, capture + from, cut - from, out, sizeof out);
+        refused += OSD_REFUSAL(answer) != OSD_ACCEPTED;
+        for (size_t i = 0; i < OSD_VALUE(answer); i += 2)
+            refused += out[i] != 1;
+    }
     return refused;
 }
 
@@ -71,10 +87,12 @@ static const char *wrong_with(uint32_t answer)
     }
 }
 
-static void read_card(const char *what, size_t n)
+/* Answers whether the font was read; a font buffer that was not is as it was. */
+static int read_card(const char *what, size_t n)
 {
     uint32_t answer = osd_font_read(file, n, font, sizeof font);
     printf("%s: refusal %u, value %u: wrong is %s\n", what, (unsigned)OSD_REFUSAL(answer), (unsigned)OSD_VALUE(answer), wrong_with(answer));
+    return OSD_REFUSAL(answer) == OSD_ACCEPTED;
 }
 
 /* What a fitter should look for when an event is not acknowledged. */
@@ -112,21 +130,31 @@ static void draw(void)
     printf(" %u\n", (unsigned)OSD_VALUE(answer));
 }
 
-/* How many of these cells do the frame's remaining lines read? */
+/* How many of these cells do the frame's remaining lines read? A refused question is no answer: the cell is not free. */
 static unsigned still_read(uint32_t first, size_t n)
 {
     unsigned read = 0;
     for (uint32_t cell = first; cell < first + n; cell++)
-        read += OSD_VALUE(osd_cell(device, sizeof device, ram, sizeof ram, cell));
+        read += osd_cell(device, sizeof device, ram, sizeof ram, cell) != 0;
     return read;
+}
+
+/* The bench: is the line that was drawn, line y of a frame with this number, what osd_pixel says? */
+static int as_asked(uint32_t number, uint32_t y)
+{
+    for (uint32_t x = 0; x < WIDTH; x++)
+        if (osd_pixel(device, sizeof device, ram, sizeof ram, font, sizeof font, LINES, number, x, y) != line[x])
+            return 0;
+    return 1;
 }
 
 int main(void)
 {
     static const uint16_t o[10] = {0x0F0, 0x198, 0x30C, 0x30C, 0x30C, 0x30C, 0x30C, 0x30C, 0x198, 0x0F0};
     static const uint16_t k[10] = {0x30C, 0x318, 0x330, 0x360, 0x3C0, 0x3C0, 0x360, 0x330, 0x318, 0x30C};
-    /* LD, DD 4 (characters from pixel 36), CH 18, OSD on with page 0 */
-    static const uint8_t settings[] = {6, 4, 18, 0x80};
+    /* from register 3FF0 on: LD, DD 4 (characters from pixel 36), CH 18, OSD on with page 0 */
+    static const uint8_t settings[] = {OSD_START, 0, OSD_BYTE, OSD_SLAVE_WRITE, OSD_BYTE, 0x3F, OSD_BYTE, 0xF0,
+                                       OSD_BYTE, 6, OSD_BYTE, 4, OSD_BYTE, 18, OSD_BYTE, 0x80, OSD_STOP, 0};
     /* page 0, at cell 0: a spacing line, then a row of characters at cell 512: O and K in white on blue, and the end of the line */
     static const uint8_t page_0[] = {1, 0x00, 0x00, 0xC2};
     static const uint8_t text_0[] = {0x71, 'O', 0x71, 'K', 0x00, 0xFF};
@@ -143,9 +171,10 @@ int main(void)
     letter('K', k);
     show("a font file for the card", osd_font_write(font, sizeof font, file, sizeof file));
     memset(font, 0, sizeof font);
-    read_card("the card", sizeof file);
+    if (!read_card("the card", sizeof file))
+        return 1;
     show("fresh", osd_fresh(device, sizeof device));
-    refused += host_writes(0x3FF0, settings, sizeof settings);
+    refused += capture_fed(settings, sizeof settings, 7);
     refused += host_writes(0, page_0, sizeof page_0);
     refused += host_writes(512, text_0, sizeof text_0);
     printf("events refused: %d\n", refused);
@@ -154,7 +183,10 @@ int main(void)
     for (int i = 0; i < LINES / 2; i++)
         draw();
     printf("cells still read of the old text: %u\n", still_read(512, sizeof text_0));
-    printf("cells still read of the new page: %u\n", still_read(600, sizeof text_1) + still_read(64, sizeof page_1));
+    unsigned read = still_read(600, sizeof text_1) + still_read(64, sizeof page_1);
+    printf("cells still read of the new page: %u\n", read);
+    if (read != 0)
+        return 1;
     refused += host_writes(600, text_1, sizeof text_1);
     refused += host_writes(64, page_1, sizeof page_1);
     refused += host_writes(0x3FF3, to_page_1, sizeof to_page_1);
@@ -163,8 +195,11 @@ int main(void)
         draw();
 
     show("frame start", osd_frame_start(device, sizeof device, LINES));
-    for (int i = 0; i < LINES; i++)
+    for (int i = 0; i < LINES; i++) {
         draw();
+        if (!as_asked(1, (uint32_t)i))
+            return 1;
+    }
 
     not_heard("a byte while idle", event(OSD_BYTE, 0x00));
     not_heard("a fetch while idle", event(OSD_FETCH, 0));
@@ -186,14 +221,15 @@ int main(void)
     event(OSD_STOP, 0);
     show("a record of another length", osd_reset(device, sizeof device - 1));
 
-    uint8_t first[512];
+    enum { BLOCK = OSD_FONT_BLOCK_LEN };
+    uint8_t first[BLOCK];
     read_card("a card that was cut short", sizeof file - 1);
-    file[6 * 512 + 100] ^= 0x10;
+    file[6 * BLOCK + 100] ^= 0x10;
     read_card("a flipped bit", sizeof file);
-    file[6 * 512 + 100] ^= 0x10;
-    memcpy(first, file, 512);
-    memcpy(file, file + 512, 512);
-    memcpy(file + 512, first, 512);
+    file[6 * BLOCK + 100] ^= 0x10;
+    memcpy(first, file, BLOCK);
+    memcpy(file, file + BLOCK, BLOCK);
+    memcpy(file + BLOCK, first, BLOCK);
     read_card("two blocks exchanged", sizeof file);
     return 0;
 }

@@ -71,9 +71,10 @@
  *
  * Writing during a frame. A byte stored to a cell that the frame's remaining lines read can show in them. Ask osd_cell about each cell
  * that you will store to: a store to a cell of which it answers 0 changes no remaining line and no other cell's answer, nor does a
- * store to a register that leaves LD, DD, CH, OSD, FBK and FL as they are. To show a new page, write it to cells that the present
- * one does not use and change P, which counts from the next frame start. P stands in register 3FF3 with OSD, FBK and FL: store it
- * with their bits as they are.
+ * store to a register that leaves LD, DD, CH, OSD, FBK and FL as they are. A 0 stays 0 over draws, questions and such stores, until the
+ * next frame start: ask about all cells of a page first, then write it. To show a new page, write it to cells that the present one does
+ * not use and change P, which counts from the next frame start. P stands in register 3FF3 with OSD, FBK and FL: store it with their bits
+ * as they are.
  */
 #ifndef OSD_H
 #define OSD_H
@@ -93,6 +94,7 @@ typedef uint64_t osd_len;
 #define OSD_RAM_LEN 1024
 #define OSD_FONT_LEN 4608
 #define OSD_FONT_FILE_LEN 5120
+#define OSD_FONT_BLOCK_LEN 512 /* of a font file */
 #define OSD_LINE_MAX 768
 #define OSD_FEED_LEN 2
 #define OSD_CHUNK_MAX 65534 /* since a value has 16 bits */
@@ -342,7 +344,8 @@ uint32_t osd_draw(uint8_t *device, osd_len device_len, const uint8_t *ram, osd_l
 
 /*
  * Do the frame's remaining lines read this cell, with RAM and registers as they stand?
- * Refusals: OSD_NOT_TAKEN, OSD_RAM_LENGTH, OSD_CELL_RANGE. Value: 1 yes, 0 no (and without a running frame).
+ * Refusals: OSD_NOT_TAKEN, OSD_RAM_LENGTH, OSD_CELL_RANGE. Value: 1 yes, 0 no (and without a running frame). A refused question has
+ * value 0 too, and is no answer: a cell is free where osd_cell(..) == 0.
  */
 uint32_t osd_cell(const uint8_t *device, osd_len device_len, const uint8_t *ram, osd_len ram_len, uint32_t cell);
 
