@@ -8,7 +8,7 @@ MANIFEST = --quiet --offline --manifest-path compare/Cargo.toml
 STORED = test_bus test_feed test_frames test_pages test_pixel test_bench demo depot door_monitor
 INTO = .
 
-.PHONY: demo depot bdf claims unused stored stored-check library divisions example model comparison speed ports port-known ports-refusals ports-test
+.PHONY: demo depot bdf claims references unused stored stored-check library divisions example model comparison speed ports port-known ports-refusals ports-test
 
 # the picture: proves, builds and runs it, and shows it as text
 demo:
@@ -30,6 +30,10 @@ bdf:
 # every claim of specs/ is tied to its proof, and docs/PROMISES.md lists it
 claims:
 	@python3 tests/claims.py
+
+# what the documents point to is there
+references:
+	@python3 tests/references.py
 
 # every law is cited and every import used
 unused:
