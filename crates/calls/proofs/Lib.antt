@@ -1,3 +1,4 @@
+pub mod Calls
 pub mod Claims
 pub mod Fed
 pub mod OnePage

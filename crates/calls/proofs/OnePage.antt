@@ -4,22 +4,21 @@
 use Prim.Native.Nat.{ℕ, zero, suc, _-_}
 use mathlib.Core.Path.{_≡_, refl, sym, ap, ap₂, _∙_, subst}
 use mathlib.Core.Bool.{true, false, not, cond, true≢false}
-use mathlib.Core.List.{List, _++_}
+use mathlib.Core.List.{List, [], _++_}
 use native.Mathlib.Numerals.{sub-one}
 use lib.Dec.{T, eqb, leb}
 use lib.ListN.{length, drop}
-use Rattle.runs.specs.Runs.{AsMade}
-use Rattle.runs.proofs.Laws.{as-made-map, kept-by-each, Apart, AllApart, all-apart, reordered}
+use Rattle.runs.specs.Runs.{log, end}
+use Rattle.runs.proofs.Laws.{as-made-map, kept-by-each, Apart, all-apart, reordered}
 use Rattle.cells.specs.Reading.{bind, value, cells, among, Alike}
 use Rattle.cells.proofs.Laws.{cells-bind, value-alike, cells-alike, alike-left, alike-right, unread-right}
 use Rattle.refusals.specs.declared.Refusal.the-variants.{RamLength, CellRange}
-use Rattle.refusals.specs.Refusals.{accepted, refused, Verdict, passed, failed}
+use Rattle.refusals.specs.Refusals.{Reply, accepted, refused, Verdict, passed, failed}
 use Rattle.registers.specs.declared.Registers.{Registers}
 use Rattle.registers.specs.declared.Settings.{Settings}
 use Rattle.registers.specs.Registers.{settingsOf}
 use Rattle.raster.specs.Raster.{widthOf}
 use Rattle.bus.specs.declared.Event.{Event}
-use Rattle.bus.specs.Bus.{eventOf}
 use Rattle.bus.proofs.Laws.{busEvent-length}
 use Rattle.walk.specs.declared.Walk.{Walk}
 use Rattle.line.specs.Line.{scan, paint}
@@ -28,10 +27,13 @@ use Rattle.device.specs.declared.Device.{Device}
 use Rattle.device.specs.Device.{hearEvent, DrawOutcome, drawVerdict, drawBy, drawLine, nextScan, pixelsOf, lineOn, lineDrawn, cellsLeft, askCell}
 use Rattle.device.proofs.Laws.{drawable, by-draw, draw-same}
 use Rattle.pixel.specs.Ask.{askPixel}
-use Rattle.capture.specs.Capture.{fedEvents}
-use Rattle.calls.specs.OnePage.{Call, draw, ask, event, feed, anew, pixel, State, drawn, asked, heard, shown, chipOf, answer, after, isEvent, calls, Quiet, QuietWrite, fedCall, fedCalls, QuietCall, OnePage}
-use Rattle.calls.specs.Use.{EventQuiet, AllQuiet, WritesAlone, NoStays}
-use Rattle.calls.proofs.Fed.{ended, told, fed-after, fed-answer}
+use Rattle.capture.specs.declared.Feed.{Feed}
+use Rattle.capture.specs.Capture.{freshFeed}
+use Rattle.calls.specs.Calls.{Call, draw, ask, event, feed, anew, pixel, Answer, isEvent, eventsOf}
+use Rattle.calls.specs.OnePage.{State, events, make, answer, after, calls, fedBy, EachEvent, Quiet, QuietWrite, OnePage}
+use Rattle.calls.specs.Use.{WritesAlone, NoStays}
+use Rattle.calls.proofs.Calls.{View, draws, asks, acts, view}
+use Rattle.calls.proofs.Fed.{withFeed, leftBy, found, told, fed-after, fed-answer}
 use Rattle.calls.proofs.Quiet.{quiet-if-write, says-no}
 
 -- ---- the remaining lines: the next one, then the others
@@ -132,32 +134,17 @@ module _ (d : Device) (ram : List ℕ) (e : Event)
       cond (not (eqb n 1024)) (refused RamLength) (cond (leb 1024 c) (refused CellRange) (accepted (cond (among c l) 1 0))))
       (busEvent-length (d .bus) (d .registers) ram e) same-left
 
--- ---- a quiet event and a later draw or question
-
--- a draw or a question
-data Looks : Call → Type 0 where
-  draws : (line : List ℕ) → Looks (draw line)
-  asks : (cell : ℕ) → Looks (ask cell)
-
-looks-if : (c : Call) → isEvent c ≡ false → Looks c
-unfolding isEvent
-looks-if (draw line) o = draws line
-looks-if (ask cell) o = asks cell
-looks-if (event e) o = absurd (true≢false o)
-looks-if (feed chunk out) o = absurd (true≢false o)
-looks-if anew o = absurd (true≢false o)
-looks-if (pixel lines frame x y) o = absurd (true≢false o)
+-- ---- a quiet event and a later draw
 
 -- the event stays quiet
-quiet-on : (font : List ℕ) (s : State) (e : Event) {c : Call} → Looks c → Quiet s e → Quiet (after font s c) e
-unfolding after
-quiet-on font s e (draws line) q =
+quiet-on : (font : List ℕ) (s : State) (e : Event) (line : List ℕ) → Quiet s e → Quiet (after font s (draw line)) e
+unfolding make
+quiet-on font s e line q =
     by-draw (s .device) (s .ram) font line (λ (x : DrawOutcome). Quiet (record { device = x .device; ram = s .ram; feed = s .feed }) e)
     (λ r. q)
     (unfold lineDrawn hearEvent lineOn in λ r. record { cells = alike-later (s .device) (s .ram) e (q .settings) (q .cells) (r .left); settings = q .settings })
-quiet-on font s e (asks cell) q = q
 
--- the event is answered as before, and leaves the same RAM
+-- it is answered as before, and leaves the same RAM
 same-hears : (font : List ℕ) (s : State) (e : Event) (line : List ℕ)
     → (hearEvent (drawLine (s .device) (s .ram) font line .device) (s .ram) e .reply ≡ hearEvent (s .device) (s .ram) e .reply)
     × (hearEvent (drawLine (s .device) (s .ram) font line .device) (s .ram) e .ram ≡ hearEvent (s .device) (s .ram) e .ram)
@@ -169,132 +156,102 @@ same-hears font s e line =
     (λ r. (refl, refl))
     (unfold lineDrawn hearEvent lineOn in λ t. (refl, refl))
 
-event-answer : (font : List ℕ) (s : State) (e : Event) {c : Call} → Looks c → answer font (after font s c) (event e) ≡ answer font s (event e)
-unfolding answer after
-event-answer font s e (draws line) = ap heard (same-hears font s e line .0)
-event-answer font s e (asks cell) = refl
-
--- the draw or question is answered as before the event
-other-answer : (font : List ℕ) (s : State) (e : Event) {c : Call} → Looks c → Quiet s e → answer font (after font s (event e)) c ≡ answer font s c
-unfolding answer after late
-other-answer font s e (draws line) q =
-    ap (λ (x : DrawOutcome). drawn (x .reply) (x .line)) (same-draw (s .device) (s .ram) e (q .settings) (q .cells) font line)
-other-answer font s e (asks cell) q = ap asked (same-ask (s .device) (s .ram) e (q .settings) (q .cells) cell)
-
--- and the two calls leave the same state in either order
-either-way : (font : List ℕ) (s : State) (e : Event) {c : Call} → Looks c → Quiet s e
-    → after font (after font s (event e)) c ≡ after font (after font s c) (event e)
-unfolding after late
-either-way font s e (draws line) q =
-    λ i.
+draw-apart : (font line : List ℕ) (s : State) (e : Event) → Quiet s e → Apart Quiet events (calls font) s e (draw line)
+unfolding make late
+draw-apart font line s e q =
+    let d = same-draw (s .device) (s .ram) e (q .settings) (q .cells) font line in
     record {
-      device = same-draw (s .device) (s .ram) e (q .settings) (q .cells) font line i .device;
-      ram = sym (same-hears font s e line .1) i;
-      feed = s .feed;
-    }
-either-way font s e (asks cell) q = refl
-
--- so they are apart, for any P that a quiet event has
-event-apart : (P : State → Call → Type 0) → ((u : State) (e : Event) → Quiet u e → P u (event e))
-    → (font : List ℕ) (s : State) (e : Event) {c : Call} → Looks c → Quiet s e → Apart P (calls font) s (event e) c
-event-apart P f font s e {c} k q =
-    record {
-      other = other-answer font s e k q;
-      own = event-answer font s e k;
-      either-way = either-way font s e k q;
-      still = f (after font s c) e (quiet-on font s e k q);
+      other = ap (λ (x : DrawOutcome). record { reply = x .reply; buffer = x .line }) d;
+      own = same-hears font s e line .0;
+      either-way = λ i. record { device = d i .device; ram = sym (same-hears font s e line .1) i; feed = s .feed };
+      still = quiet-on font s e line q;
     }
 
--- ---- a quiet feed and a later draw or question
-
--- its events are quiet, and so each can be made after the draw or question
-events-apart : (font : List ℕ) (s : State) (chunk out : List ℕ) {c : Call} → Looks c → AsMade EventQuiet (calls font) s (fedCalls s chunk out)
-    → AllApart EventQuiet (calls font) s (fedCalls s chunk out) c
-unfolding EventQuiet
-events-apart font s chunk out {c} k h =
-    all-apart EventQuiet (calls font) c fedCall (λ u x q. event-apart EventQuiet (λ v e r. r) font u (eventOf (x .kind) (x .byte)) k q)
-    s (fedEvents (chipOf s) (s .feed) chunk out) h
-
--- draws and questions do not look at the feed. A draw keeps what a feed's tests look at, and a question keeps everything
-feed-apart : (font : List ℕ) (s : State) (chunk out : List ℕ) {c : Call} → Looks c → AllQuiet font s (feed chunk out)
-    → Apart (AllQuiet font) (calls font) s (feed chunk out) c
-unfolding AllQuiet answer after
-feed-apart font s chunk out (draws line) h =
-    let a = events-apart font s chunk out (draws line) h in
-    let u : State = after font s (draw line) in
+-- a question keeps everything
+ask-apart : (font : List ℕ) (cell : ℕ) (s : State) (e : Event) → Quiet s e → Apart Quiet events (calls font) s e (ask cell)
+unfolding make
+ask-apart font cell s e q =
     record {
-      other = ap (λ (x : State). answer font x (draw line)) (fed-after s chunk out font) ∙ a .other;
-      own = fed-answer u chunk out font ∙ ap (told s chunk out) (a .own) ∙ sym (fed-answer s chunk out font);
-      either-way =
-          ap (λ (x : State). after font x (draw line)) (fed-after s chunk out font)
-          ∙ ap (ended s chunk out) (a .either-way)
-          ∙ sym (fed-after u chunk out font);
-      still = a .still;
-    }
-feed-apart font s chunk out (asks cell) h =
-    let a = events-apart font s chunk out (asks cell) h in
-    record {
-      other = ap (λ (x : State). answer font x (ask cell)) (fed-after s chunk out font) ∙ a .other;
+      other = ap (λ (r : Reply). record { reply = r; buffer = [] }) (same-ask (s .device) (s .ram) e (q .settings) (q .cells) cell);
       own = refl;
       either-way = refl;
-      still = h;
+      still = q;
     }
 
--- and a feed that is made anew is nothing to them
-anew-apart : (font : List ℕ) (s : State) {c : Call} → Looks c → Apart (AllQuiet font) (calls font) s anew c
-unfolding AllQuiet answer after
-anew-apart font s (draws line) = record { other = refl; own = refl; either-way = refl; still = tt }
-anew-apart font s (asks cell) = record { other = refl; own = refl; either-way = refl; still = tt }
+-- ---- a call that the second run makes last, by the bus events that it makes
 
--- a draw keeps RAM and registers, which are all that a question about a pixel looks at, and the question keeps everything
-pixel-apart : (font : List ℕ) (s : State) (lines frame x y : ℕ) {c : Call} → Looks c → Apart (AllQuiet font) (calls font) s (pixel lines frame x y) c
-unfolding AllQuiet answer after
-pixel-apart font s lines frame x y (draws line) =
+pub record ByEvents (font : List ℕ) (s : State) (e : Call Event) : Type 0 where
+  -- it leaves what they leave, but for the feed
+  pub feed : Feed
+  pub leaves : after font s e ≡ withFeed feed (end events s (eventsOf (fedBy s) e))
+  -- so it does after a draw, and if they are answered alike there, so is the call
+  pub drawn : (line : List ℕ) → let u : State = after font s (draw line) in after font u e ≡ withFeed feed (end events u (eventsOf (fedBy u) e))
+  pub own : (line : List ℕ) → let u : State = after font s (draw line) in
+      log events u (eventsOf (fedBy u) e) ≡ log events s (eventsOf (fedBy s) e) → answer font u e ≡ answer font s e
+
+-- a draw keeps what a feed's tests look at, and RAM and registers, which are all that a question about a pixel looks at
+pub by-events : (font : List ℕ) (s : State) (e : Call Event) → isEvent e ≡ true → ByEvents font s e
+unfolding isEvent eventsOf make end
+by-events font s (draw line) p = absurd (true≢false (sym p))
+by-events font s (ask cell) p = absurd (true≢false (sym p))
+by-events font s (event e) p =
     record {
-      other = refl;
-      own = ap (λ (r : Registers). shown (askPixel r (s .ram) font lines frame x y)) (draw-same (s .device) (s .ram) font line);
-      either-way = refl;
-      still = tt;
+      feed = s .feed;
+      leaves = refl;
+      drawn = λ line. refl;
+      own = λ line same. ap (λ (r : Reply). record { reply = r; buffer = [] }) (same-hears font s e line .0);
     }
-pixel-apart font s lines frame x y (asks cell) = record { other = refl; own = refl; either-way = refl; still = tt }
+by-events font s (feed chunk out) p =
+    record {
+      feed = leftBy s chunk out (found s chunk out);
+      leaves = fed-after s chunk out font;
+      drawn = λ line. fed-after (after font s (draw line)) chunk out font;
+      own = λ line same. fed-answer (after font s (draw line)) chunk out font ∙ ap (told s chunk out) same ∙ sym (fed-answer s chunk out font);
+    }
+by-events font s anew p = record { feed = freshFeed; leaves = refl; drawn = λ line. refl; own = λ line same. refl }
+by-events font s (pixel lines frame x y) p =
+    record {
+      feed = s .feed;
+      leaves = refl;
+      drawn = λ line. refl;
+      own = λ line same.
+          ap (λ (r : Registers). record { reply = askPixel r (s .ram) font lines frame x y; buffer = [] }) (draw-same (s .device) (s .ram) font line);
+    }
 
 -- ---- condition 3
 
 -- every event is quiet, since every write is
-event-quiet : (u : State) (c : Call) → QuietWrite u c → EventQuiet u c
-unfolding QuietWrite EventQuiet
-event-quiet u (draw line) h = tt
-event-quiet u (ask cell) h = tt
-event-quiet u (event e) h = quiet-if-write u e h
-event-quiet u (feed chunk out) h = tt
-event-quiet u anew h = tt
-event-quiet u (pixel lines frame x y) h = tt
-
--- those that a feed makes, too
-call-quiet : (font : List ℕ) (u : State) (c : Call) → QuietCall font u c → AllQuiet font u c
-unfolding QuietCall AllQuiet
-call-quiet font u (draw line) h = tt
-call-quiet font u (ask cell) h = tt
-call-quiet font u (event e) h = event-quiet u (event e) h
-call-quiet font u anew h = tt
-call-quiet font u (pixel lines frame x y) h = tt
-call-quiet font u (feed chunk out) h = as-made-map QuietWrite EventQuiet (calls font) event-quiet u (fedCalls u chunk out) h
+call-quiet : (u : State) (c : Call Event) → EachEvent QuietWrite u c → EachEvent Quiet u c
+call-quiet u c = as-made-map QuietWrite Quiet events quiet-if-write u (eventsOf (fedBy u) c)
 
 pub writes-alone : WritesAlone
-writes-alone font s cs q = as-made-map (QuietCall font) (AllQuiet font) (calls font) (call-quiet font) s cs q
+writes-alone font s cs q = as-made-map (EachEvent QuietWrite) (EachEvent Quiet) (calls font) call-quiet s cs q
 
-pub apart : (font : List ℕ) (u : State) (e c : Call) → isEvent e ≡ true → isEvent c ≡ false → AllQuiet font u e
-    → Apart (AllQuiet font) (calls font) u e c
-unfolding isEvent EventQuiet AllQuiet
-apart font u (draw line) c p o h = absurd (true≢false (sym p))
-apart font u (ask cell) c p o h = absurd (true≢false (sym p))
-apart font u (event e) c p o h = event-apart (AllQuiet font) (λ v x q. q) font u e (looks-if c o) h
-apart font u (feed chunk out) c p o h = feed-apart font u chunk out (looks-if c o) h
-apart font u anew c p o h = anew-apart font u (looks-if c o)
-apart font u (pixel lines frame x y) c p o h = pixel-apart font u lines frame x y (looks-if c o)
+-- draws and questions do not look at the feed
+pub apart : (font : List ℕ) (s : State) (e c : Call Event) → isEvent e ≡ true → isEvent c ≡ false → EachEvent Quiet s e
+    → Apart (EachEvent Quiet) (calls font) (calls font) s e c
+unfolding make isEvent
+apart font s e c p o h = by (view c) o
+  where
+    b : ByEvents font s e
+    b = by-events font s e p
+
+    by : {c : Call Event} → View c → isEvent c ≡ false → Apart (EachEvent Quiet) (calls font) (calls font) s e c
+    by (draws line) o =
+        let a = all-apart Quiet events (calls font) (draw line) (draw-apart font line) s (eventsOf (fedBy s) e) h in
+        record {
+          other = ap (λ (x : State). answer font x (draw line)) (b .leaves) ∙ a .other;
+          own = b .own line (a .own);
+          either-way = ap (λ (x : State). after font x (draw line)) (b .leaves) ∙ ap (withFeed (b .feed)) (a .either-way) ∙ sym (b .drawn line);
+          still = a .still;
+        }
+    by (asks cell) o =
+        let a = all-apart Quiet events (calls font) (ask cell) (ask-apart font cell) s (eventsOf (fedBy s) e) h in
+        record { other = ap (λ (x : State). answer font x (ask cell)) (b .leaves) ∙ a .other; own = refl; either-way = refl; still = h }
+    by (acts t n) o = absurd (true≢false (sym t ∙ o))
 
 pub one-page : OnePage
-one-page font s cs q = reordered (AllQuiet font) (calls font) (apart font) s cs (writes-alone font s cs q)
+one-page font s cs q = reordered (EachEvent Quiet) (calls font) (apart font) s cs (writes-alone font s cs q)
 
 -- ---- a no of the cell question stays a no
 
@@ -308,19 +265,19 @@ later-unread d ram cell t n =
     unread-right cell (cells ram (nextScan d)) (cellsLeft (lineOn d ram) ram) (sym (ap (among cell) (cellsLeft-more d ram t)) ∙ h .2) in
     rw (h .0, h .1, later)
 
-pub still-unread : (font : List ℕ) (cell : ℕ) (u : State) (c : Call) → AllQuiet font u c → askCell (u .device) (u .ram) cell ≡ accepted 0
+pub still-unread : (font : List ℕ) (cell : ℕ) (u : State) (c : Call Event) → EachEvent Quiet u c → askCell (u .device) (u .ram) cell ≡ accepted 0
     → askCell (after font u c .device) (after font u c .ram) cell ≡ accepted 0
-unfolding answer after EventQuiet AllQuiet
-still-unread font cell u (draw line) h n =
-    by-draw (u .device) (u .ram) font line (λ (x : DrawOutcome). askCell (x .device) (u .ram) cell ≡ accepted 0)
-    (λ r. n) (unfold lineDrawn in λ r. later-unread (u .device) (u .ram) cell (r .left) n)
-still-unread font cell u (ask other) h n = n
-still-unread font cell u (event e) h n = same-ask (u .device) (u .ram) e (h .settings) (h .cells) cell ∙ n
-still-unread font cell u anew h n = n
-still-unread font cell u (pixel lines frame x y) h n = n
-still-unread font cell u (feed chunk out) h n = let a = feed-apart font u chunk out (asks cell) h .other in cc
+unfolding make isEvent
+still-unread font cell u c h n = by (view c) h
+  where
+    by : {c : Call Event} → View c → EachEvent Quiet u c → askCell (after font u c .device) (after font u c .ram) cell ≡ accepted 0
+    by (draws line) h =
+        by-draw (u .device) (u .ram) font line (λ (x : DrawOutcome). askCell (x .device) (u .ram) cell ≡ accepted 0)
+        (λ r. n) (unfold lineDrawn in λ r. later-unread (u .device) (u .ram) cell (r .left) n)
+    by (asks other) h = n
+    by (acts {c = c} t d) h = ap (λ (x : Answer Reply). x .reply) (apart font u c (ask cell) t refl h .other) ∙ n
 
 pub no-stays : NoStays
 no-stays font s cs cell q n =
-    kept-by-each (AllQuiet font) (calls font) (λ (u : State). askCell (u .device) (u .ram) cell ≡ accepted 0) (still-unread font cell) s cs
+    kept-by-each (EachEvent Quiet) (calls font) (λ (u : State). askCell (u .device) (u .ram) cell ≡ accepted 0) (still-unread font cell) s cs
     (writes-alone font s cs q) n

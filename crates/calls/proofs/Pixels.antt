@@ -4,7 +4,7 @@
 use Prim.Native.Nat.{ℕ, suc, _+_, _-_, _%_, _<_}
 use mathlib.Core.Path.{_≡_, refl, sym, ap, _∙_, subst}
 use mathlib.Core.Bool.{cond}
-use mathlib.Core.List.{List, [], _∷_, map}
+use mathlib.Core.List.{List, [], _∷_}
 use native.Mathlib.Nat.{zero-add, add-zero, add-assoc}
 use native.Mathlib.Omega.{arith}
 use lib.Dec.{eqb}
@@ -25,55 +25,52 @@ use Rattle.line.proofs.Strips.{scan-value}
 use Rattle.device.specs.declared.Frame.{Frame}
 use Rattle.device.specs.Device.{hearEvent, StartOutcome, inFrame, DrawOutcome, pixelsOf, lineOn, lineDrawn, lineWidth, drawLine}
 use Rattle.device.proofs.Laws.{start-passed, by-draw, draw-same, draw-passed, line-at}
-use Rattle.capture.specs.Capture.{Logged, fedEvents}
 use Rattle.pixel.specs.Pixel.{pixelAt}
 use Rattle.pixel.proofs.Laws.{ask-passed}
 use Rattle.pixel.proofs.Lines.{pixel-is}
-use Rattle.calls.specs.OnePage.{Call, draw, ask, event, feed, anew, pixel, State, chipOf, answer, after, calls, fedCall, fedCalls}
-use Rattle.calls.specs.Pixels.{started, StayPut, StayingPut, drew, linesDrawn, PixelsAgree}
-use Rattle.calls.proofs.Fed.{fed-after}
+use Rattle.calls.specs.Calls.{Call, ask, event, isDraw, eventsOf, drew}
+use Rattle.calls.specs.OnePage.{State, events, make, answer, after, calls, fedBy, EachEvent}
+use Rattle.calls.specs.Pixels.{started, StayPut, StayingPut, accepts, linesDrawn, PixelsAgree}
+use Rattle.calls.proofs.Calls.{View, draws, asks, acts, view}
+use Rattle.calls.proofs.OnePage.{by-events}
 use Rattle.calls.proofs.Quiet.{outcome, Same, same-unstored, same-refused}
 
 -- ---- calls that leave RAM and registers as they are
 
 event-put : (font : List ℕ) (s : State) (e : Event) → Same s (outcome s e) → StayPut font s (event e)
-unfolding Same after hearEvent
+unfolding Same make hearEvent
 event-put font s e h = record { ram = h .0; registers = h .1 }
 
-feed-put : (font : List ℕ) (s : State) (chunk out : List ℕ) → AsMade (StayPut font) (calls font) s (fedCalls s chunk out) → StayPut font s (feed chunk out)
-feed-put font s chunk out h =
-    let kept =
-    kept-by-each (StayPut font) (calls font) (λ (u : State). (u .ram ≡ s .ram) × (u .device .registers ≡ s .device .registers))
-    (λ u c p i. (p .ram ∙ i .0, p .registers ∙ i .1)) s (fedCalls s chunk out) h (refl, refl)
-    in
-    record {
-      ram = ap (λ (u : State). u .ram) (fed-after s chunk out font) ∙ kept .0;
-      registers = ap (λ (u : State). u .device .registers) (fed-after s chunk out font) ∙ kept .1;
-    }
+-- what its events do, a call does
+call-put : (font : List ℕ) (s : State) (c : Call Event) → EachEvent (λ u e. StayPut font u (event e)) s c → StayPut font s c
+unfolding make
+call-put font s c = by (view c)
+  where
+    by : {c : Call Event} → View c → EachEvent (λ u e. StayPut font u (event e)) s c → StayPut font s c
+    by (draws line) h = record { ram = refl; registers = draw-same (s .device) (s .ram) font line }
+    by (asks cell) h = record { ram = refl; registers = refl }
+    by (acts {c = c} t d) h =
+        let e = by-events font s c t .leaves in
+        let kept =
+        kept-by-each (λ u x. StayPut font u (event x)) events (λ (u : State). (u .ram ≡ s .ram) × (u .device .registers ≡ s .device .registers))
+        (λ u x p i. (p .ram ∙ i .0, p .registers ∙ i .1)) s (eventsOf (fedBy s) c) h (refl, refl)
+        in
+        record { ram = ap (λ (u : State). u .ram) e ∙ kept .0; registers = ap (λ (u : State). u .device .registers) e ∙ kept .1 }
 
 pub staying-put : StayingPut
-unfolding after
 staying-put =
     record {
-      draws = λ font s line. record { ram = refl; registers = draw-same (s .device) (s .ram) font line };
-      cells = λ font s cell. record { ram = refl; registers = refl };
-      pixels = λ font s lines frame x y. record { ram = refl; registers = refl };
-      renewals = λ font s. record { ram = refl; registers = refl };
+      calls = call-put;
       events = λ font s e n. event-put font s e (same-unstored s e n);
       refused = λ font s e n. event-put font s e (same-refused s e (unfold hearEvent in n));
-      feeds = feed-put;
     }
 
--- ---- events and feeds leave the frame as it is
+-- ---- events leave the frame as it is
 
-events-frame : (font : List ℕ) (u : State) (es : List Logged) → end (calls font) u (map fedCall es) .device .frame ≡ u .device .frame
-unfolding end after hearEvent
-events-frame font u [] = refl
-events-frame font u (x ∷ es) = events-frame font (after font u (fedCall x)) es
-
-feed-frame : (font : List ℕ) (u : State) (chunk out : List ℕ) → after font u (feed chunk out) .device .frame ≡ u .device .frame
-feed-frame font u chunk out =
-    ap (λ (v : State). v .device .frame) (fed-after u chunk out font) ∙ events-frame font u (fedEvents (chipOf u) (u .feed) chunk out)
+events-frame : (u : State) (es : List Event) → end events u es .device .frame ≡ u .device .frame
+unfolding end hearEvent
+events-frame u [] = refl
+events-frame u (e ∷ es) = events-frame (events .after u e) es
 
 -- ---- what the lines of a frame bring
 
@@ -87,7 +84,7 @@ module _ (font : List ℕ) (r : Registers) (mem : List ℕ) (f lines : ℕ) wher
     walk : u .device .frame .walk ≡ walkAfter mem (settingsOf r .ch) n (walkFrom (pageOf r))
 
   -- a call that leaves the frame as it is draws no line
-  frame-kept : (n : ℕ) (u : State) (c : Call) → At n u → StayPut font u c → after font u c .device .frame ≡ u .device .frame → At (n + 0) (after font u c)
+  frame-kept : (n : ℕ) (u : State) (c : Call Event) → At n u → StayPut font u c → after font u c .device .frame ≡ u .device .frame → At (n + 0) (after font u c)
   frame-kept n u c i p e =
       subst (λ (m : ℕ). At m (after font u c)) (sym (add-zero n))
       (record {
@@ -109,29 +106,34 @@ module _ (font : List ℕ) (r : Registers) (mem : List ℕ) (f lines : ℕ) wher
       ∙ sym (one-more mem (settingsOf r .ch) n (walkFrom (pageOf r)))
       ∙ ap (λ (k : ℕ). walkAfter mem (settingsOf r .ch) k (walkFrom (pageOf r))) more
 
+  -- the lines that a call draws
+  abbrev drawnBy : State → Call Event → ℕ
+  drawnBy u c = drew accepts (record { call = c; answer = answer font u c })
+
   -- one call
-  one-call : (n : ℕ) (u : State) (c : Call) → At n u → StayPut font u c → At (n + drew (answer font u c)) (after font u c)
-  unfolding answer after drew
-  one-call n u (draw line) i p =
-      by-draw (u .device) (u .ram) font line
-      (λ (o : DrawOutcome). At (n + cond (eqb (o .reply .refusal) 0) 1 0) (record { device = o .device; ram = u .ram; feed = u .feed }))
-      (λ q. rw (not-zero q, add-zero) i)
-      (unfold lineDrawn lineOn in λ ready.
-      record { ram = i .ram; registers = i .registers; number = i .number; left = omega (arith, i .left); walk = walk-on n u i })
-  one-call n u (ask cell) i p = frame-kept n u (ask cell) i p refl
-  one-call n u (event e) i p = frame-kept n u (event e) i p (unfold hearEvent in refl)
-  one-call n u (feed chunk out) i p = frame-kept n u (feed chunk out) i p (feed-frame font u chunk out)
-  one-call n u anew i p = frame-kept n u anew i p refl
-  one-call n u (pixel ls g x y) i p = frame-kept n u (pixel ls g x y) i p refl
+  one-call : (n : ℕ) (u : State) (c : Call Event) → At n u → StayPut font u c → At (n + drawnBy u c) (after font u c)
+  unfolding make isDraw
+  one-call n u c i p = by (view c) p
+    where
+      by : {c : Call Event} → View c → StayPut font u c → At (n + drawnBy u c) (after font u c)
+      by (draws line) p =
+          by-draw (u .device) (u .ram) font line
+          (λ (o : DrawOutcome). At (n + cond (eqb (o .reply .refusal) 0) 1 0) (record { device = o .device; ram = u .ram; feed = u .feed }))
+          (λ q. rw (not-zero q, add-zero) i)
+          (unfold lineDrawn lineOn in λ ready.
+          record { ram = i .ram; registers = i .registers; number = i .number; left = omega (arith, i .left); walk = walk-on n u i })
+      by (asks cell) p = frame-kept n u (ask cell) i p refl
+      by (acts {c = c} t d) p =
+          rw d (frame-kept n u c i p (ap (λ (v : State). v .device .frame) (by-events font u c t .leaves) ∙ events-frame u (eventsOf (fedBy u) c)))
 
   -- all calls of a run
-  all-calls : (cs : List Call) (n : ℕ) (u : State) → At n u → AsMade (StayPut font) (calls font) u cs
+  all-calls : (cs : List (Call Event)) (n : ℕ) (u : State) → At n u → AsMade (StayPut font) (calls font) u cs
       → At (n + linesDrawn (log (calls font) u cs)) (end (calls font) u cs)
   unfolding log end total AsMade
   all-calls [] n u i p = subst (λ (m : ℕ). At m u) (sym (add-zero n)) i
   all-calls (c ∷ cs) n u i p =
-      subst (λ (m : ℕ). At m (end (calls font) (after font u c) cs)) (add-assoc n (drew (answer font u c)) (linesDrawn (log (calls font) (after font u c) cs)))
-      (all-calls cs (n + drew (answer font u c)) (after font u c) (one-call n u c i (p .0)) (p .1))
+      subst (λ (m : ℕ). At m (end (calls font) (after font u c) cs)) (add-assoc n (drawnBy u c) (linesDrawn (log (calls font) (after font u c) cs)))
+      (all-calls cs (n + drawnBy u c) (after font u c) (one-call n u c i (p .0)) (p .1))
 
   -- the pixel that the next line has at x
   at-pixel : (n x : ℕ) (u : State) → At n u → x < widthOf (settingsOf r .ld) → getD (pixelsOf (u .device) (u .ram) font) x 0 ≡ pixelAt r mem font f x n

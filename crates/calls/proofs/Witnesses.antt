@@ -8,11 +8,13 @@ use borrow.Author.Tests.{eqb-true, eqb-false}
 use lib.Dec.{T, eqb, eqb→eq}
 use lib.ListN.{getD}
 use mir.Facts.{and-yes}
-use Rattle.runs.specs.Runs.{Entry, log, end, AsMade, select, othersOf, SameRuns}
+use Rattle.runs.specs.Runs.{Machine, Entry, log, end, AsMade, select, othersOf, SameRuns}
 use Rattle.cells.specs.Reading.{Role, descriptor, code, slice, sameRole, bind, fmap, value, cells, cellsAs, among, Alike}
+use Rattle.refusals.specs.Refusals.{Reply}
 use Rattle.registers.specs.declared.Settings.{Settings}
 use Rattle.registers.specs.Registers.{settingsOf, pageOf}
 use Rattle.raster.specs.Raster.{beforeFirst, following, isLast, interpolated, sliceNumber}
+use Rattle.bus.specs.declared.Event.{Event}
 use Rattle.bus.specs.declared.Event.the-variants.{Byte}
 use Rattle.bus.specs.Bus.{step, ramWith, registersWith, answerTo, taken, busEvent}
 use Rattle.walk.specs.Walk.{walkFrom, stripOf, over, begun, advanced, nextLine}
@@ -24,9 +26,9 @@ use Rattle.device.specs.Device.{freshDevice, hearEvent, startFrame, inFrame, pi
 use Rattle.pixel.specs.Pixel.{fallsIn, ended, rowPixel, pixelAt}
 use Rattle.pixel.specs.Ask.{pixelVerdict, pixelBy, askPixel}
 use Rattle.capture.specs.Capture.{finished, feedAfter, outputs, feedVerdict, chunkFed, feedBy, eventsBy, feedChunk}
-use Rattle.calls.specs.OnePage.{Call, draw, ask, event, feed, anew, pixel, State, Answer, drawn, asked, fed, renewed, shown, answer, after, isEvent, calls, effectOf, Stores, QuietWrite, fedCalls, QuietCall}
-use Rattle.calls.specs.OnePage as one-page
-use Rattle.calls.specs.Witnesses.{addressing, write, font, heard, starts, traffic, picture, buffer, turning, refusalOf, firstLine, Changes}
+use Rattle.calls.specs.Calls.{Call, draw, event, Answer, isEvent, eventsOf}
+use Rattle.calls.specs.OnePage.{State, events, make, calls, fedBy, EachEvent, effectOf, Stores, QuietWrite}
+use Rattle.calls.specs.Witnesses.{addressing, write, font, heard, starts, traffic, picture, buffer, turning, firstLine, Changes}
 use Rattle.calls.specs.Witnesses.{Setting, LD, DD, CH, OSD, FBK, FL, but, ButSetting, ButCell, ready, Seen, Witnesses}
 
 -- ---- tests that show a list to be quiet
@@ -79,78 +81,50 @@ same-if s t passed =
     }
 
 -- an event is quiet, write or not
-eventTest : State → Call → Bool
-eventTest s (draw line) = true
-eventTest s (ask cell) = true
-eventTest s (event e) =
+eventTest : State → Event → Bool
+eventTest s e =
     alikeTest (cellsLeft (s .device) (s .ram)) (s .ram) (hearEvent (s .device) (s .ram) e .ram)
     && sameTest (settingsOf (hearEvent (s .device) (s .ram) e .device .registers)) (settingsOf (s .device .registers))
-eventTest s (feed chunk out) = true
-eventTest s anew = true
-eventTest s (pixel lines frame x y) = true
 
--- each call of a list passes a test as it is made
-runTest : (State → Call → Bool) → State → List Call → Bool
-runTest test s [] = true
-runTest test s (c ∷ cs) = test s c && runTest test (after font s c) cs
-
--- an event is quiet, and each event that a feed makes
-quietTest : State → Call → Bool
-quietTest s (draw line) = true
-quietTest s (ask cell) = true
-quietTest s (event e) = eventTest s (event e)
-quietTest s (feed chunk out) = runTest eventTest s (fedCalls s chunk out)
-quietTest s anew = true
-quietTest s (pixel lines frame x y) = true
-
--- what a test shows of a call holds of each call that passes it
-as-made-if : (P : State → Call → Type 0) (test : State → Call → Bool) → ((s : State) (c : Call) → T (test s c) → P s c)
-    → (s : State) (cs : List Call) → T (runTest test s cs) → AsMade P (calls font) s cs
-unfolding runTest AsMade
-as-made-if P test f s [] t = tt
-as-made-if P test f s (c ∷ cs) t =
-    let (first, later) = and-yes (test s c) _ t in
-    (f s c first, as-made-if P test f (after font s c) cs later)
-
-write-if : (s : State) (c : Call) → T (eventTest s c) → QuietWrite s c
-unfolding eventTest QuietWrite
-write-if s (draw line) t = tt
-write-if s (ask cell) t = tt
-write-if s (event e) t =
+event-if : (s : State) (e : Event) → T (eventTest s e) → QuietWrite s e
+unfolding eventTest
+event-if s e t =
     let (alike, same) = and-yes (alikeTest (cellsLeft (s .device) (s .ram)) (s .ram) (hearEvent (s .device) (s .ram) e .ram)) _ t in
     λ _. record { cells = alike-if _ _ _ alike; settings = same-if _ _ same }
-write-if s (feed chunk out) t = tt
-write-if s anew t = tt
-write-if s (pixel lines frame x y) t = tt
 
-call-if : (s : State) (c : Call) → T (quietTest s c) → QuietCall font s c
-unfolding quietTest QuietCall
-call-if s (draw line) t = tt
-call-if s (ask cell) t = tt
-call-if s (event e) t = write-if s (event e) t
-call-if s (feed chunk out) t = as-made-if QuietWrite eventTest write-if s (fedCalls s chunk out) t
-call-if s anew t = tt
-call-if s (pixel lines frame x y) t = tt
+-- each call of a list passes a test as it is made
+runTest : {C A : Type 0} → (State → C → Bool) → Machine State C A → State → List C → Bool
+runTest test m s [] = true
+runTest test m s (c ∷ cs) = test s c && runTest test m (m .after s c) cs
+
+-- what a test shows of a call holds of each call that passes it
+as-made-if : {C A : Type 0} (P : State → C → Type 0) (test : State → C → Bool) (m : Machine State C A) → ((s : State) (c : C) → T (test s c) → P s c)
+    → (s : State) (cs : List C) → T (runTest test m s cs) → AsMade P m s cs
+unfolding runTest AsMade
+as-made-if P test m f s [] t = tt
+as-made-if P test m f s (c ∷ cs) t =
+    let (first, later) = and-yes (test s c) _ t in
+    (f s c first, as-made-if P test m f (m .after s c) cs later)
+
+-- each event of a call is quiet
+quietTest : State → Call Event → Bool
+quietTest s c = runTest eventTest events s (eventsOf (fedBy s) c)
+
+quiet-if : (s : State) (c : Call Event) → T (quietTest s c) → EachEvent QuietWrite s c
+unfolding quietTest
+quiet-if s c t = as-made-if QuietWrite eventTest events event-if s (eventsOf (fedBy s) c) t
 
 -- ---- a test that shows two runs to differ
 
 -- a pixel of a log's first line
-pixelOf : ℕ → Answer → ℕ
-pixelOf i (drawn reply line) = getD line i 0
-pixelOf i (asked reply) = 0
-pixelOf i (one-page.heard reply) = 0
-pixelOf i (fed reply out) = 0
-pixelOf i renewed = 0
-pixelOf i (shown reply) = 0
-
-pixelIn : ℕ → List (Entry Call Answer) → ℕ
+pixelIn : ℕ → List (Entry (Call Event) (Answer Reply)) → ℕ
 pixelIn i [] = 0
-pixelIn i (x ∷ xs) = pixelOf i (x .answer)
+pixelIn i (x ∷ xs) = getD (x .answer .buffer) i 0
 
 -- it is the same in both runs. To open this test opens all that a witness computes
-pixelTest : ℕ → State → List Call → Bool
-unfolding addressing write font heard starts traffic picture buffer turning refusalOf firstLine but ready alikeTest sameTest eventTest
-    runTest quietTest pixelOf pixelIn answer after isEvent Stores freshDevice hearEvent startFrame inFrame pixelsOf lineOn lineDrawn drawVerdict drawBy drawLine
+pixelTest : ℕ → State → List (Call Event) → Bool
+unfolding addressing write font heard starts traffic picture buffer turning firstLine but ready alikeTest sameTest eventTest
+    runTest quietTest pixelIn make isEvent eventsOf Stores freshDevice hearEvent startFrame inFrame pixelsOf lineOn lineDrawn drawVerdict drawBy drawLine
     cellsLeft askCell log end select step ramWith registersWith answerTo taken busEvent settingsOf remaining scanBy nextLine walkFrom
     over begun advanced stripOf rowBy shownBy codesBy glyphOf inRam bind fmap value cells cellsAs sameRole among beforeFirst following isLast
     interpolated sliceNumber paint painted character shownOf twelveColumns inkOf columns ofBytes
@@ -162,7 +136,7 @@ pixelTest i s cs =
 apart : {A : Type 0} (f : A → ℕ) (x y : A) → eqb (f x) (f y) ≡ false → x ≡ y → ⊥
 apart f x y n e = eqb-false (f x) (f y) n (ap f e)
 
-differ-if : (i : ℕ) (s : State) (cs : List Call) → pixelTest i s cs ≡ false → SameRuns (calls font) s cs → ⊥
+differ-if : (i : ℕ) (s : State) (cs : List (Call Event)) → pixelTest i s cs ≡ false → SameRuns (calls font) s cs → ⊥
 unfolding pixelTest
 differ-if i s cs n r = apart (pixelIn i) _ _ n (r .others)
 
@@ -172,7 +146,7 @@ changes : Changes picture turning
 unfolding pixelTest
 changes =
     record {
-      quiet = as-made-if (QuietCall font) quietTest call-if picture turning tt;
+      quiet = as-made-if (EachEvent QuietWrite) quietTest (calls font) quiet-if picture turning tt;
       accepted = refl;
       registers = apart pageOf _ _ refl;
       ram = apart (λ (ram : List ℕ). getD ram 0x020 0) _ _ refl;

@@ -1,3 +1,4 @@
+pub mod Calls
 pub mod Fed
 pub mod OnePage
 pub mod Pixels

@@ -8,31 +8,22 @@
 -- Assumes nothing.
 use Prim.Native.Nat.{ℕ}
 use mathlib.Core.Path.{_≡_}
-use mathlib.Core.Bool.{Bool, true, false}
-use mathlib.Core.List.{List, map}
+use mathlib.Core.Bool.{true}
+use mathlib.Core.List.{List, [], map}
 use Rattle.runs.specs.Runs.{Machine, AsMade, SameRuns}
 use Rattle.cells.specs.Reading.{Alike}
-use Rattle.refusals.specs.Refusals.{Reply}
+use Rattle.refusals.specs.Refusals.{Reply, accepted}
 use Rattle.registers.specs.Registers.{settingsOf}
 use Rattle.bus.specs.declared.Event.{Event}
 use Rattle.bus.specs.declared.Effect.{Effect}
 use Rattle.bus.specs.declared.Effect.the-variants.{Acknowledge, Ignore, Store, Load}
 use Rattle.bus.specs.Bus.{eventOf, step}
 use Rattle.device.specs.declared.Device.{Device}
-use Rattle.device.specs.Device.{hearEvent, drawLine, askCell, cellsLeft}
+use Rattle.device.specs.Device.{hearEvent, DrawOutcome, drawLine, askCell, cellsLeft}
 use Rattle.pixel.specs.Ask.{askPixel}
 use Rattle.capture.specs.declared.Feed.{Feed}
 use Rattle.capture.specs.Capture.{Logged, freshFeed, Chip, chip, FeedOutcome, feedChunk, fedEvents}
-
--- a call of the list: a draw with any bytes, in any number, in its line buffer at entry; a cell question; a bus event; a feed of a
--- chunk, with any bytes, in any number, in its output buffer at entry; the feed is made anew; one pixel is asked for
-pub data Call : Type 0 where
-  draw : (line : List ℕ) → Call
-  ask : (cell : ℕ) → Call
-  event : Event → Call
-  feed : (chunk out : List ℕ) → Call
-  anew : Call
-  pixel : (lines frame x y : ℕ) → Call
+use Rattle.calls.specs.Calls.{Call, draw, ask, event, feed, anew, pixel, Answer, Made, made, machine, eventsOf}
 
 -- the device, the RAM and the feed as a call returned or left them
 pub record State : Type 0 where
@@ -40,52 +31,48 @@ pub record State : Type 0 where
   pub ram : List ℕ
   pub feed : Feed
 
--- what a call answers: the refusal's number and the value, of a draw all bytes of its line buffer after it, of a feed all bytes of its
--- output buffer
-pub data Answer : Type 0 where
-  drawn : Reply → (line : List ℕ) → Answer
-  asked : Reply → Answer
-  heard : Reply → Answer
-  fed : Reply → (out : List ℕ) → Answer
-  renewed : Answer
-  shown : Reply → Answer
-
 abbrev pub chipOf : State → Chip
 chipOf s = chip (s .device) (s .ram)
 
--- each call by the definition that the promise of the device's function cites
-unfoldable pub answer : List ℕ → State → Call → Answer
-answer font s (draw line) = drawn (drawLine (s .device) (s .ram) font line .reply) (drawLine (s .device) (s .ram) font line .line)
-answer font s (ask cell) = asked (askCell (s .device) (s .ram) cell)
-answer font s (event e) = heard (hearEvent (s .device) (s .ram) e .reply)
-answer font s (feed chunk out) = fed (feedChunk (chipOf s) (s .feed) chunk out .reply) (feedChunk (chipOf s) (s .feed) chunk out .out)
-answer font s anew = renewed
-answer font s (pixel lines frame x y) = shown (askPixel (s .device .registers) (s .ram) font lines frame x y)
+-- the bus events alone, each on the state that the one before left
+abbrev pub events : Machine State Event Reply
+events =
+    record {
+      answer = λ s e. hearEvent (s .device) (s .ram) e .reply;
+      after = λ s e. record { device = hearEvent (s .device) (s .ram) e .device; ram = hearEvent (s .device) (s .ram) e .ram; feed = s .feed };
+      isEvent = λ e. true;
+    }
 
-unfoldable pub after : List ℕ → State → Call → State
-after font s (draw line) = record { device = drawLine (s .device) (s .ram) font line .device; ram = s .ram; feed = s .feed }
-after font s (ask cell) = s
-after font s (event e) =
-    record { device = hearEvent (s .device) (s .ram) e .device; ram = hearEvent (s .device) (s .ram) e .ram; feed = s .feed }
-after font s (feed chunk out) =
+-- each call by the definition that the promise of the device's function cites. (To make a feed anew takes no reply: it is accepted)
+unfoldable pub make : (font : List ℕ) → State → Call Event → Made State Reply
+make font s (draw line) =
+    let o : DrawOutcome = drawLine (s .device) (s .ram) font line in
+    made (record { device = o .device; ram = s .ram; feed = s .feed }) (o .reply) (o .line)
+make font s (ask cell) = made s (askCell (s .device) (s .ram) cell) []
+make font s (event e) = made (events .after s e) (events .answer s e) []
+make font s (feed chunk out) =
     let o : FeedOutcome = feedChunk (chipOf s) (s .feed) chunk out in
-    record { device = o .chip .device; ram = o .chip .ram; feed = o .feed }
-after font s anew = record { device = s .device; ram = s .ram; feed = freshFeed }
-after font s (pixel lines frame x y) = s
+    made (record { device = o .chip .device; ram = o .chip .ram; feed = o .feed }) (o .reply) (o .out)
+make font s anew = made (record { device = s .device; ram = s .ram; feed = freshFeed }) (accepted 0) []
+make font s (pixel lines frame x y) = made s (askPixel (s .device .registers) (s .ram) font lines frame x y) []
 
--- what the second run makes last
-unfoldable pub isEvent : Call → Bool
-isEvent (draw line) = false
-isEvent (ask cell) = false
-isEvent (event e) = true
-isEvent (feed chunk out) = true
-isEvent anew = true
-isEvent (pixel lines frame x y) = true
+abbrev pub answer : (font : List ℕ) → State → Call Event → Answer Reply
+answer font s c = make font s c .answer
 
--- the calls with one font lent throughout. A run gives each call the device, the RAM and the feed as the call before it returned or
--- left them; the second run makes the draws and cell questions in their order, then all others in theirs (crate runs)
-abbrev pub calls : List ℕ → Machine State Call Answer
-calls font = record { answer = answer font; after = after font; isEvent = isEvent }
+abbrev pub after : (font : List ℕ) → State → Call Event → State
+after font s c = make font s c .state
+
+-- the calls with one font lent throughout
+abbrev pub calls : (font : List ℕ) → Machine State (Call Event) (Answer Reply)
+calls font = machine (make font)
+
+-- the bus events that a feed makes; none where the feed is refused before any event
+abbrev pub fedBy : State → (chunk out : List ℕ) → List Event
+fedBy s chunk out = map (λ (x : Logged). eventOf (x .kind) (x .byte)) (fedEvents (chipOf s) (s .feed) chunk out)
+
+-- P holds of each bus event of a call as it is made: of the event itself, or of each event of a feed, in turn. No other call makes any
+abbrev pub EachEvent : (State → Event → Type 0) → State → Call Event → Type 0
+EachEvent P s c = AsMade P events s (eventsOf (fedBy s) c)
 
 -- ---- quiet
 
@@ -106,39 +93,16 @@ pub record Quiet (s : State) (e : Event) : Type 0 where
   pub cells : Alike (cellsLeft (s .device) (s .ram)) (s .ram) (hearEvent (s .device) (s .ram) e .ram)
   pub settings : settingsOf (hearEvent (s .device) (s .ram) e .device .registers) ≡ settingsOf (s .device .registers)
 
--- a bus write is quiet. Nothing is asked of any other bus event: only a write can change a cell or a setting (specs/Use.antt). For feeds
--- see QuietCall
-unfoldable pub QuietWrite : State → Call → Type 0
-QuietWrite s (draw line) = Unit
-QuietWrite s (ask cell) = Unit
-QuietWrite s (event e) = Stores (effectOf s e) → Quiet s e
-QuietWrite s (feed chunk out) = Unit
-QuietWrite s anew = Unit
-QuietWrite s (pixel lines frame x y) = Unit
+-- a bus write is quiet. Nothing is asked of any other bus event: only a write can change a cell or a setting (specs/Use.antt)
+abbrev pub QuietWrite : State → Event → Type 0
+QuietWrite s e = Stores (effectOf s e) → Quiet s e
 
--- a fed event as a bus event of its own
-abbrev pub fedCall : Logged → Call
-fedCall x = event (eventOf (x .kind) (x .byte))
-
--- the events that a feed makes; none where the feed is refused before any event
-abbrev pub fedCalls : State → List ℕ → List ℕ → List Call
-fedCalls s chunk out = map fedCall (fedEvents (chipOf s) (s .feed) chunk out)
-
--- a bus write among the calls is quiet, and each bus write that a feed makes, as it is made
-unfoldable pub QuietCall : List ℕ → State → Call → Type 0
-QuietCall font s (draw line) = Unit
-QuietCall font s (ask cell) = Unit
-QuietCall font s (event e) = QuietWrite s (event e)
-QuietCall font s (feed chunk out) = AsMade QuietWrite (calls font) s (fedCalls s chunk out)
-QuietCall font s anew = Unit
-QuietCall font s (pixel lines frame x y) = Unit
-
--- every bus write of the list is quiet as it is made, in the list's own run
-abbrev pub QuietRun : List ℕ → State → List Call → Type 0
-QuietRun font s cs = AsMade (QuietCall font) (calls font) s cs
+-- every bus write of the list is quiet as it is made, in the list's own run, and so is each that a feed makes
+abbrev pub QuietRun : (font : List ℕ) → State → List (Call Event) → Type 0
+QuietRun font s cs = AsMade (EachEvent QuietWrite) (calls font) s cs
 
 -- ---- the claim
 
 -- every answer, every line, every output byte and the end state are the same in both runs
 abbrev pub OnePage : Type 0
-OnePage = (font : List ℕ) (s : State) (cs : List Call) → QuietRun font s cs → SameRuns (calls font) s cs
+OnePage = (font : List ℕ) (s : State) (cs : List (Call Event)) → QuietRun font s cs → SameRuns (calls font) s cs

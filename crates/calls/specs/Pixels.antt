@@ -4,49 +4,41 @@
 -- Assumes nothing.
 use Prim.Native.Nat.{ℕ, _%_, _≤_, _<_}
 use mathlib.Core.Path.{_≡_}
-use mathlib.Core.Bool.{cond}
+use mathlib.Core.Bool.{Bool}
 use mathlib.Core.List.{List}
 use lib.Dec.{eqb}
 use lib.ListN.{length, getD}
 use Rattle.limits.specs.Limits.{ramLength, fontLength, frameLines}
 use Rattle.runs.specs.Runs.{Entry, log, end, total, AsMade}
-use Rattle.refusals.specs.Refusals.{accepted}
+use Rattle.refusals.specs.Refusals.{Reply, accepted}
 use Rattle.bus.specs.declared.Event.{Event}
 use Rattle.device.specs.Device.{hearEvent, startFrame, drawLine, lineWidth}
 use Rattle.pixel.specs.Ask.{askPixel}
-use Rattle.calls.specs.OnePage.{Call, draw, ask, event, feed, anew, pixel, State, Answer, drawn, asked, heard, fed, renewed, shown, after, calls, effectOf, Stores, fedCalls}
+use Rattle.calls.specs.Calls.{Call, event, Answer, drew}
+use Rattle.calls.specs.OnePage.{State, after, calls, EachEvent, effectOf, Stores}
 
 -- the state after a frame start
 abbrev pub started : State → ℕ → State
 started s lines = record { device = startFrame (s .device) lines .device; ram = s .ram; feed = s .feed }
 
 -- a call that leaves RAM and registers as they are
-pub record StayPut (font : List ℕ) (s : State) (c : Call) : Type 0 where
+pub record StayPut (font : List ℕ) (s : State) (c : Call Event) : Type 0 where
   pub ram : after font s c .ram ≡ s .ram
   pub registers : after font s c .device .registers ≡ s .device .registers
 
--- the claim that these do: every draw and question, refused ones too, a feed made anew, each bus event that stores nothing or is refused, and a
--- feed each of whose events does
+-- the claim that these do: every call of whose bus events each does, so every draw and question, refused ones too, and a feed made anew, which make
+-- none; each bus event that stores nothing, or is refused
 pub record StayingPut : Type 0 where
-  pub draws : (font : List ℕ) (s : State) (line : List ℕ) → StayPut font s (draw line)
-  pub cells : (font : List ℕ) (s : State) (cell : ℕ) → StayPut font s (ask cell)
-  pub pixels : (font : List ℕ) (s : State) (lines frame x y : ℕ) → StayPut font s (pixel lines frame x y)
-  pub renewals : (font : List ℕ) (s : State) → StayPut font s anew
+  pub calls : (font : List ℕ) (s : State) (c : Call Event) → EachEvent (λ u e. StayPut font u (event e)) s c → StayPut font s c
   pub events : (font : List ℕ) (s : State) (e : Event) → (Stores (effectOf s e) → ⊥) → StayPut font s (event e)
   pub refused : (font : List ℕ) (s : State) (e : Event) → (hearEvent (s .device) (s .ram) e .reply .refusal ≡ 0 → ⊥) → StayPut font s (event e)
-  pub feeds : (font : List ℕ) (s : State) (chunk out : List ℕ) → AsMade (StayPut font) (calls font) s (fedCalls s chunk out) → StayPut font s (feed chunk out)
+
+abbrev pub accepts : Reply → Bool
+accepts r = eqb (r .refusal) 0
 
 -- how many lines the calls of a run drew: their accepted draws
-unfoldable pub drew : Answer → ℕ
-drew (drawn reply line) = cond (eqb (reply .refusal) 0) 1 0
-drew (asked reply) = 0
-drew (heard reply) = 0
-drew (fed reply out) = 0
-drew renewed = 0
-drew (shown reply) = 0
-
-abbrev pub linesDrawn : List (Entry Call Answer) → ℕ
-linesDrawn = total drew
+abbrev pub linesDrawn : List (Entry (Call Event) (Answer Reply)) → ℕ
+linesDrawn = total (drew accepts)
 
 -- the next draw is accepted, and writes at x the pixel that is asked for
 pub record SamePixel (font : List ℕ) (s u : State) (lines frame x y : ℕ) (line : List ℕ) : Type 0 where
@@ -58,7 +50,7 @@ pub record SamePixel (font : List ℕ) (s u : State) (lines frame x y : ℕ) (li
 -- below W
 abbrev pub PixelsAgree : Type 0
 PixelsAgree =
-    (font : List ℕ) (s : State) (lines frame x y : ℕ) (cs : List Call) (line : List ℕ)
+    (font : List ℕ) (s : State) (lines frame x y : ℕ) (cs : List (Call Event)) (line : List ℕ)
     → length (s .ram) ≡ ramLength
     → length font ≡ fontLength
     → 1 ≤ lines

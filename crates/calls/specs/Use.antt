@@ -12,8 +12,10 @@ use Rattle.bus.specs.declared.Effect.the-variants.{Store}
 use Rattle.bus.specs.declared.BusState.the-variants.{Write}
 use Rattle.bus.specs.Bus.{address}
 use Rattle.device.specs.Device.{hearEvent, askCell}
-use Rattle.calls.specs.OnePage.{Call, draw, ask, event, feed, anew, pixel, State, calls, effectOf, Stores, Quiet, fedCalls, QuietRun}
+use Rattle.calls.specs.Calls.{Call}
+use Rattle.calls.specs.OnePage.{State, calls, EachEvent, effectOf, Stores, Quiet, QuietRun}
 
+-- these events are quiet, whatever frame runs
 pub record QuietEvents : Type 0 where
   -- a data byte to a cell of which the question says no
   pub asked-no : (s : State) (x : ℕ) → s .device .bus .state ≡ Write → askCell (s .device) (s .ram) (address (s .device .bus)) ≡ accepted 0
@@ -37,30 +39,12 @@ pub record QuietEvents : Type 0 where
 
 -- ---- lists
 
--- this call, if it is a bus event, is quiet, write or not. For feeds see AllQuiet
-unfoldable pub EventQuiet : State → Call → Type 0
-EventQuiet s (draw line) = Unit
-EventQuiet s (ask cell) = Unit
-EventQuiet s (event e) = Quiet s e
-EventQuiet s (feed chunk out) = Unit
-EventQuiet s anew = Unit
-EventQuiet s (pixel lines frame x y) = Unit
-
--- and, if it is a feed, each of its events is, as it is made
-unfoldable pub AllQuiet : List ℕ → State → Call → Type 0
-AllQuiet font s (draw line) = Unit
-AllQuiet font s (ask cell) = Unit
-AllQuiet font s (event e) = EventQuiet s (event e)
-AllQuiet font s (feed chunk out) = AsMade EventQuiet (calls font) s (fedCalls s chunk out)
-AllQuiet font s anew = Unit
-AllQuiet font s (pixel lines frame x y) = Unit
-
 -- the claim of condition 3 asks of the bus writes alone that they be quiet: then all bus events of the list are, the fed ones too
 abbrev pub WritesAlone : Type 0
-WritesAlone = (font : List ℕ) (s : State) (cs : List Call) → QuietRun font s cs → AsMade (AllQuiet font) (calls font) s cs
+WritesAlone = (font : List ℕ) (s : State) (cs : List (Call Event)) → QuietRun font s cs → AsMade (EachEvent Quiet) (calls font) s cs
 
 -- a no of the cell question stays a no over later draws, cell questions, quiet events, quiet feeds, feeds made anew and questions about a pixel
 abbrev pub NoStays : Type 0
 NoStays =
-    (font : List ℕ) (s : State) (cs : List Call) (cell : ℕ) → QuietRun font s cs → askCell (s .device) (s .ram) cell ≡ accepted 0
+    (font : List ℕ) (s : State) (cs : List (Call Event)) (cell : ℕ) → QuietRun font s cs → askCell (s .device) (s .ram) cell ≡ accepted 0
     → askCell (end (calls font) s cs .device) (end (calls font) s cs .ram) cell ≡ accepted 0

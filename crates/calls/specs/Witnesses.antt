@@ -16,8 +16,8 @@ use Rattle.bus.specs.declared.Event.the-variants.{Start, Byte, Fetch, Stop}
 use Rattle.bus.specs.Bus.{freshRam}
 use Rattle.device.specs.Device.{freshDevice, hearEvent, startFrame, drawLine, remainingOf, cellsLeft}
 use Rattle.capture.specs.Capture.{freshFeed}
-use Rattle.calls.specs.OnePage.{Call, draw, ask, event, feed, anew, pixel, State, Answer, drawn, asked, fed, renewed, shown, calls, effectOf, Stores, QuietRun}
-use Rattle.calls.specs.OnePage as one-page
+use Rattle.calls.specs.Calls.{Call, draw, ask, event, feed, anew, pixel}
+use Rattle.calls.specs.OnePage.{State, calls, effectOf, Stores, QuietRun}
 use Rattle.calls.specs.Pixels.{started}
 
 -- ---- a host's traffic
@@ -74,7 +74,7 @@ buffer = replicate 60 0
 -- P becomes 1; a draw; do the remaining lines read cell 020?; it gets another byte, from a capture that is fed in two chunks, cut
 -- within the event and with a draw between them, and the code there is blue; the feed, which holds a half again, is made anew; the pixel that
 -- is blue now; a fetch
-unfoldable pub turning : List Call
+unfoldable pub turning : List (Call Event)
 turning =
     map event (write 0x3FF3 (0x81 ∷ []))
     ++ draw buffer ∷ ask 0x020
@@ -85,23 +85,14 @@ turning =
     ∷ pixel 2 16 36 0
     ∷ map event (Start ∷ Byte 0xBB ∷ Fetch ∷ Stop ∷ [])
 
--- the number of a refusal, 0 if there is none
-unfoldable pub refusalOf : Answer → ℕ
-refusalOf (drawn reply line) = reply .refusal
-refusalOf (asked reply) = reply .refusal
-refusalOf (one-page.heard reply) = reply .refusal
-refusalOf (fed reply out) = reply .refusal
-refusalOf renewed = 0
-refusalOf (shown reply) = reply .refusal
-
 -- the first line of a frame that starts now
 unfoldable pub firstLine : State → List ℕ
 firstLine s = drawLine (startFrame (s .device) 2 .device) (s .ram) font buffer .line
 
 -- its writes are quiet and none of its calls is refused; it changes the registers, the RAM and the next frame
-pub record Changes (s : State) (cs : List Call) : Type 0 where
+pub record Changes (s : State) (cs : List (Call Event)) : Type 0 where
   pub quiet : QuietRun font s cs
-  pub accepted : map (λ x. refusalOf (x .answer)) (log (calls font) s cs) ≡ replicate (length cs) 0
+  pub accepted : map (λ x. x .answer .reply .refusal) (log (calls font) s cs) ≡ replicate (length cs) 0
   pub registers : end (calls font) s cs .device .registers ≡ s .device .registers → ⊥
   pub ram : end (calls font) s cs .ram ≡ s .ram → ⊥
   pub next-frame : firstLine (end (calls font) s cs) ≡ firstLine s → ⊥

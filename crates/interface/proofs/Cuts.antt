@@ -19,7 +19,8 @@ use Rattle.capture.proofs.Cuts.{shut-is, shut-finishes, shut-stays, after-appen
 use Rattle.layout.specs.FeedLayout.{feedBytes, feedIn}
 use Rattle.layout.proofs.Laws.{feed-back}
 use Rattle.interface.specs.Interface.{answerOf, ChipBytes, busCalls, FeedDone, notFedOn, chunkFedOn, fedOnBy, rightLengths, feedOn}
-use Rattle.interface.specs.Cuts.{replyIn, Records, feedsOn, FitsBytes, AnyCutBytes, TwoCutsBytes}
+use Rattle.interface.specs.Cuts.{replyIn, feedsOn, FitsBytes, AnyCutBytes, TwoCutsBytes}
+use Rattle.interface.specs.OnePage.{State, lentIn}
 use Rattle.interface.proofs.Laws.{if-taken, feed-tests}
 use Rattle.interface.proofs.Crossing.{written-value}
 
@@ -56,27 +57,24 @@ left-both fs xs ys = by (feedIn fs) ∙ ap (λ (g : Feed). cond (isShut g) (left
 
 -- ---- what a chunk leaves and writes
 
-abbrev lentIn : Records → ChipBytes
-lentIn s = record { device = s .device; ram = s .ram }
-
 -- after the events of these bytes
-abbrev ended : Records → List ℕ → ChipBytes
+abbrev ended : State → List ℕ → ChipBytes
 ended s xs = end busCalls (lentIn s) (finished (feedIn (s .feed)) xs)
 
-next : Records → List ℕ → Records
+next : State → List ℕ → State
 next s xs = record { device = ended s xs .device; feed = left (s .feed) xs; ram = ended s xs .ram }
 
-written : Records → List ℕ → List ℕ
+written : State → List ℕ → List ℕ
 written s xs = outputFrom busCalls (lentIn s) (finished (feedIn (s .feed)) xs)
 
-next-both : (s : Records) (xs ys : List ℕ) → next s (xs ++ ys) ≡ next (next s xs) ys
+next-both : (s : State) (xs ys : List ℕ) → next s (xs ++ ys) ≡ next (next s xs) ys
 unfolding next
 next-both s xs ys =
     let e : ended s (xs ++ ys) ≡ ended (next s xs) ys =
     end-both busCalls (lentIn s) (feedIn (s .feed)) xs ys ∙ ap (λ (g : Feed). end busCalls (ended s xs) (finished g ys)) (sym (left-in (s .feed) xs)) in
     λ i. record { device = e i .device; feed = left-both (s .feed) xs ys i; ram = e i .ram }
 
-written-both : (s : Records) (xs ys : List ℕ) → written s (xs ++ ys) ≡ written s xs ++ written (next s xs) ys
+written-both : (s : State) (xs ys : List ℕ) → written s (xs ++ ys) ≡ written s xs ++ written (next s xs) ys
 unfolding next written
 written-both s xs ys =
     output-both busCalls (lentIn s) (feedIn (s .feed)) xs ys
@@ -84,18 +82,18 @@ written-both s xs ys =
 
 -- ---- a feed that fits leaves and writes what its bytes say, also where it is shut
 
-record Fitted (s : Records) (c : Chunk) (r : FeedDone) : Type 0 where
-  leaves : _≡_ {A = Records} (record { device = r .device; feed = r .feed; ram = r .ram }) (next s (c .bytes))
+record Fitted (s : State) (c : Chunk) (r : FeedDone) : Type 0 where
+  leaves : _≡_ {A = State} (record { device = r .device; feed = r .feed; ram = r .ram }) (next s (c .bytes))
   writes : take (r .answer % 65536) (r .out) ≡ written s (c .bytes)
 
-shut-fitted : (s : Records) (c : Chunk) → isShut (feedIn (s .feed)) ≡ true
+shut-fitted : (s : State) (c : Chunk) → isShut (feedIn (s .feed)) ≡ true
     → Fitted s c (notFedOn (s .device) (s .feed) (s .ram) (c .out) (answerOf (refused FeedShut)))
 unfolding next written left end log outputs
 shut-fitted s c h =
     let f : feedIn (s .feed) ≡ Shut = shut-is _ h in
     record { leaves = rw (f, shut-finishes (c .bytes)); writes = rw (f, shut-finishes (c .bytes)) }
 
-fitted : (s : Records) (c : Chunk) → FitsBytes (feedsOn .answer s c .reply) → Fitted s c (feedOn (s .device) (s .feed) (s .ram) (c .bytes) (c .out))
+fitted : (s : State) (c : Chunk) → FitsBytes (feedsOn .answer s c .reply) → Fitted s c (feedOn (s .device) (s .feed) (s .ram) (c .bytes) (c .out))
 unfolding feedOn fedOnBy
 fitted s c =
     let f : Feed = feedIn (s .feed) in

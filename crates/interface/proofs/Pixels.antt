@@ -3,7 +3,7 @@
 -- Assumes nothing.
 use Prim.Native.Nat.{ℕ, _+_, _<_}
 use mathlib.Core.Path.{_≡_, refl, sym, ap, ap₂, _∙_, subst}
-use mathlib.Core.Bool.{Bool, true, false, cond}
+use mathlib.Core.Bool.{Bool, true, false, cond, and-false}
 use mathlib.Core.List.{List, [], _∷_}
 use native.Mathlib.Nat.{zero-add}
 use native.Mathlib.Omega.{arith}
@@ -13,19 +13,23 @@ use Rattle.runs.specs.Runs.{log, end, total, AsMade}
 use Rattle.refusals.specs.Refusals.{numberOf}
 use Rattle.refusals.proofs.Laws.{not-zero}
 use Rattle.line.proofs.Counts.{line-most}
+use Rattle.bus.specs.declared.Event.{Event}
 use Rattle.device.specs.declared.Device.{Device}
 use Rattle.device.specs.Device.{DrawOutcome, lineDrawn, drawLine}
 use Rattle.device.proofs.Laws.{by-draw}
+use Rattle.capture.specs.Capture.{Logged}
+use Rattle.calls.specs.Calls.{Call, Answer, isDraw, drew}
 use Rattle.calls.specs.OnePage as device
 use Rattle.calls.specs.Pixels as pixels
+use Rattle.calls.proofs.Calls.{View, draws, asks, acts, view}
 use Rattle.calls.proofs.Pixels.{pixels-agree}
 use Rattle.layout.specs.Layout.{recordLength, registersIn}
 use Rattle.layout.specs.FeedLayout.{feedIn}
 use Rattle.interface.specs.Interface.{answerOf}
-use Rattle.interface.specs.OnePage.{Call, draw, cell, bus, feed, anew, pixel, State, after, calls}
-use Rattle.interface.specs.Pixels.{started, StayPut, drew, linesDrawn, PixelsAgreeBytes}
+use Rattle.interface.specs.OnePage.{State, after, calls}
+use Rattle.interface.specs.Pixels.{started, StayPut, accepts, linesDrawn, PixelsAgreeBytes}
 use Rattle.interface.proofs.Laws.{refusal-zero}
-use Rattle.interface.proofs.OnePage.{taken, takenAt, same-length, unanswered, untouched, reads, made, inBytes, carried}
+use Rattle.interface.proofs.OnePage.{taken, takenAt, same-length, untouched, reads, heard, inBytes, carried, same-kind}
 use Rattle.interface.proofs.Crossing.{crossing}
 
 -- ---- answers
@@ -37,42 +41,31 @@ draw-value d ram font line =
     by-draw d ram font line (λ (o : DrawOutcome). o .reply .refusal ≡ 0 → o .reply .value < 65536)
     (λ r e. absurd (eqb-false (numberOf r) 0 (not-zero r) e)) (λ ready e. omega (arith, line-most (d .registers) (d .frame .walk) ram))
 
--- a call that is taken draws as many lines as the device's
-same-drew : (font : List ℕ) (u : device.State) (c : device.Call) → drew (inBytes (device.answer font u c)) ≡ pixels.drew (device.answer font u c)
-unfolding inBytes drew device.answer pixels.drew
-same-drew font u (device.draw line) =
+-- what a call that is taken draws, the device's does
+same-drew : (font : List ℕ) (u : device.State) {c : Call Logged} → View c
+    → drew accepts (record { call = c; answer = inBytes (device.answer font u (heard c)) })
+    ≡ drew pixels.accepts (record { call = heard c; answer = device.answer font u (heard c) })
+unfolding isDraw heard device.make
+same-drew font u (draws line) =
     ap (λ (b : Bool). cond b 1 0) (refusal-zero (drawLine (u .device) (u .ram) font line .reply) (draw-value (u .device) (u .ram) font line))
-same-drew font u (device.ask c) = refl
-same-drew font u (device.event e) = refl
-same-drew font u (device.feed chunk out) = refl
-same-drew font u device.anew = refl
-same-drew font u (device.pixel lines frame x y) = refl
-
--- and one that is not draws none
-none-drew : (c : Call) → drew (unanswered c) ≡ 0
-unfolding unanswered drew
-none-drew (draw line) = refl
-none-drew (cell c) = refl
-none-drew (bus kind byte) = refl
-none-drew (feed chunk out) = refl
-none-drew anew = refl
-none-drew (pixel lines frame x y) = refl
+same-drew font u (asks cell) = refl
+same-drew font u (acts {c = c} t d) = rw (same-kind c .1, d)
 
 -- ---- a run, by the device's calls
 
 module _ (font : List ℕ) (n k : ℕ) where
   -- those that are taken, by the lengths of the two records' buffers
-  takenCalls : List Call → List device.Call
+  takenCalls : List (Call Logged) → List (Call Event)
   takenCalls [] = []
-  takenCalls (c ∷ cs) = cond (taken n k c) (made c ∷ takenCalls cs) (takenCalls cs)
+  takenCalls (c ∷ cs) = cond (taken n k c) (heard c ∷ takenCalls cs) (takenCalls cs)
 
-  record AsTaken (s : State) (cs : List Call) (ds : List device.Call) : Type 0 where
+  record AsTaken (s : State) (cs : List (Call Logged)) (ds : List (Call Event)) : Type 0 where
     long : length (end (calls font) s cs .device) ≡ n
     state : reads (end (calls font) s cs) ≡ end (device.calls font) (reads s) ds
     lines : linesDrawn (log (calls font) s cs) ≡ pixels.linesDrawn (log (device.calls font) (reads s) ds)
     put : AsMade (StayPut font) (calls font) s cs → AsMade (pixels.StayPut font) (device.calls font) (reads s) ds
 
-  stay : (s : State) (c : Call) → takenAt s c ≡ true → StayPut font s c → pixels.StayPut font (reads s) (made c)
+  stay : (s : State) (c : Call Logged) → takenAt s c ≡ true → StayPut font s c → pixels.StayPut font (reads s) (heard c)
   unfolding reads
   stay s c t p =
       let e = carried font s c t .state in
@@ -82,8 +75,8 @@ module _ (font : List ℕ) (n k : ℕ) where
       }
 
   -- one call more
-  module _ (s : State) (c : Call) (cs : List Call) (ds : List device.Call) (ih : AsTaken (after font s c) cs ds) where
-    call-taken : takenAt s c ≡ true → AsTaken s (c ∷ cs) (made c ∷ ds)
+  module _ (s : State) (c : Call Logged) (cs : List (Call Logged)) (ds : List (Call Event)) (ih : AsTaken (after font s c) cs ds) where
+    call-taken : takenAt s c ≡ true → AsTaken s (c ∷ cs) (heard c ∷ ds)
     unfolding log end AsMade total
     call-taken t =
         let one = carried font s c t in
@@ -91,7 +84,7 @@ module _ (font : List ℕ) (n k : ℕ) where
           long = ih .long;
           state = ih .state ∙ ap (λ (u : device.State). end (device.calls font) u ds) (one .state);
           lines =
-              ap₂ (λ (a b : ℕ). a + b) (ap drew (one .answers) ∙ same-drew font (reads s) (made c))
+              ap₂ (λ (a b : ℕ). a + b) (ap (λ (a : Answer ℕ). drew accepts (record { call = c; answer = a })) (one .answers) ∙ same-drew font (reads s) (view c))
               (ih .lines ∙ ap (λ (u : device.State). pixels.linesDrawn (log (device.calls font) u ds)) (one .state));
           put = λ p.
               (stay s c t (p .0), subst (λ (u : device.State). AsMade (pixels.StayPut font) (device.calls font) u ds) (one .state) (ih .put (p .1)));
@@ -105,20 +98,20 @@ module _ (font : List ℕ) (n k : ℕ) where
           long = ih .long;
           state = ih .state ∙ ap (λ (u : State). end (device.calls font) (reads u) ds) (none .state);
           lines =
-              ap₂ (λ (a b : ℕ). a + b) (ap drew (none .answers) ∙ none-drew c)
+              ap₂ (λ (a b : ℕ). a + b) (rw (none .answers, and-false (isDraw c)))
               (ih .lines ∙ ap (λ (u : State). pixels.linesDrawn (log (device.calls font) (reads u) ds)) (none .state))
               ∙ zero-add (pixels.linesDrawn (log (device.calls font) (reads s) ds));
           put = λ p. subst (λ (u : State). AsMade (pixels.StayPut font) (device.calls font) (reads u) ds) (none .state) (ih .put (p .1));
         }
 
-  run-taken : (cs : List Call) (s : State) → length (s .device) ≡ n → length (s .feed) ≡ k → AsTaken s cs (takenCalls cs)
+  run-taken : (cs : List (Call Logged)) (s : State) → length (s .device) ≡ n → length (s .feed) ≡ k → AsTaken s cs (takenCalls cs)
   unfolding takenCalls
   run-taken [] s e f = unfold log end AsMade total in record { long = e; state = refl; lines = refl; put = λ p. tt }
   run-taken (c ∷ cs) s e f =
       let l = same-length font s c in
       by (taken n k c) (ap₂ (λ (i j : ℕ). taken i j c) e f) (run-taken cs (after font s c) (l .0 ∙ e) (l .1 ∙ f))
     where
-      by : (t : Bool) → takenAt s c ≡ t → AsTaken (after font s c) cs (takenCalls cs) → AsTaken s (c ∷ cs) (cond t (made c ∷ takenCalls cs) (takenCalls cs))
+      by : (t : Bool) → takenAt s c ≡ t → AsTaken (after font s c) cs (takenCalls cs) → AsTaken s (c ∷ cs) (cond t (heard c ∷ takenCalls cs) (takenCalls cs))
       by true t ih = call-taken s c cs (takenCalls cs) ih t
       by false t ih = call-not s c cs (takenCalls cs) ih t
 
@@ -130,7 +123,7 @@ pixels-agree-bytes font s lines frame x y cs line long a b h k number put count 
     let start = crossing .start (s .device) lines long in
     let begun : reads (started s lines) ≡ pixels.started (reads s) lines =
     λ i. record { device = start .0 i; ram = s .ram; feed = feedIn (s .feed) } in
-    let ds : List device.Call = takenCalls font recordLength (length (s .feed)) cs in
+    let ds : List (Call Event) = takenCalls font recordLength (length (s .feed)) cs in
     let run : AsTaken font recordLength (length (s .feed)) (started s lines) cs ds =
     run-taken font recordLength (length (s .feed)) cs (started s lines) (crossing .length-start (s .device) lines ∙ long) refl in
     let u : State = end (calls font) (started s lines) cs in

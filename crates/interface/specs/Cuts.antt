@@ -9,19 +9,14 @@ use Rattle.runs.specs.Runs.{Machine, AsMade}
 use Rattle.refusals.specs.Refusals.{Reply}
 use Rattle.capture.specs.Cuts.{Chunk, ChunkAnswer, whole, Fits, SameCut, SameCuts}
 use Rattle.interface.specs.Interface.{FeedDone, feedOn}
+use Rattle.interface.specs.OnePage.{State}
 
 -- OSD_REFUSAL and OSD_VALUE of an answer
 abbrev pub replyIn : ℕ → Reply
 replyIn n = record { refusal = n / 65536; value = n % 65536 }
 
--- the bytes that a feed gets and leaves: the device's record, the feed's, the RAM
-pub record Records : Type 0 where
-  pub device : List ℕ
-  pub feed : List ℕ
-  pub ram : List ℕ
-
--- feeds, one after the other: each gets the bytes that the one before left
-abbrev pub feedsOn : Machine Records Chunk ChunkAnswer
+-- feeds, one after the other: each gets the bytes of both records and of the RAM as the one before left them
+abbrev pub feedsOn : Machine State Chunk ChunkAnswer
 feedsOn =
     record {
       answer =
@@ -31,7 +26,7 @@ feedsOn =
       after =
           λ s c.
           let r : FeedDone = feedOn (s .device) (s .feed) (s .ram) (c .bytes) (c .out) in
-          record { device = r .device; feed = r .feed; ram = r .ram };
+          record { device = r .device; ram = r .ram; feed = r .feed };
       isEvent = λ c. true;
     }
 
@@ -44,7 +39,7 @@ pub record FitsBytes (r : Reply) : Type 0 where
 -- inside it
 abbrev pub AnyCutBytes : Type 0
 AnyCutBytes =
-    (s : Records) (c : Chunk) (cs : List Chunk) (out : List ℕ)
+    (s : State) (c : Chunk) (cs : List Chunk) (out : List ℕ)
     → AsMade (λ u x. FitsBytes (feedsOn .answer u x .reply)) feedsOn s (c ∷ cs)
     → FitsBytes (feedsOn .answer s (record { bytes = whole (c ∷ cs); out = out }) .reply)
     → SameCut feedsOn s (c ∷ cs) out
@@ -53,7 +48,7 @@ AnyCutBytes =
 -- and cannot be fed whole
 abbrev pub TwoCutsBytes : Type 0
 TwoCutsBytes =
-    (s : Records) (c d : Chunk) (cs ds : List Chunk) → whole (c ∷ cs) ≡ whole (d ∷ ds)
+    (s : State) (c d : Chunk) (cs ds : List Chunk) → whole (c ∷ cs) ≡ whole (d ∷ ds)
     → AsMade (λ u x. FitsBytes (feedsOn .answer u x .reply)) feedsOn s (c ∷ cs)
     → AsMade (λ u x. FitsBytes (feedsOn .answer u x .reply)) feedsOn s (d ∷ ds)
     → SameCuts feedsOn s (c ∷ cs) (d ∷ ds)

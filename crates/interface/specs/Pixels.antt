@@ -4,37 +4,35 @@
 -- Assumes nothing.
 use Prim.Native.Nat.{ℕ, _%_, _≤_, _<_}
 use mathlib.Core.Path.{_≡_}
-use mathlib.Core.Bool.{cond}
+use mathlib.Core.Bool.{Bool}
 use mathlib.Core.List.{List}
 use lib.Dec.{ltb}
 use lib.ListN.{length, getD}
 use Rattle.limits.specs.Limits.{ramLength, fontLength, frameLines}
 use Rattle.runs.specs.Runs.{Entry, log, end, total, AsMade}
 use Rattle.device.specs.Device.{lineWidth}
+use Rattle.capture.specs.Capture.{Logged}
+use Rattle.calls.specs.Calls.{Call, Answer, drew}
 use Rattle.layout.specs.Layout.{registersAt, registersLength, recordLength, part, deviceIn}
 use Rattle.interface.specs.Interface.{startOn, drawOn, pixelOn}
-use Rattle.interface.specs.OnePage.{Call, State, Answer, drawn, asked, heard, fed, renewed, shown, after, calls}
+use Rattle.interface.specs.OnePage.{State, after, calls}
 
 -- the state after osd_frame_start
 abbrev pub started : State → ℕ → State
 started s lines = record { device = startOn (s .device) lines .device; ram = s .ram; feed = s .feed }
 
 -- a call that leaves the RAM and the registers' bytes as they are
-pub record StayPut (font : List ℕ) (s : State) (c : Call) : Type 0 where
+pub record StayPut (font : List ℕ) (s : State) (c : Call Logged) : Type 0 where
   pub ram : after font s c .ram ≡ s .ram
   pub registers : part registersAt registersLength (after font s c .device) ≡ part registersAt registersLength (s .device)
 
--- how many lines the calls of a run drew: calls of osd_draw with refusal 0
-unfoldable pub drew : Answer → ℕ
-drew (drawn number line) = cond (ltb number 65536) 1 0
-drew (asked number) = 0
-drew (heard number) = 0
-drew (fed number out) = 0
-drew (renewed number) = 0
-drew (shown number) = 0
+-- refusal 0
+abbrev pub accepts : (number : ℕ) → Bool
+accepts number = ltb number 65536
 
-abbrev pub linesDrawn : List (Entry Call Answer) → ℕ
-linesDrawn = total drew
+-- how many lines the calls of a run drew: calls of osd_draw with refusal 0
+abbrev pub linesDrawn : List (Entry (Call Logged) (Answer ℕ)) → ℕ
+linesDrawn = total (drew accepts)
 
 -- the next osd_draw has refusal 0, and writes at line[x] what osd_pixel answers
 pub record SamePixel (font : List ℕ) (s u : State) (lines frame x y : ℕ) (line : List ℕ) : Type 0 where
@@ -45,7 +43,7 @@ pub record SamePixel (font : List ℕ) (s u : State) (lines frame x y : ℕ) (li
 -- a line; then the next osd_draw, into a line of at least W bytes, writes that pixel at x, for every y below the line count and every x below W
 abbrev pub PixelsAgreeBytes : Type 0
 PixelsAgreeBytes =
-    (font : List ℕ) (s : State) (lines frame x y : ℕ) (cs : List Call) (line : List ℕ)
+    (font : List ℕ) (s : State) (lines frame x y : ℕ) (cs : List (Call Logged)) (line : List ℕ)
     → length (s .device) ≡ recordLength
     → length (s .ram) ≡ ramLength
     → length font ≡ fontLength

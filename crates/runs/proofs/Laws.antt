@@ -4,7 +4,7 @@
 -- Assumes nothing.
 use mathlib.Core.Path.{_≡_, refl, sym, ap, ap₂, _∙_, subst}
 use mathlib.Core.Bool.{Bool, true, false, not, cond}
-use mathlib.Core.List.{List, [], _∷_, _++_, map}
+use mathlib.Core.List.{List, [], _∷_, _++_}
 use Rattle.runs.specs.Runs.{Machine, Entry, log, end, AsMade, select, eventsOf, othersOf, SameRuns}
 
 -- ---- a list of calls behind another
@@ -55,41 +55,42 @@ module _ {S T C A : Type 0} (P : S → C → Type 0) (m : Machine S C A) (n : Ma
 
 -- ---- events and another call
 
--- an event of which P holds, and another call: both answer and leave the same in either order, and P still holds after that call
-pub record Apart {S C A : Type 0} (P : S → C → Type 0) (m : Machine S C A) (s : S) (e c : C) : Type 0 where
-  pub other : m .answer (m .after s e) c ≡ m .answer s c
-  pub own : m .answer (m .after s c) e ≡ m .answer s e
-  pub either-way : m .after (m .after s e) c ≡ m .after (m .after s c) e
+-- an event of which P holds, and a call of another machine on the same states: both answer and leave the same in either order, and P
+-- still holds after that call
+pub record Apart {S E C A B : Type 0} (P : S → E → Type 0) (n : Machine S E B) (m : Machine S C A) (s : S) (e : E) (c : C) : Type 0 where
+  pub other : m .answer (n .after s e) c ≡ m .answer s c
+  pub own : n .answer (m .after s c) e ≡ n .answer s e
+  pub either-way : m .after (n .after s e) c ≡ n .after (m .after s c) e
   pub still : P (m .after s c) e
 
--- events in a row, of each of which P holds as it is made, and another call
-pub record AllApart {S C A : Type 0} (P : S → C → Type 0) (m : Machine S C A) (s : S) (es : List C) (c : C) : Type 0 where
-  pub other : m .answer (end m s es) c ≡ m .answer s c
-  pub own : log m (m .after s c) es ≡ log m s es
-  pub either-way : m .after (end m s es) c ≡ end m (m .after s c) es
-  pub still : AsMade P m (m .after s c) es
+-- events in a row, of each of which P holds as it is made, and that call
+pub record AllApart {S E C A B : Type 0} (P : S → E → Type 0) (n : Machine S E B) (m : Machine S C A) (s : S) (es : List E) (c : C) : Type 0 where
+  pub other : m .answer (end n s es) c ≡ m .answer s c
+  pub own : log n (m .after s c) es ≡ log n s es
+  pub either-way : m .after (end n s es) c ≡ end n (m .after s c) es
+  pub still : AsMade P n (m .after s c) es
 
--- if each event that f makes can be made after that call, so can such events in a row: they are pushed past it one at a time
-pub all-apart : {S C A X : Type 0} (P : S → C → Type 0) (m : Machine S C A) (c : C) (f : X → C)
-    → ((s : S) (x : X) → P s (f x) → Apart P m s (f x) c) → (s : S) (xs : List X) → AsMade P m s (map f xs) → AllApart P m s (map f xs) c
+-- if each event can be made after that call, so can events in a row: they are pushed past it one at a time
+pub all-apart : {S E C A B : Type 0} (P : S → E → Type 0) (n : Machine S E B) (m : Machine S C A) (c : C)
+    → ((s : S) (e : E) → P s e → Apart P n m s e c) → (s : S) (es : List E) → AsMade P n s es → AllApart P n m s es c
 unfolding log end AsMade
-all-apart P m c f apart s [] p = record { other = refl; own = refl; either-way = refl; still = tt }
-all-apart {S} {C} {A} P m c f apart s (x ∷ xs) p =
-    let a : Apart P m s (f x) c = apart s x (p .0) in
-    let ih : AllApart P m (m .after s (f x)) (map f xs) c = all-apart P m c f apart (m .after s (f x)) xs (p .1) in
+all-apart P n m c apart s [] p = record { other = refl; own = refl; either-way = refl; still = tt }
+all-apart {S} {E} {C} {A} {B} P n m c apart s (e ∷ es) p =
+    let a : Apart P n m s e c = apart s e (p .0) in
+    let ih : AllApart P n m (n .after s e) es c = all-apart P n m c apart (n .after s e) es (p .1) in
     record {
       other = ih .other ∙ a .other;
       own =
-          ap₂ (λ (y : A) (l : List (Entry C A)). (record { call = f x; answer = y }) ∷ l)
-          (a .own) (ap (λ (u : S). log m u (map f xs)) (sym (a .either-way)) ∙ ih .own);
-      either-way = ih .either-way ∙ ap (λ (u : S). end m u (map f xs)) (a .either-way);
-      still = (a .still, subst (λ (u : S). AsMade P m u (map f xs)) (a .either-way) (ih .still));
+          ap₂ (λ (y : B) (l : List (Entry E B)). (record { call = e; answer = y }) ∷ l)
+          (a .own) (ap (λ (u : S). log n u es) (sym (a .either-way)) ∙ ih .own);
+      either-way = ih .either-way ∙ ap (λ (u : S). end n u es) (a .either-way);
+      still = (a .still, subst (λ (u : S). AsMade P n u es) (a .either-way) (ih .still));
     }
 
 -- ---- events made last
 
 module _ {S C A : Type 0} (P : S → C → Type 0) (m : Machine S C A)
-    (apart : (s : S) (e c : C) → m .isEvent e ≡ true → m .isEvent c ≡ false → P s e → Apart P m s e c) where
+    (apart : (s : S) (e c : C) → m .isEvent e ≡ true → m .isEvent c ≡ false → P s e → Apart P m m s e c) where
   -- a list with no event in it
   data Others : List C → Type 0 where
     none : Others []
@@ -114,7 +115,7 @@ module _ {S C A : Type 0} (P : S → C → Type 0) (m : Machine S C A)
   unfolding log end
   made-late s e none t p = record { answers = refl; ends = refl; own = refl }
   made-late s e (more {c = c} {os = os} o rest) t p =
-      let a : Apart P m s e c = apart s e c t o p in
+      let a : Apart P m m s e c = apart s e c t o p in
       let ih : Late (m .after s c) e os = made-late (m .after s c) e rest t (a .still) in
       record {
         answers =

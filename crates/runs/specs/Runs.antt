@@ -26,10 +26,10 @@ unfoldable pub end : {S C A : Type 0} → Machine S C A → S → List C → S
 end m s [] = s
 end m s (c ∷ cs) = end m (m .after s c) cs
 
--- a number of each answer of a run, added up
-unfoldable pub total : {C A : Type 0} → (A → ℕ) → List (Entry C A) → ℕ
+-- a number of each call of a run and its answer, added up
+unfoldable pub total : {C A : Type 0} → (Entry C A → ℕ) → List (Entry C A) → ℕ
 total f [] = 0
-total f (x ∷ xs) = f (x .answer) + total f xs
+total f (x ∷ xs) = f x + total f xs
 
 -- P holds of each call as it is made
 unfoldable pub AsMade : {S C A : Type 0} → (S → C → Type 0) → Machine S C A → S → List C → Type 0
