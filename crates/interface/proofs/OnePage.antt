@@ -9,7 +9,7 @@ use mathlib.Core.List.{List, [], _∷_, map}
 use native.Mathlib.Omega.{arith}
 use borrow.Author.Tests.{eqb-true, eqb-false}
 use lib.Dec.{eqb, ltb}
-use lib.ListN.{length, set}
+use lib.ListN.{length, getD, set}
 use Rattle.runs.specs.Runs.{AsMade}
 use Rattle.runs.proofs.Laws.{as-made-map, kept-by-each, end-read, Apart, reordered}
 use Rattle.cells.specs.Reading.{Alike}
@@ -25,13 +25,13 @@ use Rattle.capture.specs.Capture.{Logged, finished, feedAfter, Chip, eventsBy}
 use Rattle.calls.specs.Calls.{Call, draw, ask, event, feed, anew, pixel, Answer, isEvent, eventsOf, isDraw}
 use Rattle.calls.specs.OnePage as device
 use Rattle.calls.proofs.Calls.{View, draws, asks, acts, view}
-use Rattle.calls.proofs.Quiet.{quiet-if-write}
+use Rattle.calls.proofs.Quiet.{quiet-if-write, quiet-events}
 use Rattle.calls.proofs.OnePage.{late, same-draw, apart, still-unread}
 use Rattle.layout.specs.Layout.{busAt, registersAt, registersLength, frameAt, recordLength, put, stateNumber, busBytes, frameBytes, deviceIn}
 use Rattle.layout.specs.FeedLayout.{feedLength, feedBytes, feedIn}
 use Rattle.facts.proofs.Parts.{sets-comm}
 use Rattle.interface.specs.Interface.{answerOf, notTaken, isRecord, BusDone, heardOn, busOn, DrawDone, drawnOn, drawOn, cellOn, pixelOn, feedFreshOn, chunkMax, ChipBytes, busCalls, FeedDone, chunkFedOn, fedOnBy, verdictOn, feedOn, fedEventsOn}
-use Rattle.interface.specs.OnePage.{State, lentIn, make, answer, after, calls, fedBy, EachEvent, Quiet, QuietWrite, QuietRun, OnePageBytes, NoStaysBytes}
+use Rattle.interface.specs.OnePage.{State, lentIn, make, answer, after, calls, fedBy, EachEvent, Quiet, QuietWrite, QuietRun, reads, heardAs, heard, OnePageBytes, QuietBytes, NoStaysBytes}
 use Rattle.interface.proofs.Laws.{if-taken, both-tests, feed-tests, bus-is, draw-is}
 use Rattle.interface.proofs.Crossing.{heard-sixteen, Taken, taken-back, all-taken, crossing}
 
@@ -97,23 +97,9 @@ untouched font s (pixel lines frame x y) t = record { state = refl; answers = rw
 
 -- ---- a call that is taken is the device's call
 
-abbrev heardAs : Logged → Event
-heardAs x = eventOf (x .kind) (x .byte)
-
 -- the device's state that bytes and a feed are read as
 abbrev readAs : Feed → ChipBytes → device.State
 readAs f l = record { device = deviceIn (l .device); ram = l .ram; feed = f }
-
-unfoldable pub reads : State → device.State
-reads s = readAs (feedIn (s .feed)) (lentIn s)
-
-unfoldable pub heard : Call Logged → Call Event
-heard (draw line) = draw line
-heard (ask cell) = ask cell
-heard (event x) = event (heardAs x)
-heard (feed chunk out) = feed chunk out
-heard anew = anew
-heard (pixel lines frame x y) = pixel lines frame x y
 
 abbrev pub inBytes : Answer Reply → Answer ℕ
 inBytes a = record { reply = answerOf (a .reply); buffer = a .buffer }
@@ -401,17 +387,21 @@ module _ (font : List ℕ) (s : State) (e c : Call Logged) (p : isEvent e ≡ tr
 pub one-page-bytes : OnePageBytes
 one-page-bytes font s cs q = reordered QuietTaken (calls font) (apart-calls font) s cs (quiet-run font s cs q)
 
--- ---- a no of the cell question stays a no
+-- ---- a no of the cell question
 
--- the answer 0 says no, of a device's record
-zero-no : (r : Reply) → answerOf r ≡ 0 → r ≡ accepted 0
-zero-no r e = let p : r .refusal ≡ 0 = omega arith in let q : r .value ≡ 0 = omega arith in λ i. record { refusal = p i; value = q i }
-
+-- the answer 0 is that of a device's record, and says no
 zero-long : (xs ram : List ℕ) (cell : ℕ) → cellOn xs ram cell ≡ 0 → length xs ≡ recordLength
 unfolding cellOn
 zero-long xs ram cell =
     if-taken (λ (n : ℕ). n ≡ 0 → length xs ≡ recordLength) (isRecord xs) _ notTaken (λ t e. eqb-true _ _ t) (λ e. absurd (eqb-false notTaken 0 refl e))
 
+zero-no : (xs ram : List ℕ) (cell : ℕ) → cellOn xs ram cell ≡ 0 → askCell (deviceIn xs) ram cell ≡ accepted 0
+zero-no xs ram cell n = by _ (sym (crossing .cell xs ram cell (zero-long xs ram cell n)) ∙ n)
+  where
+    by : (r : Reply) → answerOf r ≡ 0 → r ≡ accepted 0
+    by r e = let p : r .refusal ≡ 0 = omega arith in let q : r .value ≡ 0 = omega arith in λ i. record { refusal = p i; value = q i }
+
+-- it stays a no
 still-no : (font : List ℕ) (cell : ℕ) (s : State) (c : Call Logged) → QuietTaken s c → cellOn (s .device) (s .ram) cell ≡ 0
     → cellOn (after font s c .device) (after font s c .ram) cell ≡ 0
 unfolding QuietTaken reads
@@ -419,13 +409,47 @@ still-no font cell s c q n = by (takenAt s c) refl
   where
     by : (t : Bool) → takenAt s c ≡ t → cellOn (after font s c .device) (after font s c .ram) cell ≡ 0
     by true t =
-        let h : length (s .device) ≡ recordLength = zero-long (s .device) (s .ram) cell n in
-        let no : askCell (deviceIn (s .device)) (s .ram) cell ≡ accepted 0 = zero-no _ (sym (crossing .cell (s .device) (s .ram) cell h) ∙ n) in
-        crossing .cell _ _ cell (same-length font s c .0 ∙ h)
+        crossing .cell _ _ cell (same-length font s c .0 ∙ zero-long (s .device) (s .ram) cell n)
         ∙ ap (λ (v : device.State). answerOf (askCell (v .device) (v .ram) cell)) (carried font s c t .state)
-        ∙ ap answerOf (still-unread font cell (reads s) (heard c) (q t) no)
+        ∙ ap answerOf (still-unread font cell (reads s) (heard c) (q t) (zero-no (s .device) (s .ram) cell n))
     by false t = rw (untouched font s c t .state) n
 
 pub no-stays-bytes : NoStaysBytes
 no-stays-bytes font s cs cell q n =
     kept-by-each QuietTaken (calls font) (λ (u : State). cellOn (u .device) (u .ram) cell ≡ 0) (still-no font cell) s cs (quiet-run font s cs q) n
+
+-- ---- which bus calls are quiet
+
+module _ (s : State) (x : Logged) where
+  -- one that is not taken is
+  if-taken-quiet : (Taken (lentIn s) x → Quiet (lentIn s) x) → Quiet (lentIn s) x
+  unfolding make
+  if-taken-quiet q = by (takenAt s (event x)) refl
+    where
+      by : (t : Bool) → takenAt s (event x) ≡ t → Quiet (lentIn s) x
+      by true t = q (bus-taken s x t)
+      by false t =
+          let e = untouched [] s (event x) t .state in
+          record {
+            cells = unfold Alike in λ c m. ap (λ (u : State). getD (u .ram) c 0) e;
+            settings = ap (λ (u : State). settingsOf (deviceIn (u .device) .registers)) e;
+          }
+
+  heard-quiet : device.Quiet (reads s) (heardAs x) → Quiet (lentIn s) x
+  unfolding reads
+  heard-quiet q =
+      if-taken-quiet (λ h.
+      let b = crossing .bus (s .device) (s .ram) (x .kind) (x .byte) (h .0) (h .1) in
+      record {
+        cells = subst (Alike (cellsLeft (deviceIn (s .device)) (s .ram)) (s .ram)) (sym (b .1)) (q .cells);
+        settings = ap (λ (d : Device). settingsOf (d .registers)) (b .0) ∙ q .settings;
+      })
+
+pub quiet-bytes : QuietBytes
+unfolding reads
+quiet-bytes =
+    record {
+      events = heard-quiet;
+      asked-no = λ s byte w n. heard-quiet s (record { kind = 1; byte = byte }) (quiet-events .asked-no (reads s) byte w (zero-no (s .device) (s .ram) _ n));
+      not-taken = λ s x h. if-taken-quiet s x (λ t. absurd (h (t .0) (t .1)));
+    }

@@ -12,6 +12,7 @@ use lib.ListN.{length, getD}
 use Rattle.runs.specs.Runs.{log, end, total, AsMade}
 use Rattle.refusals.specs.Refusals.{numberOf}
 use Rattle.refusals.proofs.Laws.{not-zero}
+use Rattle.registers.specs.declared.Registers.{Registers}
 use Rattle.line.proofs.Counts.{line-most}
 use Rattle.bus.specs.declared.Event.{Event}
 use Rattle.device.specs.declared.Device.{Device}
@@ -23,13 +24,13 @@ use Rattle.calls.specs.OnePage as device
 use Rattle.calls.specs.Pixels as pixels
 use Rattle.calls.proofs.Calls.{View, draws, asks, acts, view}
 use Rattle.calls.proofs.Pixels.{pixels-agree}
-use Rattle.layout.specs.Layout.{recordLength, registersIn}
+use Rattle.layout.specs.Layout.{registersAt, registersLength, recordLength, part, registersIn}
 use Rattle.layout.specs.FeedLayout.{feedIn}
 use Rattle.interface.specs.Interface.{answerOf}
-use Rattle.interface.specs.OnePage.{State, after, calls}
-use Rattle.interface.specs.Pixels.{started, StayPut, accepts, linesDrawn, PixelsAgreeBytes}
+use Rattle.interface.specs.OnePage.{State, after, calls, reads, heard}
+use Rattle.interface.specs.Pixels.{started, StayPut, StayPutBytes, accepts, linesDrawn, PixelsAgreeBytes}
 use Rattle.interface.proofs.Laws.{refusal-zero}
-use Rattle.interface.proofs.OnePage.{taken, takenAt, same-length, untouched, reads, heard, inBytes, carried, same-kind}
+use Rattle.interface.proofs.OnePage.{taken, takenAt, same-length, untouched, inBytes, carried, same-kind}
 use Rattle.interface.proofs.Crossing.{crossing}
 
 -- ---- answers
@@ -115,7 +116,20 @@ module _ (font : List ℕ) (n k : ℕ) where
       by true t ih = call-taken s c cs (takenCalls cs) ih t
       by false t ih = call-not s c cs (takenCalls cs) ih t
 
--- ---- the claim
+-- ---- the claims
+
+pub stay-put-bytes : StayPutBytes
+unfolding reads
+stay-put-bytes font s c p = by (takenAt s c) refl
+  where
+    by : (t : Bool) → takenAt s c ≡ t → StayPut font s c
+    by true t =
+        let e = carried font s c t .state in
+        record {
+          ram = ap (λ (u : device.State). u .ram) e ∙ p .ram;
+          registers = ap (λ (u : device.State). u .device .registers .bytes) e ∙ ap (λ (r : Registers). r .bytes) (p .registers);
+        }
+    by false t = let e = untouched font s c t .state in record { ram = ap (λ (u : State). u .ram) e; registers = ap (λ (u : State). part registersAt registersLength (u .device)) e }
 
 pub pixels-agree-bytes : PixelsAgreeBytes
 unfolding reads

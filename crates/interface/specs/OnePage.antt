@@ -14,12 +14,15 @@ use lib.ListN.{length}
 use Rattle.runs.specs.Runs.{Machine, end, AsMade, SameRuns}
 use Rattle.cells.specs.Reading.{Alike}
 use Rattle.registers.specs.Registers.{settingsOf}
-use Rattle.bus.specs.Bus.{eventOf, step}
+use Rattle.bus.specs.declared.Event.{Event}
+use Rattle.bus.specs.declared.BusState.the-variants.{Write}
+use Rattle.bus.specs.Bus.{eventOf, step, address}
 use Rattle.device.specs.Device.{cellsLeft}
 use Rattle.capture.specs.Capture.{Logged}
 use Rattle.calls.specs.Calls.{Call, draw, ask, event, feed, anew, pixel, Answer, Made, made, machine, eventsOf}
-use Rattle.calls.specs.OnePage.{Stores}
+use Rattle.calls.specs.OnePage as device
 use Rattle.layout.specs.Layout.{recordLength, deviceIn}
+use Rattle.layout.specs.FeedLayout.{feedIn}
 use Rattle.interface.specs.Interface.{BusDone, busOn, DrawDone, drawOn, cellOn, pixelOn, FeedMade, feedFreshOn, ChipBytes, busCalls, FeedDone, feedOn, fedEventsOn}
 
 -- the bytes of the device's record, of the RAM and of the feed's record as a call left them
@@ -64,11 +67,27 @@ fedBy s chunk out = fedEventsOn (s .device) (s .feed) (s .ram) chunk out
 abbrev pub EachEvent : (ChipBytes → Logged → Type 0) → State → Call Logged → Type 0
 EachEvent P s c = AsMade P busCalls (lentIn s) (eventsOf (fedBy s) c)
 
+-- ---- what the bytes are read as: the device's state, event and call
+
+unfoldable pub reads : State → device.State
+reads s = record { device = deviceIn (s .device); ram = s .ram; feed = feedIn (s .feed) }
+
+abbrev pub heardAs : Logged → Event
+heardAs x = eventOf (x .kind) (x .byte)
+
+unfoldable pub heard : Call Logged → Call Event
+heard (draw line) = draw line
+heard (ask cell) = ask cell
+heard (event x) = event (heardAs x)
+heard (feed chunk out) = feed chunk out
+heard anew = anew
+heard (pixel lines frame x y) = pixel lines frame x y
+
 -- ---- quiet
 
 -- a bus write: the call is taken, and the event that it makes stores a byte
 abbrev pub Writes : ChipBytes → Logged → Type 0
-Writes l x = (length (l .device) ≡ recordLength) × (x .kind ≤ 3) × Stores (step (deviceIn (l .device) .bus) (eventOf (x .kind) (x .byte)) .effect)
+Writes l x = (length (l .device) ≡ recordLength) × (x .kind ≤ 3) × device.Stores (step (deviceIn (l .device) .bus) (heardAs x) .effect)
 
 -- a bus call is quiet (the order's term, condition 3) if it changes no cell that the frame's remaining lines read, given RAM and
 -- registers as they stand, and none of the settings LD, DD, CH, OSD, FBK and FL
@@ -89,6 +108,16 @@ QuietRun font s cs = AsMade (EachEvent QuietWrite) (calls font) s cs
 -- every answer, every line and output buffer, the RAM and every byte of both records are the same in both runs
 abbrev pub OnePageBytes : Type 0
 OnePageBytes = (font : List ℕ) (s : State) (cs : List (Call Logged)) → QuietRun font s cs → SameRuns (calls font) s cs
+
+-- these bus calls are quiet
+pub record QuietBytes : Type 0 where
+  -- one whose event is, on the device that the bytes are read as: so all of QuietEvents (crate calls' specs/Use.antt) holds of bus calls
+  pub events : (s : State) (x : Logged) → device.Quiet (reads s) (heardAs x) → Quiet (lentIn s) x
+  -- a data byte to a cell of which osd_cell says no (answer 0)
+  pub asked-no : (s : State) (byte : ℕ) → deviceIn (s .device) .bus .state ≡ Write
+      → cellOn (s .device) (s .ram) (address (deviceIn (s .device) .bus)) ≡ 0 → Quiet (lentIn s) (record { kind = 1; byte = byte })
+  -- one that is refused with 255
+  pub not-taken : (s : State) (x : Logged) → (length (s .device) ≡ recordLength → x .kind ≤ 3 → ⊥) → Quiet (lentIn s) x
 
 -- a no (answer 0) of the cell question stays a no over later draws, cell questions, quiet bus calls, quiet feeds, feeds made anew and questions
 -- about a pixel

@@ -13,9 +13,10 @@ use Rattle.runs.specs.Runs.{Entry, log, end, total, AsMade}
 use Rattle.device.specs.Device.{lineWidth}
 use Rattle.capture.specs.Capture.{Logged}
 use Rattle.calls.specs.Calls.{Call, Answer, drew}
+use Rattle.calls.specs.Pixels as device
 use Rattle.layout.specs.Layout.{registersAt, registersLength, recordLength, part, deviceIn}
 use Rattle.interface.specs.Interface.{startOn, drawOn, pixelOn}
-use Rattle.interface.specs.OnePage.{State, after, calls}
+use Rattle.interface.specs.OnePage.{State, after, calls, reads, heard}
 
 -- the state after osd_frame_start
 abbrev pub started : State → ℕ → State
@@ -25,6 +26,10 @@ started s lines = record { device = startOn (s .device) lines .device; ram = s .
 pub record StayPut (font : List ℕ) (s : State) (c : Call Logged) : Type 0 where
   pub ram : after font s c .ram ≡ s .ram
   pub registers : part registersAt registersLength (after font s c .device) ≡ part registersAt registersLength (s .device)
+
+-- the claim that a call does if the device's does: so all of StayingPut (crate calls' specs/Pixels.antt) holds over the bytes
+abbrev pub StayPutBytes : Type 0
+StayPutBytes = (font : List ℕ) (s : State) (c : Call Logged) → device.StayPut font (reads s) (heard c) → StayPut font s c
 
 -- refusal 0
 abbrev pub accepts : (number : ℕ) → Bool
