@@ -33,13 +33,9 @@ use Rattle.calls.specs.OnePage.{State, events, make, answer, after, call
 use Rattle.calls.specs.Pixels.{started, StayPut, StayingPut, accepts, linesDrawn, PixelsAgree}
 use Rattle.calls.proofs.Calls.{View, draws, asks, acts, view}
 use Rattle.calls.proofs.OnePage.{by-events}
-use Rattle.calls.proofs.Quiet.{outcome, Same, same-unstored, same-refused}
+use Rattle.calls.proofs.Quiet.{same-unstored, same-refused}
 
 -- ---- calls that leave RAM and registers as they are
-
-event-put : (font : List ℕ) (s : State) (e : Event) → Same s (outcome s e) → StayPut font s (event e)
-unfolding Same make hearEvent
-event-put font s e h = record { ram = h .0; registers = h .1 }
 
 -- what its events do, a call does
 call-put : (font : List ℕ) (s : State) (c : Call Event) → EachEvent (λ u e. StayPut font u (event e)) s c → StayPut font s c
@@ -58,12 +54,8 @@ call-put font s c = by (view c)
         record { ram = ap (λ (u : State). u .ram) e ∙ kept .0; registers = ap (λ (u : State). u .device .registers) e ∙ kept .1 }
 
 pub staying-put : StayingPut
-staying-put =
-    record {
-      calls = call-put;
-      events = λ font s e n. event-put font s e (same-unstored s e n);
-      refused = λ font s e n. event-put font s e (same-refused s e (unfold hearEvent in n));
-    }
+unfolding make
+staying-put = record { calls = call-put; events = λ font s e n. same-unstored s e n; refused = λ font s e n. same-refused s e n }
 
 -- ---- events leave the frame as it is
 

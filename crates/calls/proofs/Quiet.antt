@@ -22,10 +22,12 @@ use Rattle.bus.specs.declared.Effect.the-variants.{Acknowledge, Ignore, Store, 
 use Rattle.bus.specs.declared.BusState.the-variants.{Write}
 use Rattle.bus.specs.declared.Bus.{Bus}
 use Rattle.bus.specs.declared.Step.{Step}
-use Rattle.bus.specs.Bus.{BusOutcome, busEvent, step, address, taken, ramWith, registersWith, answerTo, busReply}
+use Rattle.bus.specs.Bus.{BusOutcome, step, address, taken, ramWith, registersWith, answerTo, busReply}
 use Rattle.bus.proofs.Laws.{by-event, byte-at}
 use Rattle.device.specs.Device.{hearEvent, askCell, cellsLeft}
-use Rattle.calls.specs.OnePage.{State, effectOf, Stores, Quiet}
+use Rattle.capture.specs.Capture.{Chip, chip}
+use Rattle.calls.specs.Calls.{QuietChange, Kept}
+use Rattle.calls.specs.OnePage.{State, chipOf, events, effectOf, Stores, Quiet}
 use Rattle.calls.specs.Use.{QuietEvents}
 
 -- ---- an event is quiet if its effect is
@@ -39,32 +41,21 @@ same-ram : (cs ram : List ℕ) {ram′ : List ℕ} → ram′ ≡ ram → Alike 
 unfolding Alike
 same-ram cs ram e c t = ap (λ (m : List ℕ). getD m c 0) e
 
--- what it leaves of the RAM's cells and of the settings
-Leaves : State → BusOutcome → Type 0
-Leaves s o =
-    Alike (cellsLeft (s .device) (s .ram)) (s .ram) (o .ram) × (settingsOf (o .registers) ≡ settingsOf (s .device .registers))
+-- what an event leaves of device and RAM, by what it comes to on the bus
+abbrev leaves : State → BusOutcome → Chip
+leaves s o = chip (record { bus = o .bus; registers = o .registers; frame = s .device .frame; next = s .device .next }) (o .ram)
 
 quiet-by : (s : State) (e : Event) → Harmless (s .ram) (s .device .registers) (cellsLeft (s .device) (s .ram)) (effectOf s e) → Quiet s e
-unfolding Leaves hearEvent taken
+unfolding hearEvent taken
 quiet-by s e h =
-    let p : Leaves s (busEvent (s .device .bus) (s .device .registers) (s .ram) e) =
-    by-event (Leaves s) (s .device .bus) (s .device .registers) (s .ram) e
-    (same-ram (cellsLeft (s .device) (s .ram)) (s .ram) refl, refl) (h .keeps, h .same)
-    in
-    record { cells = p .0; settings = p .1 }
+    by-event (λ (o : BusOutcome). QuietChange (chipOf s) (leaves s o)) (s .device .bus) (s .device .registers) (s .ram) e
+    (record { cells = same-ram _ (s .ram) refl; settings = refl }) (record { cells = h .keeps; settings = h .same })
 
 quiet-as : (s : State) (e : Event) (f : Effect) → effectOf s e ≡ f
     → Harmless (s .ram) (s .device .registers) (cellsLeft (s .device) (s .ram)) f → Quiet s e
 quiet-as s e f q h = quiet-by s e (subst (Harmless (s .ram) (s .device .registers) (cellsLeft (s .device) (s .ram))) (sym q) h)
 
 -- ---- events that leave RAM and registers as they are
-
--- what an event comes to
-abbrev pub outcome : State → Event → BusOutcome
-outcome s e = busEvent (s .device .bus) (s .device .registers) (s .ram) e
-
-unfoldable pub Same : State → BusOutcome → Type 0
-Same s o = (o .ram ≡ s .ram) × (o .registers ≡ s .device .registers)
 
 -- its effect stores nothing
 unstored : (s : State) (f : Effect) → (Stores f → ⊥) → (ramWith f (s .ram) ≡ s .ram) × (registersWith f (s .device .registers) ≡ s .device .registers)
@@ -74,10 +65,6 @@ unstored s (Ignore why) n = (refl, refl)
 unstored s (Store a x) n = absurd (n tt)
 unstored s (Load a) n = (refl, refl)
 
-pub same-unstored : (s : State) (e : Event) → (Stores (effectOf s e) → ⊥) → Same s (outcome s e)
-unfolding Same taken
-same-unstored s e n = by-event (Same s) (s .device .bus) (s .device .registers) (s .ram) e (refl, refl) (unstored s (effectOf s e) n)
-
 -- it is refused, for whatever reason
 taken-refused : (s : State) (f : Effect) → (busReply (answerTo f (s .device .registers) (s .ram)) .refusal ≡ 0 → ⊥) → Stores f → ⊥
 unfolding answerTo Stores
@@ -86,26 +73,36 @@ taken-refused s (Ignore why) h t = t
 taken-refused s (Store a x) h t = h refl
 taken-refused s (Load a) h t = t
 
-pub same-refused : (s : State) (e : Event) → (outcome s e .reply .refusal ≡ 0 → ⊥) → Same s (outcome s e)
-unfolding Same taken
-same-refused s e =
-    by-event (λ (o : BusOutcome). (o .reply .refusal ≡ 0 → ⊥) → Same s o) (s .device .bus) (s .device .registers) (s .ram) e
-    (λ _. (refl, refl)) (λ k. unstored s (effectOf s e) (taken-refused s (effectOf s e) k))
+module _ (s : State) (e : Event) where
+  if-unstored : (Stores (effectOf s e) → ⊥) → Kept (chipOf s) (leaves s (taken (step (s .device .bus) e) (s .device .registers) (s .ram)))
+  unfolding taken
+  if-unstored n = let u = unstored s (effectOf s e) n in record { ram = u .0; registers = u .1 }
 
--- such events are quiet
-quiet-same : (s : State) (e : Event) → Same s (outcome s e) → Quiet s e
-unfolding Same hearEvent
-quiet-same s e h = record { cells = same-ram (cellsLeft (s .device) (s .ram)) (s .ram) (h .0); settings = ap settingsOf (h .1) }
+  pub same-unstored : (Stores (effectOf s e) → ⊥) → Kept (chipOf s) (chipOf (events .after s e))
+  unfolding hearEvent
+  same-unstored n =
+      by-event (λ (o : BusOutcome). Kept (chipOf s) (leaves s o)) (s .device .bus) (s .device .registers) (s .ram) e
+      (record { ram = refl; registers = refl }) (if-unstored n)
+
+  pub same-refused : (events .answer s e .refusal ≡ 0 → ⊥) → Kept (chipOf s) (chipOf (events .after s e))
+  unfolding hearEvent
+  same-refused =
+      by-event (λ (o : BusOutcome). (o .reply .refusal ≡ 0 → ⊥) → Kept (chipOf s) (leaves s o)) (s .device .bus) (s .device .registers) (s .ram) e
+      (λ _. record { ram = refl; registers = refl }) (unfold taken in λ k. if-unstored (taken-refused s (effectOf s e) k))
+
+-- what keeps RAM and registers is quiet
+quiet-kept : {c d : Chip} → Kept c d → QuietChange c d
+quiet-kept h = record { cells = same-ram _ _ (h .ram); settings = ap settingsOf (h .registers) }
 
 -- an event is quiet if it is so wherever it is a write
 pub quiet-if-write : (s : State) (e : Event) → (Stores (effectOf s e) → Quiet s e) → Quiet s e
 quiet-if-write s e w = by (effectOf s e) refl
   where
     by : (f : Effect) → effectOf s e ≡ f → Quiet s e
-    by Acknowledge p = quiet-same s e (same-unstored s e (unfold Stores in λ t. subst Stores p t))
-    by (Ignore why) p = quiet-same s e (same-unstored s e (unfold Stores in λ t. subst Stores p t))
+    by Acknowledge p = quiet-kept (same-unstored s e (unfold Stores in λ t. subst Stores p t))
+    by (Ignore why) p = quiet-kept (same-unstored s e (unfold Stores in λ t. subst Stores p t))
     by (Store a x) p = w (subst Stores (sym p) (unfold Stores in tt))
-    by (Load a) p = quiet-same s e (same-unstored s e (unfold Stores in λ t. subst Stores p t))
+    by (Load a) p = quiet-kept (same-unstored s e (unfold Stores in λ t. subst Stores p t))
 
 -- ---- the kinds of events
 
@@ -170,10 +167,10 @@ pub quiet-events : QuietEvents
 quiet-events =
     record {
       asked-no = λ s x w q. answered s x w (unfold askCell in says-no _ _ _ q);
-      refused = λ s e h. quiet-same s e (same-refused s e (unfold hearEvent in h));
+      refused = λ s e h. quiet-kept (same-refused s e h);
       same-delay = λ s e x q g. quiet-as s e (Store 0x3FF1 x) q (register-kept _ _ _ 0x3FF1 x (omega arith) (keeps-dd (s .device .registers) x g));
       same-height = λ s e x q g. quiet-as s e (Store 0x3FF2 x) q (register-kept _ _ _ 0x3FF2 x (omega arith) (keeps-ch (s .device .registers) x g));
-      no-store = λ s e n. quiet-same s e (same-unstored s e n);
+      no-store = λ s e n. quiet-kept (same-unstored s e n);
       same-byte = λ s e a x q h g. quiet-as s e (Store a x) q (same-cell _ _ _ a x h g);
       empty = λ s e a x q h l. quiet-as s e (Store a x) q (empty-address _ _ _ a x h l);
       other-register = λ s e a x q h l. quiet-as s e (Store a x) q (register-kept _ _ _ a x (omega arith) (keeps-others _ (a - 0x3FF0) x (omega arith)));

@@ -10,21 +10,22 @@ use lib.ListN.{length, getD, List·getD-eq-default}
 use lib.Bits.{bitAnd, and-le-r, and-zero-l}
 use Rattle.facts.proofs.Choice.{either}
 use Rattle.runs.specs.Runs.{end}
-use Rattle.refusals.specs.Refusals.{Verdict, passed, failed}
 use Rattle.registers.specs.declared.Registers.{Registers}
 use Rattle.registers.specs.Registers.{kept, freshRegisters}
 use Rattle.registers.proofs.Laws.{Masked, fresh-masked, stored-masked}
 use Rattle.bus.specs.declared.Event.{Event}
 use Rattle.bus.specs.declared.Effect.{Effect}
 use Rattle.bus.specs.declared.Effect.the-variants.{Acknowledge, Ignore, Store, Load}
-use Rattle.bus.specs.Bus.{eventOf, BusOutcome, step, isRegister, registersWith, taken}
+use Rattle.bus.specs.Bus.{BusOutcome, step, isRegister, registersWith, taken}
 use Rattle.bus.proofs.Laws.{by-event, busEvent-sixteen}
 use Rattle.device.specs.declared.Device.{Device}
 use Rattle.device.specs.Device.{freshDevice, hearEvent, StartOutcome, inFrame, startFrame}
 use Rattle.device.proofs.Laws.{by-start, draw-same}
-use Rattle.capture.specs.declared.Feed.{Feed}
-use Rattle.capture.specs.Capture.{Logged, finished, Chip, chip, busEvents, feedVerdict, chunkFed, feedBy, feedChunk}
-use Rattle.calls.specs.Reach.{Reachable, fresh, reset, event, start, draw, feed, UnusedBits}
+use Rattle.calls.specs.Calls.{Call, eventsOf}
+use Rattle.calls.specs.OnePage.{State, events, make, after, fedBy}
+use Rattle.calls.specs.Reach.{Reachable, fresh, reset, start, call, UnusedBits}
+use Rattle.calls.proofs.Calls.{View, draws, asks, acts, view}
+use Rattle.calls.proofs.OnePage.{by-events}
 
 -- ---- what each call does to the registers
 
@@ -57,28 +58,28 @@ start-same : (d : Device) (lines : ℕ) → startFrame d lines .device .register
 unfolding inFrame
 start-same d lines = by-start (λ (o : StartOutcome). o .device .registers ≡ d .registers) d lines refl refl
 
--- a feed, if its tests pass, is its events, one by one
-events-whole : (c : Chip) (es : List Logged) → Whole (c .device .registers) → Whole (end busEvents c es .device .registers)
+-- a call leaves of the registers what its events leave
+events-whole : (u : State) (es : List Event) → Whole (u .device .registers) → Whole (end events u es .device .registers)
 unfolding end
-events-whole c [] h = h
-events-whole c (x ∷ es) h = events-whole (busEvents .after c x) es (event-whole (c .device) (c .ram) (eventOf (x .kind) (x .byte)) h)
+events-whole u [] k = k
+events-whole u (e ∷ es) k = events-whole (events .after u e) es (event-whole (u .device) (u .ram) e k)
 
-feed-whole : (c : Chip) (f : Feed) (chunk out : List ℕ) → Whole (c .device .registers) → Whole (feedChunk c f chunk out .chip .device .registers)
-unfolding feedChunk feedBy chunkFed
-feed-whole c f chunk out h = by (feedVerdict f (length (c .ram)) (length chunk) (length out))
+call-whole : (font : List ℕ) (s : State) (c : Call Event) → Whole (s .device .registers) → Whole (after font s c .device .registers)
+unfolding make
+call-whole font s c h = by (view c)
   where
-    by : (v : Verdict) → Whole (feedBy v c f chunk out .chip .device .registers)
-    by passed = events-whole c (finished f chunk) h
-    by (failed r) = h
+    by : {c : Call Event} → View c → Whole (after font s c .device .registers)
+    by (draws line) = subst Whole (sym (draw-same (s .device) (s .ram) font line)) h
+    by (asks cell) = h
+    by (acts {c = c} t d) =
+        subst (λ (u : State). Whole (u .device .registers)) (sym (by-events font s c t .leaves)) (events-whole s (eventsOf (fedBy s) c) h)
 
 reach-whole : {d : Device} → Reachable d → Whole (d .registers)
 unfolding freshDevice
 reach-whole fresh = fresh-whole
 reach-whole (reset p) = fresh-whole
-reach-whole (event {d} p ram e) = event-whole d ram e (reach-whole p)
 reach-whole (start {d} p lines) = subst Whole (sym (start-same d lines)) (reach-whole p)
-reach-whole (draw {d} p ram font line) = subst Whole (sym (draw-same d ram font line)) (reach-whole p)
-reach-whole (feed {d} p f ram chunk out) = feed-whole (chip d ram) f chunk out (reach-whole p)
+reach-whole (call {d} p ram font f c) = call-whole font (record { device = d; ram = ram; feed = f }) c (reach-whole p)
 
 -- ---- a byte with kept bits only is below 256
 

@@ -2,9 +2,14 @@
 -- interface): there a bus event is given by kind and byte, and a reply is a number.
 -- Assumes nothing.
 use Prim.Native.Nat.{ℕ}
+use mathlib.Core.Path.{_≡_}
 use mathlib.Core.Bool.{Bool, true, false, cond, _&&_}
 use mathlib.Core.List.{List, [], _∷_}
 use Rattle.runs.specs.Runs.{Machine, Entry}
+use Rattle.cells.specs.Reading.{Alike}
+use Rattle.registers.specs.Registers.{settingsOf}
+use Rattle.device.specs.Device.{cellsLeft}
+use Rattle.capture.specs.Capture.{Chip}
 
 -- a call of the list: a draw with any bytes, in any number, in its line buffer at entry; a cell question; a bus event; a feed of a
 -- chunk, with any bytes, in any number, in its output buffer at entry; the feed is made anew; one pixel is asked for
@@ -51,6 +56,21 @@ eventsOf fed (event e) = e ∷ []
 eventsOf fed (feed chunk out) = fed chunk out
 eventsOf fed anew = []
 eventsOf fed (pixel lines frame x y) = []
+
+-- ---- what a call may change
+
+-- what a call leaves of device and RAM is quiet (the order's term, condition 3) if no cell is changed that the frame's remaining lines read,
+-- given RAM and registers as they stand before it, and none of the settings LD, DD, CH, OSD, FBK and FL
+pub record QuietChange (before after : Chip) : Type 0 where
+  pub cells : Alike (cellsLeft (before .device) (before .ram)) (before .ram) (after .ram)
+  pub settings : settingsOf (after .device .registers) ≡ settingsOf (before .device .registers)
+
+-- it has RAM and registers as they were
+pub record Kept (before after : Chip) : Type 0 where
+  pub ram : after .ram ≡ before .ram
+  pub registers : after .device .registers ≡ before .device .registers
+
+-- ---- lines drawn
 
 unfoldable pub isDraw : {E : Type 0} → Call E → Bool
 isDraw (draw line) = true

@@ -7,23 +7,20 @@
 -- It is stated for every device record, feed, RAM and font, of any length, so for every device that earlier calls can reach.
 -- Assumes nothing.
 use Prim.Native.Nat.{ℕ}
-use mathlib.Core.Path.{_≡_}
 use mathlib.Core.Bool.{true}
 use mathlib.Core.List.{List, [], map}
 use Rattle.runs.specs.Runs.{Machine, AsMade, SameRuns}
-use Rattle.cells.specs.Reading.{Alike}
 use Rattle.refusals.specs.Refusals.{Reply, accepted}
-use Rattle.registers.specs.Registers.{settingsOf}
 use Rattle.bus.specs.declared.Event.{Event}
 use Rattle.bus.specs.declared.Effect.{Effect}
 use Rattle.bus.specs.declared.Effect.the-variants.{Acknowledge, Ignore, Store, Load}
 use Rattle.bus.specs.Bus.{eventOf, step}
 use Rattle.device.specs.declared.Device.{Device}
-use Rattle.device.specs.Device.{hearEvent, DrawOutcome, drawLine, askCell, cellsLeft}
+use Rattle.device.specs.Device.{hearEvent, DrawOutcome, drawLine, askCell}
 use Rattle.pixel.specs.Ask.{askPixel}
 use Rattle.capture.specs.declared.Feed.{Feed}
 use Rattle.capture.specs.Capture.{Logged, freshFeed, Chip, chip, FeedOutcome, feedChunk, fedEvents}
-use Rattle.calls.specs.Calls.{Call, draw, ask, event, feed, anew, pixel, Answer, Made, made, machine, eventsOf}
+use Rattle.calls.specs.Calls.{Call, draw, ask, event, feed, anew, pixel, Answer, Made, made, machine, eventsOf, QuietChange}
 
 -- the device, the RAM and the feed as a call returned or left them
 pub record State : Type 0 where
@@ -87,11 +84,9 @@ Stores (Ignore why) = ⊥
 Stores (Store a x) = Unit
 Stores (Load a) = ⊥
 
--- an event is quiet (the order's term, condition 3) if it changes no cell that the frame's remaining lines read, given RAM and
--- registers as they stand, and none of the settings LD, DD, CH, OSD, FBK and FL
-pub record Quiet (s : State) (e : Event) : Type 0 where
-  pub cells : Alike (cellsLeft (s .device) (s .ram)) (s .ram) (hearEvent (s .device) (s .ram) e .ram)
-  pub settings : settingsOf (hearEvent (s .device) (s .ram) e .device .registers) ≡ settingsOf (s .device .registers)
+-- an event is quiet if what it changes is: no cell that the frame's remaining lines read, and no setting
+abbrev pub Quiet : State → Event → Type 0
+Quiet s e = QuietChange (chipOf s) (chipOf (events .after s e))
 
 -- a bus write is quiet. Nothing is asked of any other bus event: only a write can change a cell or a setting (specs/Use.antt)
 abbrev pub QuietWrite : State → Event → Type 0

@@ -14,17 +14,16 @@ use Rattle.refusals.specs.Refusals.{Reply, accepted}
 use Rattle.bus.specs.declared.Event.{Event}
 use Rattle.device.specs.Device.{hearEvent, startFrame, drawLine, lineWidth}
 use Rattle.pixel.specs.Ask.{askPixel}
-use Rattle.calls.specs.Calls.{Call, event, Answer, drew}
-use Rattle.calls.specs.OnePage.{State, after, calls, EachEvent, effectOf, Stores}
+use Rattle.calls.specs.Calls.{Call, event, Answer, Kept, drew}
+use Rattle.calls.specs.OnePage.{State, chipOf, after, calls, EachEvent, effectOf, Stores}
 
 -- the state after a frame start
 abbrev pub started : State → ℕ → State
 started s lines = record { device = startFrame (s .device) lines .device; ram = s .ram; feed = s .feed }
 
 -- a call that leaves RAM and registers as they are
-pub record StayPut (font : List ℕ) (s : State) (c : Call Event) : Type 0 where
-  pub ram : after font s c .ram ≡ s .ram
-  pub registers : after font s c .device .registers ≡ s .device .registers
+abbrev pub StayPut : (font : List ℕ) → State → Call Event → Type 0
+StayPut font s c = Kept (chipOf s) (chipOf (after font s c))
 
 -- the claim that these do: every call of whose bus events each does, so every draw and question, refused ones too, and a feed made anew, which make
 -- none; each bus event that stores nothing, or is refused

@@ -9,20 +9,19 @@ use Rattle.registers.specs.declared.Registers.{Registers}
 use Rattle.registers.specs.Registers.{kept}
 use Rattle.bus.specs.declared.Event.{Event}
 use Rattle.device.specs.declared.Device.{Device}
-use Rattle.device.specs.Device.{freshDevice, hearEvent, startFrame, drawLine}
+use Rattle.device.specs.Device.{freshDevice, startFrame}
 use Rattle.capture.specs.declared.Feed.{Feed}
-use Rattle.capture.specs.Capture.{chip, feedChunk}
+use Rattle.calls.specs.Calls.{Call}
+use Rattle.calls.specs.OnePage.{after}
 
--- a fresh device, and what each call leaves of a device that was reached, refused calls too: a reset, a bus event, a frame start, a
--- draw, a feed of a chunk (a cell question, a question about a pixel and a feed made anew leave the device as it is). At each call RAM,
--- font, buffers, feed and numbers may be any, of any length
+-- a fresh device, and what a reset, a frame start and each call of the list (specs/Calls.antt) leave of a device that was reached, refused calls
+-- too. At each call RAM, font, buffers, feed and numbers may be any, of any length
 pub data Reachable : Device → Type 0 where
   fresh : Reachable freshDevice
   reset : {d : Device} → Reachable d → Reachable freshDevice
-  event : {d : Device} → Reachable d → (ram : List ℕ) (e : Event) → Reachable (hearEvent d ram e .device)
   start : {d : Device} → Reachable d → (lines : ℕ) → Reachable (startFrame d lines .device)
-  draw : {d : Device} → Reachable d → (ram font line : List ℕ) → Reachable (drawLine d ram font line .device)
-  feed : {d : Device} → Reachable d → (f : Feed) (ram chunk out : List ℕ) → Reachable (feedChunk (chip d ram) f chunk out .chip .device)
+  call : {d : Device} → Reachable d → (ram font : List ℕ) (f : Feed) (c : Call Event)
+      → Reachable (after font (record { device = d; ram = ram; feed = f }) c .device)
 
 -- sixteen bytes, each with kept bits only: masked by them it stays, so its unused bits are 0
 pub record KeptBits (r : Registers) : Type 0 where

@@ -4,6 +4,7 @@ use Prim.Native.Nat.{ℕ, _/_, _%_, _≤_, _<_}
 use mathlib.Core.Path.{_≡_}
 use mathlib.Core.List.{List}
 use lib.ListN.{getD}
+use Rattle.limits.specs.Limits.{ramLength}
 use Rattle.runs.specs.Runs.{end, AsMade}
 use Rattle.refusals.specs.Refusals.{accepted}
 use Rattle.bus.specs.declared.Event.{Event}
@@ -25,11 +26,11 @@ pub record QuietEvents : Type 0 where
   -- a start, a stop, a fetch, a slave or internal address byte
   pub no-store : (s : State) (e : Event) → (Stores (effectOf s e) → ⊥) → Quiet s e
   -- the byte that is already there: in RAM, in DD and in CH (for the other registers see below)
-  pub same-byte : (s : State) (e : Event) (a x : ℕ) → effectOf s e ≡ Store a x → a < 0x400 → getD (s .ram) a 0 ≡ x → Quiet s e
+  pub same-byte : (s : State) (e : Event) (a x : ℕ) → effectOf s e ≡ Store a x → a < ramLength → getD (s .ram) a 0 ≡ x → Quiet s e
   pub same-delay : (s : State) (e : Event) (x : ℕ) → effectOf s e ≡ Store 0x3FF1 x → x % 256 ≡ getD (s .device .registers .bytes) 1 0 → Quiet s e
   pub same-height : (s : State) (e : Event) (x : ℕ) → effectOf s e ≡ Store 0x3FF2 x → x % 64 ≡ getD (s .device .registers .bytes) 2 0 % 64 → Quiet s e
   -- an empty address
-  pub empty : (s : State) (e : Event) (a x : ℕ) → effectOf s e ≡ Store a x → 0x400 ≤ a → a < 0x3FF0 → Quiet s e
+  pub empty : (s : State) (e : Event) (a x : ℕ) → effectOf s e ≡ Store a x → ramLength ≤ a → a < 0x3FF0 → Quiet s e
   -- registers 3FF4 to 3FFF
   pub other-register : (s : State) (e : Event) (a x : ℕ) → effectOf s e ≡ Store a x → 0x3FF4 ≤ a → a < 0x4000 → Quiet s e
   -- VSP and HSP, LD as it is

@@ -9,20 +9,18 @@ use mathlib.Core.List.{List, [], _∷_, map}
 use native.Mathlib.Omega.{arith}
 use borrow.Author.Tests.{eqb-true, eqb-false}
 use lib.Dec.{eqb, ltb}
-use lib.ListN.{length, getD, set}
+use lib.ListN.{length, set}
 use Rattle.runs.specs.Runs.{AsMade}
 use Rattle.runs.proofs.Laws.{as-made-map, kept-by-each, end-read, Apart, reordered}
 use Rattle.cells.specs.Reading.{Alike}
 use Rattle.refusals.specs.Refusals.{Reply, accepted, Verdict, passed, failed}
-use Rattle.registers.specs.Registers.{settingsOf}
-use Rattle.bus.specs.declared.Event.{Event}
-use Rattle.bus.specs.Bus.{eventOf, BusOutcome, busEvent}
+use Rattle.bus.specs.Bus.{BusOutcome, busEvent}
 use Rattle.device.specs.declared.Device.{Device}
-use Rattle.device.specs.Device.{hearEvent, DrawOutcome, drawLine, lineOn, lineDrawn, cellsLeft, askCell}
+use Rattle.device.specs.Device.{hearEvent, DrawOutcome, drawLine, lineOn, lineDrawn, askCell}
 use Rattle.device.proofs.Laws.{by-draw}
 use Rattle.capture.specs.declared.Feed.{Feed}
 use Rattle.capture.specs.Capture.{Logged, finished, feedAfter, Chip, eventsBy}
-use Rattle.calls.specs.Calls.{Call, draw, ask, event, feed, anew, pixel, Answer, isEvent, eventsOf, isDraw}
+use Rattle.calls.specs.Calls.{Call, draw, ask, event, feed, anew, pixel, Answer, isEvent, eventsOf, QuietChange, isDraw}
 use Rattle.calls.specs.OnePage as device
 use Rattle.calls.proofs.Calls.{View, draws, asks, acts, view}
 use Rattle.calls.proofs.Quiet.{quiet-if-write, quiet-events}
@@ -31,7 +29,7 @@ use Rattle.layout.specs.Layout.{busAt, registersAt, registersLength, frameAt, r
 use Rattle.layout.specs.FeedLayout.{feedLength, feedBytes, feedIn}
 use Rattle.facts.proofs.Parts.{sets-comm}
 use Rattle.interface.specs.Interface.{answerOf, notTaken, isRecord, BusDone, heardOn, busOn, DrawDone, drawnOn, drawOn, cellOn, pixelOn, feedFreshOn, chunkMax, ChipBytes, busCalls, FeedDone, chunkFedOn, fedOnBy, verdictOn, feedOn, fedEventsOn}
-use Rattle.interface.specs.OnePage.{State, lentIn, make, answer, after, calls, fedBy, EachEvent, Quiet, QuietWrite, QuietRun, reads, heardAs, heard, OnePageBytes, QuietBytes, NoStaysBytes}
+use Rattle.interface.specs.OnePage.{State, lentIn, make, answer, after, calls, fedBy, EachEvent, Quiet, QuietWrite, QuietRun, chipIn, reads, heardAs, heard, OnePageBytes, QuietBytes, NoStaysBytes}
 use Rattle.interface.proofs.Laws.{if-taken, both-tests, feed-tests, bus-is, draw-is}
 use Rattle.interface.proofs.Crossing.{heard-sixteen, Taken, taken-back, all-taken, crossing}
 
@@ -178,14 +176,7 @@ QuietTaken s c = takenAt s c ≡ true → device.EachEvent device.Quiet (reads s
 
 -- a bus call that is taken
 event-quiet : (f : Feed) (l : ChipBytes) (x : Logged) → Taken l x → QuietWrite l x → device.Quiet (readAs f l) (heardAs x)
-event-quiet f l x t h =
-    let b = crossing .bus (l .device) (l .ram) (x .kind) (x .byte) (t .0) (t .1) in
-    quiet-if-write (readAs f l) (heardAs x) (λ w.
-    let q : Quiet l x = h (t .0, t .1, w) in
-    record {
-      cells = subst (Alike (cellsLeft (deviceIn (l .device)) (l .ram)) (l .ram)) (b .1) (q .cells);
-      settings = sym (ap (λ (d : Device). settingsOf (d .registers)) (b .0)) ∙ q .settings;
-    })
+event-quiet f l x t h = quiet-if-write (readAs f l) (heardAs x) (λ w. subst (QuietChange (chipIn l)) (taken-back l x t) (h (t .0, t .1, w)))
 
 -- events as they are made, quiet as the device's
 QuietEvents : List Logged → device.State → Type 0
@@ -420,30 +411,21 @@ no-stays-bytes font s cs cell q n =
 
 -- ---- which bus calls are quiet
 
-module _ (s : State) (x : Logged) where
-  -- one that is not taken is
-  if-taken-quiet : (Taken (lentIn s) x → Quiet (lentIn s) x) → Quiet (lentIn s) x
-  unfolding make
-  if-taken-quiet q = by (takenAt s (event x)) refl
-    where
-      by : (t : Bool) → takenAt s (event x) ≡ t → Quiet (lentIn s) x
-      by true t = q (bus-taken s x t)
-      by false t =
-          let e = untouched [] s (event x) t .state in
-          record {
-            cells = unfold Alike in λ c m. ap (λ (u : State). getD (u .ram) c 0) e;
-            settings = ap (λ (u : State). settingsOf (deviceIn (u .device) .registers)) e;
-          }
+-- one that is not taken is
+if-taken-quiet : (s : State) (x : Logged) → (Taken (lentIn s) x → Quiet (lentIn s) x) → Quiet (lentIn s) x
+unfolding make
+if-taken-quiet s x q = by (takenAt s (event x)) refl
+  where
+    by : (t : Bool) → takenAt s (event x) ≡ t → Quiet (lentIn s) x
+    by true t = q (bus-taken s x t)
+    by false t = subst (λ (u : State). QuietChange (chipIn (lentIn s)) (chipIn (lentIn u))) (sym (untouched [] s (event x) t .state)) nothing
+      where
+        nothing : QuietChange (chipIn (lentIn s)) (chipIn (lentIn s))
+        nothing = record { cells = unfold Alike in λ c m. refl; settings = refl }
 
-  heard-quiet : device.Quiet (reads s) (heardAs x) → Quiet (lentIn s) x
-  unfolding reads
-  heard-quiet q =
-      if-taken-quiet (λ h.
-      let b = crossing .bus (s .device) (s .ram) (x .kind) (x .byte) (h .0) (h .1) in
-      record {
-        cells = subst (Alike (cellsLeft (deviceIn (s .device)) (s .ram)) (s .ram)) (sym (b .1)) (q .cells);
-        settings = ap (λ (d : Device). settingsOf (d .registers)) (b .0) ∙ q .settings;
-      })
+heard-quiet : (s : State) (x : Logged) → device.Quiet (reads s) (heardAs x) → Quiet (lentIn s) x
+unfolding reads
+heard-quiet s x q = if-taken-quiet s x (λ h. subst (QuietChange (chipIn (lentIn s))) (sym (taken-back (lentIn s) x h)) q)
 
 pub quiet-bytes : QuietBytes
 unfolding reads

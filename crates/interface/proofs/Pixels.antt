@@ -12,22 +12,21 @@ use lib.ListN.{length, getD}
 use Rattle.runs.specs.Runs.{log, end, total, AsMade}
 use Rattle.refusals.specs.Refusals.{numberOf}
 use Rattle.refusals.proofs.Laws.{not-zero}
-use Rattle.registers.specs.declared.Registers.{Registers}
 use Rattle.line.proofs.Counts.{line-most}
 use Rattle.bus.specs.declared.Event.{Event}
 use Rattle.device.specs.declared.Device.{Device}
 use Rattle.device.specs.Device.{DrawOutcome, lineDrawn, drawLine}
 use Rattle.device.proofs.Laws.{by-draw}
 use Rattle.capture.specs.Capture.{Logged}
-use Rattle.calls.specs.Calls.{Call, Answer, isDraw, drew}
+use Rattle.calls.specs.Calls.{Call, Answer, Kept, isDraw, drew}
 use Rattle.calls.specs.OnePage as device
 use Rattle.calls.specs.Pixels as pixels
 use Rattle.calls.proofs.Calls.{View, draws, asks, acts, view}
 use Rattle.calls.proofs.Pixels.{pixels-agree}
-use Rattle.layout.specs.Layout.{registersAt, registersLength, recordLength, part, registersIn}
+use Rattle.layout.specs.Layout.{recordLength}
 use Rattle.layout.specs.FeedLayout.{feedIn}
 use Rattle.interface.specs.Interface.{answerOf}
-use Rattle.interface.specs.OnePage.{State, after, calls, reads, heard}
+use Rattle.interface.specs.OnePage.{State, lentIn, after, calls, chipIn, reads, heard}
 use Rattle.interface.specs.Pixels.{started, StayPut, StayPutBytes, accepts, linesDrawn, PixelsAgreeBytes}
 use Rattle.interface.proofs.Laws.{refusal-zero}
 use Rattle.interface.proofs.OnePage.{taken, takenAt, same-length, untouched, inBytes, carried, same-kind}
@@ -68,12 +67,7 @@ module _ (font : List ℕ) (n k : ℕ) where
 
   stay : (s : State) (c : Call Logged) → takenAt s c ≡ true → StayPut font s c → pixels.StayPut font (reads s) (heard c)
   unfolding reads
-  stay s c t p =
-      let e = carried font s c t .state in
-      record {
-        ram = sym (ap (λ (u : device.State). u .ram) e) ∙ p .ram;
-        registers = sym (ap (λ (u : device.State). u .device .registers) e) ∙ ap registersIn (p .registers);
-      }
+  stay s c t p = subst (λ (u : device.State). Kept (chipIn (lentIn s)) (device.chipOf u)) (carried font s c t .state) p
 
   -- one call more
   module _ (s : State) (c : Call Logged) (cs : List (Call Logged)) (ds : List (Call Event)) (ih : AsTaken (after font s c) cs ds) where
@@ -123,13 +117,8 @@ unfolding reads
 stay-put-bytes font s c p = by (takenAt s c) refl
   where
     by : (t : Bool) → takenAt s c ≡ t → StayPut font s c
-    by true t =
-        let e = carried font s c t .state in
-        record {
-          ram = ap (λ (u : device.State). u .ram) e ∙ p .ram;
-          registers = ap (λ (u : device.State). u .device .registers .bytes) e ∙ ap (λ (r : Registers). r .bytes) (p .registers);
-        }
-    by false t = let e = untouched font s c t .state in record { ram = ap (λ (u : State). u .ram) e; registers = ap (λ (u : State). part registersAt registersLength (u .device)) e }
+    by true t = subst (λ (u : device.State). Kept (chipIn (lentIn s)) (device.chipOf u)) (sym (carried font s c t .state)) p
+    by false t = rw (untouched font s c t .state) (record { ram = refl; registers = refl })
 
 pub pixels-agree-bytes : PixelsAgreeBytes
 unfolding reads

@@ -12,14 +12,11 @@ use mathlib.Core.Path.{_≡_}
 use mathlib.Core.List.{List, []}
 use lib.ListN.{length}
 use Rattle.runs.specs.Runs.{Machine, end, AsMade, SameRuns}
-use Rattle.cells.specs.Reading.{Alike}
-use Rattle.registers.specs.Registers.{settingsOf}
 use Rattle.bus.specs.declared.Event.{Event}
 use Rattle.bus.specs.declared.BusState.the-variants.{Write}
 use Rattle.bus.specs.Bus.{eventOf, step, address}
-use Rattle.device.specs.Device.{cellsLeft}
-use Rattle.capture.specs.Capture.{Logged}
-use Rattle.calls.specs.Calls.{Call, draw, ask, event, feed, anew, pixel, Answer, Made, made, machine, eventsOf}
+use Rattle.capture.specs.Capture.{Logged, Chip, chip}
+use Rattle.calls.specs.Calls.{Call, draw, ask, event, feed, anew, pixel, Answer, Made, made, machine, eventsOf, QuietChange}
 use Rattle.calls.specs.OnePage as device
 use Rattle.layout.specs.Layout.{recordLength, deviceIn}
 use Rattle.layout.specs.FeedLayout.{feedIn}
@@ -67,7 +64,10 @@ fedBy s chunk out = fedEventsOn (s .device) (s .feed) (s .ram) chunk out
 abbrev pub EachEvent : (ChipBytes → Logged → Type 0) → State → Call Logged → Type 0
 EachEvent P s c = AsMade P busCalls (lentIn s) (eventsOf (fedBy s) c)
 
--- ---- what the bytes are read as: the device's state, event and call
+-- ---- what the bytes are read as: the device and its RAM, with the feed too, an event, a call
+
+abbrev pub chipIn : ChipBytes → Chip
+chipIn l = chip (deviceIn (l .device)) (l .ram)
 
 unfoldable pub reads : State → device.State
 reads s = record { device = deviceIn (s .device); ram = s .ram; feed = feedIn (s .feed) }
@@ -89,11 +89,9 @@ heard (pixel lines frame x y) = pixel lines frame x y
 abbrev pub Writes : ChipBytes → Logged → Type 0
 Writes l x = (length (l .device) ≡ recordLength) × (x .kind ≤ 3) × device.Stores (step (deviceIn (l .device) .bus) (heardAs x) .effect)
 
--- a bus call is quiet (the order's term, condition 3) if it changes no cell that the frame's remaining lines read, given RAM and
--- registers as they stand, and none of the settings LD, DD, CH, OSD, FBK and FL
-pub record Quiet (l : ChipBytes) (x : Logged) : Type 0 where
-  pub cells : Alike (cellsLeft (deviceIn (l .device)) (l .ram)) (l .ram) (busCalls .after l x .ram)
-  pub settings : settingsOf (deviceIn (busCalls .after l x .device) .registers) ≡ settingsOf (deviceIn (l .device) .registers)
+-- a bus call is quiet if what it changes is: no cell that the frame's remaining lines read, and no setting
+abbrev pub Quiet : ChipBytes → Logged → Type 0
+Quiet l x = QuietChange (chipIn l) (chipIn (busCalls .after l x))
 
 -- a bus write is quiet; nothing is asked of any other bus call
 abbrev pub QuietWrite : ChipBytes → Logged → Type 0

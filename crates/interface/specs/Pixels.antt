@@ -12,20 +12,19 @@ use Rattle.limits.specs.Limits.{ramLength, fontLength, frameLines}
 use Rattle.runs.specs.Runs.{Entry, log, end, total, AsMade}
 use Rattle.device.specs.Device.{lineWidth}
 use Rattle.capture.specs.Capture.{Logged}
-use Rattle.calls.specs.Calls.{Call, Answer, drew}
+use Rattle.calls.specs.Calls.{Call, Answer, Kept, drew}
 use Rattle.calls.specs.Pixels as device
-use Rattle.layout.specs.Layout.{registersAt, registersLength, recordLength, part, deviceIn}
+use Rattle.layout.specs.Layout.{recordLength, deviceIn}
 use Rattle.interface.specs.Interface.{startOn, drawOn, pixelOn}
-use Rattle.interface.specs.OnePage.{State, after, calls, reads, heard}
+use Rattle.interface.specs.OnePage.{State, lentIn, after, calls, chipIn, reads, heard}
 
 -- the state after osd_frame_start
 abbrev pub started : State → ℕ → State
 started s lines = record { device = startOn (s .device) lines .device; ram = s .ram; feed = s .feed }
 
 -- a call that leaves the RAM and the registers' bytes as they are
-pub record StayPut (font : List ℕ) (s : State) (c : Call Logged) : Type 0 where
-  pub ram : after font s c .ram ≡ s .ram
-  pub registers : part registersAt registersLength (after font s c .device) ≡ part registersAt registersLength (s .device)
+abbrev pub StayPut : (font : List ℕ) → State → Call Logged → Type 0
+StayPut font s c = Kept (chipIn (lentIn s)) (chipIn (lentIn (after font s c)))
 
 -- the claim that a call does if the device's does: so all of StayingPut (crate calls' specs/Pixels.antt) holds over the bytes
 abbrev pub StayPutBytes : Type 0
