@@ -29,7 +29,7 @@ use Rattle.device.proofs.Laws.{drawable, by-draw, draw-same}
 use Rattle.pixel.specs.Ask.{askPixel}
 use Rattle.capture.specs.declared.Feed.{Feed}
 use Rattle.capture.specs.Capture.{freshFeed}
-use Rattle.calls.specs.Calls.{Call, draw, ask, event, feed, anew, pixel, Answer, isEvent, eventsOf}
+use Rattle.calls.specs.Calls.{Call, draw, ask, event, feed, anew, pixel, Answer, isEvent, busEventsOf}
 use Rattle.calls.specs.OnePage.{State, events, make, answer, after, calls, fedBy, EachEvent, Quiet, QuietWrite, OnePage}
 use Rattle.calls.specs.Use.{WritesAlone, NoStays}
 use Rattle.calls.proofs.Calls.{View, draws, asks, acts, view}
@@ -183,15 +183,15 @@ ask-apart font cell s e q =
 pub record ByEvents (font : List ℕ) (s : State) (e : Call Event) : Type 0 where
   -- it leaves what they leave, but for the feed
   pub feed : Feed
-  pub leaves : after font s e ≡ withFeed feed (end events s (eventsOf (fedBy s) e))
+  pub leaves : after font s e ≡ withFeed feed (end events s (busEventsOf (fedBy s) e))
   -- so it does after a draw, and if they are answered alike there, so is the call
-  pub drawn : (line : List ℕ) → let u : State = after font s (draw line) in after font u e ≡ withFeed feed (end events u (eventsOf (fedBy u) e))
+  pub drawn : (line : List ℕ) → let u : State = after font s (draw line) in after font u e ≡ withFeed feed (end events u (busEventsOf (fedBy u) e))
   pub own : (line : List ℕ) → let u : State = after font s (draw line) in
-      log events u (eventsOf (fedBy u) e) ≡ log events s (eventsOf (fedBy s) e) → answer font u e ≡ answer font s e
+      log events u (busEventsOf (fedBy u) e) ≡ log events s (busEventsOf (fedBy s) e) → answer font u e ≡ answer font s e
 
 -- a draw keeps what a feed's tests look at, and RAM and registers, which are all that a question about a pixel looks at
 pub by-events : (font : List ℕ) (s : State) (e : Call Event) → isEvent e ≡ true → ByEvents font s e
-unfolding isEvent eventsOf make end
+unfolding isEvent busEventsOf make end
 by-events font s (draw line) p = absurd (true≢false (sym p))
 by-events font s (ask cell) p = absurd (true≢false (sym p))
 by-events font s (event e) p =
@@ -222,7 +222,7 @@ by-events font s (pixel lines frame x y) p =
 
 -- every event is quiet, since every write is
 call-quiet : (u : State) (c : Call Event) → EachEvent QuietWrite u c → EachEvent Quiet u c
-call-quiet u c = as-made-map QuietWrite Quiet events quiet-if-write u (eventsOf (fedBy u) c)
+call-quiet u c = as-made-map QuietWrite Quiet events quiet-if-write u (busEventsOf (fedBy u) c)
 
 pub writes-alone : WritesAlone
 writes-alone font s cs q = as-made-map (EachEvent QuietWrite) (EachEvent Quiet) (calls font) call-quiet s cs q
@@ -238,7 +238,7 @@ apart font s e c p o h = by (view c) o
 
     by : {c : Call Event} → View c → isEvent c ≡ false → Apart (EachEvent Quiet) (calls font) (calls font) s e c
     by (draws line) o =
-        let a = all-apart Quiet events (calls font) (draw line) (draw-apart font line) s (eventsOf (fedBy s) e) h in
+        let a = all-apart Quiet events (calls font) (draw line) (draw-apart font line) s (busEventsOf (fedBy s) e) h in
         record {
           other = ap (λ (x : State). answer font x (draw line)) (b .leaves) ∙ a .other;
           own = b .own line (a .own);
@@ -246,7 +246,7 @@ apart font s e c p o h = by (view c) o
           still = a .still;
         }
     by (asks cell) o =
-        let a = all-apart Quiet events (calls font) (ask cell) (ask-apart font cell) s (eventsOf (fedBy s) e) h in
+        let a = all-apart Quiet events (calls font) (ask cell) (ask-apart font cell) s (busEventsOf (fedBy s) e) h in
         record { other = ap (λ (x : State). answer font x (ask cell)) (b .leaves) ∙ a .other; own = refl; either-way = refl; still = h }
     by (acts t n) o = absurd (true≢false (sym t ∙ o))
 

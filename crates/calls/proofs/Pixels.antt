@@ -28,7 +28,7 @@ use Rattle.device.proofs.Laws.{start-passed, by-draw, draw-same, draw-passed, l
 use Rattle.pixel.specs.Pixel.{pixelAt}
 use Rattle.pixel.proofs.Laws.{ask-passed}
 use Rattle.pixel.proofs.Lines.{pixel-is}
-use Rattle.calls.specs.Calls.{Call, ask, event, isDraw, eventsOf, drew}
+use Rattle.calls.specs.Calls.{Call, ask, event, isDraw, busEventsOf, drew}
 use Rattle.calls.specs.OnePage.{State, events, make, answer, after, calls, fedBy, EachEvent}
 use Rattle.calls.specs.Pixels.{started, StayPut, StayingPut, accepts, linesDrawn, PixelsAgree}
 use Rattle.calls.proofs.Calls.{View, draws, asks, acts, view}
@@ -49,7 +49,7 @@ call-put font s c = by (view c)
         let e = by-events font s c t .leaves in
         let kept =
         kept-by-each (λ u x. StayPut font u (event x)) events (λ (u : State). (u .ram ≡ s .ram) × (u .device .registers ≡ s .device .registers))
-        (λ u x p i. (p .ram ∙ i .0, p .registers ∙ i .1)) s (eventsOf (fedBy s) c) h (refl, refl)
+        (λ u x p i. (p .ram ∙ i .0, p .registers ∙ i .1)) s (busEventsOf (fedBy s) c) h (refl, refl)
         in
         record { ram = ap (λ (u : State). u .ram) e ∙ kept .0; registers = ap (λ (u : State). u .device .registers) e ∙ kept .1 }
 
@@ -116,7 +116,7 @@ module _ (font : List ℕ) (r : Registers) (mem : List ℕ) (f lines : ℕ) wher
           record { ram = i .ram; registers = i .registers; number = i .number; left = omega (arith, i .left); walk = walk-on n u i })
       by (asks cell) p = frame-kept n u (ask cell) i p refl
       by (acts {c = c} t d) p =
-          rw d (frame-kept n u c i p (ap (λ (v : State). v .device .frame) (by-events font u c t .leaves) ∙ events-frame u (eventsOf (fedBy u) c)))
+          rw d (frame-kept n u c i p (ap (λ (v : State). v .device .frame) (by-events font u c t .leaves) ∙ events-frame u (busEventsOf (fedBy u) c)))
 
   -- all calls of a run
   all-calls : (cs : List (Call Event)) (n : ℕ) (u : State) → At n u → AsMade (StayPut font) (calls font) u cs

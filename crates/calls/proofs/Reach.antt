@@ -21,7 +21,7 @@ use Rattle.bus.proofs.Laws.{by-event, busEvent-sixteen}
 use Rattle.device.specs.declared.Device.{Device}
 use Rattle.device.specs.Device.{freshDevice, hearEvent, StartOutcome, inFrame, startFrame}
 use Rattle.device.proofs.Laws.{by-start, draw-same}
-use Rattle.calls.specs.Calls.{Call, eventsOf}
+use Rattle.calls.specs.Calls.{Call, busEventsOf}
 use Rattle.calls.specs.OnePage.{State, events, make, after, fedBy}
 use Rattle.calls.specs.Reach.{Reachable, fresh, reset, start, call, UnusedBits}
 use Rattle.calls.proofs.Calls.{View, draws, asks, acts, view}
@@ -72,7 +72,7 @@ call-whole font s c h = by (view c)
     by (draws line) = subst Whole (sym (draw-same (s .device) (s .ram) font line)) h
     by (asks cell) = h
     by (acts {c = c} t d) =
-        subst (λ (u : State). Whole (u .device .registers)) (sym (by-events font s c t .leaves)) (events-whole s (eventsOf (fedBy s) c) h)
+        subst (λ (u : State). Whole (u .device .registers)) (sym (by-events font s c t .leaves)) (events-whole s (busEventsOf (fedBy s) c) h)
 
 reach-whole : {d : Device} → Reachable d → Whole (d .registers)
 unfolding freshDevice

@@ -26,7 +26,7 @@ use Rattle.device.specs.Device.{freshDevice, hearEvent, startFrame, inFrame, pi
 use Rattle.pixel.specs.Pixel.{fallsIn, ended, rowPixel, pixelAt}
 use Rattle.pixel.specs.Ask.{pixelVerdict, pixelBy, askPixel}
 use Rattle.capture.specs.Capture.{finished, feedAfter, outputs, feedVerdict, chunkFed, feedBy, eventsBy, feedChunk}
-use Rattle.calls.specs.Calls.{Call, draw, event, Answer, isEvent, eventsOf}
+use Rattle.calls.specs.Calls.{Call, draw, event, Answer, isEvent, busEventsOf}
 use Rattle.calls.specs.OnePage.{State, events, make, calls, fedBy, EachEvent, effectOf, Stores, QuietWrite}
 use Rattle.calls.specs.Witnesses.{addressing, write, font, heard, starts, traffic, picture, buffer, turning, firstLine, Changes}
 use Rattle.calls.specs.Witnesses.{Setting, LD, DD, CH, OSD, FBK, FL, but, ButSetting, ButCell, ready, Seen, Witnesses}
@@ -108,11 +108,11 @@ as-made-if P test m f s (c ∷ cs) t =
 
 -- each event of a call is quiet
 quietTest : State → Call Event → Bool
-quietTest s c = runTest eventTest events s (eventsOf (fedBy s) c)
+quietTest s c = runTest eventTest events s (busEventsOf (fedBy s) c)
 
 quiet-if : (s : State) (c : Call Event) → T (quietTest s c) → EachEvent QuietWrite s c
 unfolding quietTest
-quiet-if s c t = as-made-if QuietWrite eventTest events event-if s (eventsOf (fedBy s) c) t
+quiet-if s c t = as-made-if QuietWrite eventTest events event-if s (busEventsOf (fedBy s) c) t
 
 -- ---- a test that shows two runs to differ
 
@@ -124,7 +124,7 @@ pixelIn i (x ∷ xs) = getD (x .answer .buffer) i 0
 -- it is the same in both runs. To open this test opens all that a witness computes
 pixelTest : ℕ → State → List (Call Event) → Bool
 unfolding addressing write font heard starts traffic picture buffer turning firstLine but ready alikeTest sameTest eventTest
-    runTest quietTest pixelIn make isEvent eventsOf Stores freshDevice hearEvent startFrame inFrame pixelsOf lineOn lineDrawn drawVerdict drawBy drawLine
+    runTest quietTest pixelIn make isEvent busEventsOf Stores freshDevice hearEvent startFrame inFrame pixelsOf lineOn lineDrawn drawVerdict drawBy drawLine
     cellsLeft askCell log end select step ramWith registersWith answerTo taken busEvent settingsOf remaining scanBy nextLine walkFrom
     over begun advanced stripOf rowBy shownBy codesBy glyphOf inRam bind fmap value cells cellsAs sameRole among beforeFirst following isLast
     interpolated sliceNumber paint painted character shownOf twelveColumns inkOf columns ofBytes

@@ -26,7 +26,7 @@ pub record Answer (R : Type 0) : Type 0 where
   pub reply : R
   pub buffer : List ℕ
 
--- what a call leaves and answers
+-- what a call leaves and answers, and how it is written down
 pub record Made (S R : Type 0) : Type 0 where
   pub state : S
   pub answer : Answer R
@@ -48,30 +48,31 @@ isEvent (pixel lines frame x y) = true
 abbrev pub machine : {S E R : Type 0} → (S → Call E → Made S R) → Machine S (Call E) (Answer R)
 machine make = record { answer = λ s c. make s c .answer; after = λ s c. make s c .state; isEvent = isEvent }
 
--- the bus events that a call makes, in turn: an event itself, and those that a feed of a chunk makes, given by `fed`
-unfoldable pub eventsOf : {E : Type 0} → (fed : (chunk out : List ℕ) → List E) → Call E → List E
-eventsOf fed (draw line) = []
-eventsOf fed (ask cell) = []
-eventsOf fed (event e) = e ∷ []
-eventsOf fed (feed chunk out) = fed chunk out
-eventsOf fed anew = []
-eventsOf fed (pixel lines frame x y) = []
+-- the bus events that a call makes, in turn: an event itself; those that a feed of a chunk makes, which `fed` gives; none for any other call
+unfoldable pub busEventsOf : {E : Type 0} → (fed : (chunk out : List ℕ) → List E) → Call E → List E
+busEventsOf fed (draw line) = []
+busEventsOf fed (ask cell) = []
+busEventsOf fed (event e) = e ∷ []
+busEventsOf fed (feed chunk out) = fed chunk out
+busEventsOf fed anew = []
+busEventsOf fed (pixel lines frame x y) = []
 
 -- ---- what a call may change
 
--- what a call leaves of device and RAM is quiet (the order's term, condition 3) if no cell is changed that the frame's remaining lines read,
+-- of device and RAM, before it and after it: quiet (the order's term, condition 3) if it changes no cell that the frame's remaining lines read,
 -- given RAM and registers as they stand before it, and none of the settings LD, DD, CH, OSD, FBK and FL
 pub record QuietChange (before after : Chip) : Type 0 where
   pub cells : Alike (cellsLeft (before .device) (before .ram)) (before .ram) (after .ram)
   pub settings : settingsOf (after .device .registers) ≡ settingsOf (before .device .registers)
 
--- it has RAM and registers as they were
+-- RAM and registers stay put (document 02, K5)
 pub record Kept (before after : Chip) : Type 0 where
   pub ram : after .ram ≡ before .ram
   pub registers : after .device .registers ≡ before .device .registers
 
 -- ---- lines drawn
 
+-- the call is a draw
 unfoldable pub isDraw : {E : Type 0} → Call E → Bool
 isDraw (draw line) = true
 isDraw (ask cell) = false

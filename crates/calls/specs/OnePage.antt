@@ -20,7 +20,7 @@ use Rattle.device.specs.Device.{hearEvent, DrawOutcome, drawLine, askCell}
 use Rattle.pixel.specs.Ask.{askPixel}
 use Rattle.capture.specs.declared.Feed.{Feed}
 use Rattle.capture.specs.Capture.{Logged, freshFeed, Chip, chip, FeedOutcome, feedChunk, fedEvents}
-use Rattle.calls.specs.Calls.{Call, draw, ask, event, feed, anew, pixel, Answer, Made, made, machine, eventsOf, QuietChange}
+use Rattle.calls.specs.Calls.{Call, draw, ask, event, feed, anew, pixel, Answer, Made, made, machine, busEventsOf, QuietChange}
 
 -- the device, the RAM and the feed as a call returned or left them
 pub record State : Type 0 where
@@ -40,7 +40,7 @@ events =
       isEvent = λ e. true;
     }
 
--- each call by the definition that the promise of the device's function cites. (To make a feed anew takes no reply: it is accepted)
+-- each call by the definition that the promise of the device's function cites. (A feed made anew has no reply of its own: it is accepted)
 unfoldable pub make : (font : List ℕ) → State → Call Event → Made State Reply
 make font s (draw line) =
     let o : DrawOutcome = drawLine (s .device) (s .ram) font line in
@@ -69,7 +69,7 @@ fedBy s chunk out = map (λ (x : Logged). eventOf (x .kind) (x .byte)) (fedEvent
 
 -- P holds of each bus event of a call as it is made: of the event itself, or of each event of a feed, in turn. No other call makes any
 abbrev pub EachEvent : (State → Event → Type 0) → State → Call Event → Type 0
-EachEvent P s c = AsMade P events s (eventsOf (fedBy s) c)
+EachEvent P s c = AsMade P events s (busEventsOf (fedBy s) c)
 
 -- ---- quiet
 

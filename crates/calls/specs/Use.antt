@@ -16,7 +16,7 @@ use Rattle.device.specs.Device.{hearEvent, askCell}
 use Rattle.calls.specs.Calls.{Call}
 use Rattle.calls.specs.OnePage.{State, calls, EachEvent, effectOf, Stores, Quiet, QuietRun}
 
--- these events are quiet, whatever frame runs
+-- the claim that these events are quiet
 pub record QuietEvents : Type 0 where
   -- a data byte to a cell of which the question says no
   pub asked-no : (s : State) (x : ℕ) → s .device .bus .state ≡ Write → askCell (s .device) (s .ram) (address (s .device .bus)) ≡ accepted 0

@@ -20,7 +20,7 @@ use Rattle.device.specs.Device.{hearEvent, DrawOutcome, drawLine, lineOn, lineD
 use Rattle.device.proofs.Laws.{by-draw}
 use Rattle.capture.specs.declared.Feed.{Feed}
 use Rattle.capture.specs.Capture.{Logged, finished, feedAfter, Chip, eventsBy}
-use Rattle.calls.specs.Calls.{Call, draw, ask, event, feed, anew, pixel, Answer, isEvent, eventsOf, QuietChange, isDraw}
+use Rattle.calls.specs.Calls.{Call, draw, ask, event, feed, anew, pixel, Answer, isEvent, busEventsOf, QuietChange, isDraw}
 use Rattle.calls.specs.OnePage as device
 use Rattle.calls.proofs.Calls.{View, draws, asks, acts, view}
 use Rattle.calls.proofs.Quiet.{quiet-if-write, quiet-events}
@@ -116,11 +116,11 @@ made-taken (failed r) f chunk l h = tt
 pub record Carried (font : List ℕ) (s : State) (c : Call Logged) : Type 0 where
   pub state : reads (after font s c) ≡ device.after font (reads s) (heard c)
   pub answers : answer font s c ≡ inBytes (device.answer font (reads s) (heard c))
-  pub events : eventsOf (device.fedBy (reads s)) (heard c) ≡ map heardAs (eventsOf (fedBy s) c)
+  pub events : busEventsOf (device.fedBy (reads s)) (heard c) ≡ map heardAs (busEventsOf (fedBy s) c)
   pub each : EachEvent Taken s c
 
 pub carried : (font : List ℕ) (s : State) (c : Call Logged) → takenAt s c ≡ true → Carried font s c
-unfolding taken reads heard make device.make eventsOf fedEventsOn AsMade
+unfolding taken reads heard make device.make busEventsOf fedEventsOn AsMade
 carried font s (draw line) t =
     let d = crossing .draw (s .device) (s .ram) font line (eqb-true _ _ t) in
     record {
@@ -202,7 +202,7 @@ quiet-taken : (font : List ℕ) (s : State) (c : Call Logged) → EachEvent Quie
 unfolding QuietTaken QuietEvents reads
 quiet-taken font s c h t =
     let e = carried font s c t in
-    rw (e .events) (events-quiet (feedIn (s .feed)) (lentIn s) (eventsOf (fedBy s) c) (e .each) h)
+    rw (e .events) (events-quiet (feedIn (s .feed)) (lentIn s) (busEventsOf (fedBy s) c) (e .each) h)
 
 quiet-run : (font : List ℕ) (s : State) (cs : List (Call Logged)) → QuietRun font s cs → AsMade QuietTaken (calls font) s cs
 quiet-run font s cs q = as-made-map (EachEvent QuietWrite) QuietTaken (calls font) (quiet-taken font) s cs q
@@ -280,7 +280,7 @@ module _ (font line : List ℕ) where
 fed-late : (font : List ℕ) (s : State) (chunk out line : List ℕ) → takenAt s (feed chunk out) ≡ true
     → device.EachEvent device.Quiet (reads s) (feed chunk out)
     → after font (after font s (feed chunk out)) (draw line) ≡ after font (after font s (draw line)) (feed chunk out)
-unfolding taken QuietEvents eventsOf make reads feedOn fedOnBy chunkFedOn eventsBy
+unfolding taken QuietEvents busEventsOf make reads feedOn fedOnBy chunkFedOn eventsBy
 fed-late font s chunk out line t q = rw (t, still-taken font s (draw line) (feed chunk out) ∙ t) (by (verdictOn (s .feed) (s .ram) chunk out) q)
   where
     f : Feed
@@ -306,7 +306,7 @@ draw-late : (font : List ℕ) (s : State) (e : Call Logged) (line : List ℕ) �
 unfolding isEvent heard
 draw-late font s (draw other) line p t q = absurd (true≢false (sym p))
 draw-late font s (ask cell) line p t q = absurd (true≢false (sym p))
-draw-late font s (event x) line p t q = unfold make reads eventsOf AsMade in
+draw-late font s (event x) line p t q = unfold make reads busEventsOf AsMade in
     let l = same-lent font line (lentIn s) x (bus-taken s x t) (feedIn (s .feed)) (q .0) in
     λ i. record { device = l i .device; ram = l i .ram; feed = s .feed }
 draw-late font s (feed chunk out) line p t q = fed-late font s chunk out line t q

@@ -16,7 +16,7 @@ use Rattle.bus.specs.declared.Event.{Event}
 use Rattle.bus.specs.declared.BusState.the-variants.{Write}
 use Rattle.bus.specs.Bus.{eventOf, step, address}
 use Rattle.capture.specs.Capture.{Logged, Chip, chip}
-use Rattle.calls.specs.Calls.{Call, draw, ask, event, feed, anew, pixel, Answer, Made, made, machine, eventsOf, QuietChange}
+use Rattle.calls.specs.Calls.{Call, draw, ask, event, feed, anew, pixel, Answer, Made, made, machine, busEventsOf, QuietChange}
 use Rattle.calls.specs.OnePage as device
 use Rattle.layout.specs.Layout.{recordLength, deviceIn}
 use Rattle.layout.specs.FeedLayout.{feedIn}
@@ -31,7 +31,8 @@ pub record State : Type 0 where
 abbrev pub lentIn : State → ChipBytes
 lentIn s = record { device = s .device; ram = s .ram }
 
--- each call (crate calls' specs/Calls.antt) by the definition that the promise of its function cites; the reply is the number that it returns
+-- each call by the definition that the promise of its function cites: a draw is a call of osd_draw, a cell question of osd_cell, an event of osd_bus,
+-- given by kind and byte, and so on. The reply is the number that it returns
 unfoldable pub make : (font : List ℕ) → State → Call Logged → Made State ℕ
 make font s (draw line) =
     let r : DrawDone = drawOn (s .device) (s .ram) font line in
@@ -62,7 +63,7 @@ fedBy s chunk out = fedEventsOn (s .device) (s .feed) (s .ram) chunk out
 
 -- P holds of each bus call as it is made: of the call itself, or of each event of a feed, read as a bus call, in turn. No other call makes any
 abbrev pub EachEvent : (ChipBytes → Logged → Type 0) → State → Call Logged → Type 0
-EachEvent P s c = AsMade P busCalls (lentIn s) (eventsOf (fedBy s) c)
+EachEvent P s c = AsMade P busCalls (lentIn s) (busEventsOf (fedBy s) c)
 
 -- ---- what the bytes are read as: the device and its RAM, with the feed too, an event, a call
 
@@ -107,7 +108,7 @@ QuietRun font s cs = AsMade (EachEvent QuietWrite) (calls font) s cs
 abbrev pub OnePageBytes : Type 0
 OnePageBytes = (font : List ℕ) (s : State) (cs : List (Call Logged)) → QuietRun font s cs → SameRuns (calls font) s cs
 
--- these bus calls are quiet
+-- the claim that these bus calls are quiet
 pub record QuietBytes : Type 0 where
   -- one whose event is, on the device that the bytes are read as: so all of QuietEvents (crate calls' specs/Use.antt) holds of bus calls
   pub events : (s : State) (x : Logged) → device.Quiet (reads s) (heardAs x) → Quiet (lentIn s) x
