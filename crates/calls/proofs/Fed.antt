@@ -7,18 +7,14 @@ use lib.ListN.{length, drop}
 use Rattle.runs.specs.Runs.{Entry, log, end}
 use Rattle.refusals.specs.Refusals.{Reply, refused, Verdict, passed, failed}
 use Rattle.bus.specs.declared.Event.{Event}
-use Rattle.bus.specs.Bus.{eventOf}
 use Rattle.capture.specs.declared.Feed.{Feed}
 use Rattle.capture.specs.Capture.{Logged, finished, feedAfter, outputOf, outputs, outputFrom, busEvents, feedVerdict, takenReply, FeedOutcome, chunkFed, feedBy, eventsBy, feedChunk}
 use Rattle.capture.proofs.Laws.{by-verdict, taken-value}
 use Rattle.calls.specs.Calls.{feed, Answer}
-use Rattle.calls.specs.OnePage.{State, chipOf, events, make, answer, after, fedBy}
+use Rattle.calls.specs.OnePage.{State, chipOf, events, make, answer, after, heardAs, fedBy}
 use Rattle.calls.specs.Fed.{answered, FedAreBusEvents}
 
 -- ---- fed events, and the bus events that they are
-
-abbrev heardAs : Logged → Event
-heardAs x = eventOf (x .kind) (x .byte)
 
 -- both leave the same
 same-chip : (s : State) (es : List Logged) → end busEvents (chipOf s) es ≡ chipOf (end events s (map heardAs es))

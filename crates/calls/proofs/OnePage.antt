@@ -136,15 +136,7 @@ module _ (d : Device) (ram : List ℕ) (e : Event)
 
 -- ---- a quiet event and a later draw
 
--- the event stays quiet
-quiet-on : (font : List ℕ) (s : State) (e : Event) (line : List ℕ) → Quiet s e → Quiet (after font s (draw line)) e
-unfolding make
-quiet-on font s e line q =
-    by-draw (s .device) (s .ram) font line (λ (x : DrawOutcome). Quiet (record { device = x .device; ram = s .ram; feed = s .feed }) e)
-    (λ r. q)
-    (unfold lineDrawn hearEvent lineOn in λ r. record { cells = alike-later (s .device) (s .ram) e (q .settings) (q .cells) (r .left); settings = q .settings })
-
--- it is answered as before, and leaves the same RAM
+-- the event is answered as before, and leaves the same RAM
 same-hears : (font : List ℕ) (s : State) (e : Event) (line : List ℕ)
     → (hearEvent (drawLine (s .device) (s .ram) font line .device) (s .ram) e .reply ≡ hearEvent (s .device) (s .ram) e .reply)
     × (hearEvent (drawLine (s .device) (s .ram) font line .device) (s .ram) e .ram ≡ hearEvent (s .device) (s .ram) e .ram)
@@ -156,6 +148,7 @@ same-hears font s e line =
     (λ r. (refl, refl))
     (unfold lineDrawn hearEvent lineOn in λ t. (refl, refl))
 
+-- and stays quiet
 draw-apart : (font line : List ℕ) (s : State) (e : Event) → Quiet s e → Apart Quiet events (calls font) s e (draw line)
 unfolding make late
 draw-apart font line s e q =
@@ -164,7 +157,9 @@ draw-apart font line s e q =
       other = ap (λ (x : DrawOutcome). record { reply = x .reply; buffer = x .line }) d;
       own = same-hears font s e line .0;
       either-way = λ i. record { device = d i .device; ram = sym (same-hears font s e line .1) i; feed = s .feed };
-      still = quiet-on font s e line q;
+      still =
+          by-draw (s .device) (s .ram) font line (λ (x : DrawOutcome). Quiet (record { device = x .device; ram = s .ram; feed = s .feed }) e) (λ r. q)
+          (unfold lineDrawn hearEvent lineOn in λ r. record { cells = alike-later (s .device) (s .ram) e (q .settings) (q .cells) (r .left); settings = q .settings });
     }
 
 -- a question keeps everything

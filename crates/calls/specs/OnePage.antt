@@ -63,9 +63,13 @@ after font s c = make font s c .state
 abbrev pub calls : (font : List ℕ) → Machine State (Call Event) (Answer Reply)
 calls font = machine (make font)
 
+-- a fed event as the bus event that it is
+abbrev pub heardAs : Logged → Event
+heardAs x = eventOf (x .kind) (x .byte)
+
 -- the bus events that a feed makes; none where the feed is refused before any event
 abbrev pub fedBy : State → (chunk out : List ℕ) → List Event
-fedBy s chunk out = map (λ (x : Logged). eventOf (x .kind) (x .byte)) (fedEvents (chipOf s) (s .feed) chunk out)
+fedBy s chunk out = map heardAs (fedEvents (chipOf s) (s .feed) chunk out)
 
 -- P holds of each bus event of a call as it is made: of the event itself, or of each event of a feed, in turn. No other call makes any
 abbrev pub EachEvent : (State → Event → Type 0) → State → Call Event → Type 0

@@ -22,6 +22,7 @@ use Rattle.capture.specs.declared.Feed.{Feed}
 use Rattle.capture.specs.Capture.{Logged, finished, feedAfter, Chip, eventsBy}
 use Rattle.calls.specs.Calls.{Call, draw, ask, event, feed, anew, pixel, Answer, isEvent, busEventsOf, QuietChange, isDraw}
 use Rattle.calls.specs.OnePage as device
+use Rattle.calls.specs.OnePage.{heardAs}
 use Rattle.calls.proofs.Calls.{View, draws, asks, acts, view}
 use Rattle.calls.proofs.Quiet.{quiet-if-write, quiet-events}
 use Rattle.calls.proofs.OnePage.{late, same-draw, apart, still-unread}
@@ -29,7 +30,7 @@ use Rattle.layout.specs.Layout.{busAt, registersAt, registersLength, frameAt, r
 use Rattle.layout.specs.FeedLayout.{feedLength, feedBytes, feedIn}
 use Rattle.facts.proofs.Parts.{sets-comm}
 use Rattle.interface.specs.Interface.{answerOf, notTaken, isRecord, BusDone, heardOn, busOn, DrawDone, drawnOn, drawOn, cellOn, pixelOn, feedFreshOn, chunkMax, ChipBytes, busCalls, FeedDone, chunkFedOn, fedOnBy, verdictOn, feedOn, fedEventsOn}
-use Rattle.interface.specs.OnePage.{State, lentIn, make, answer, after, calls, fedBy, EachEvent, Quiet, QuietWrite, QuietRun, chipIn, reads, heardAs, heard, OnePageBytes, QuietBytes, NoStaysBytes}
+use Rattle.interface.specs.OnePage.{State, lentIn, make, answer, after, calls, fedBy, EachEvent, Quiet, QuietWrite, QuietRun, chipIn, reads, heard, OnePageBytes, QuietBytes, NoStaysBytes}
 use Rattle.interface.proofs.Laws.{if-taken, both-tests, feed-tests, bus-is, draw-is}
 use Rattle.interface.proofs.Crossing.{heard-sixteen, Taken, taken-back, all-taken, crossing}
 
@@ -174,10 +175,6 @@ twice font s c d t u =
 QuietTaken : State → Call Logged → Type 0
 QuietTaken s c = takenAt s c ≡ true → device.EachEvent device.Quiet (reads s) (heard c)
 
--- a bus call that is taken
-event-quiet : (f : Feed) (l : ChipBytes) (x : Logged) → Taken l x → QuietWrite l x → device.Quiet (readAs f l) (heardAs x)
-event-quiet f l x t h = quiet-if-write (readAs f l) (heardAs x) (λ w. subst (QuietChange (chipIn l)) (taken-back l x t) (h (t .0, t .1, w)))
-
 -- events as they are made, quiet as the device's
 QuietEvents : List Logged → device.State → Type 0
 QuietEvents es u = AsMade device.Quiet device.events u (map heardAs es)
@@ -185,8 +182,10 @@ QuietEvents es u = AsMade device.Quiet device.events u (map heardAs es)
 events-quiet : (f : Feed) (l : ChipBytes) (es : List Logged) → AsMade Taken busCalls l es → AsMade QuietWrite busCalls l es → QuietEvents es (readAs f l)
 unfolding AsMade QuietEvents
 events-quiet f l [] t h = tt
-events-quiet f l (x ∷ es) t h =
-    (event-quiet f l x (t .0) (h .0), subst (QuietEvents es) (event-read f l x (t .0)) (events-quiet f (busCalls .after l x) es (t .1) (h .1)))
+events-quiet f l (x ∷ es) t h = (
+  quiet-if-write (readAs f l) (heardAs x) (λ w. subst (QuietChange (chipIn l)) (taken-back l x (t .0)) (h .0 (t .0 .0, t .0 .1, w))),
+  subst (QuietEvents es) (event-read f l x (t .0)) (events-quiet f (busCalls .after l x) es (t .1) (h .1)),
+)
 
 -- a fed event that a bus call takes, quiet as the device's
 abbrev QuietEvent : Feed → ChipBytes → Logged → Type 0

@@ -14,7 +14,7 @@ use lib.ListN.{length}
 use Rattle.runs.specs.Runs.{Machine, end, AsMade, SameRuns}
 use Rattle.bus.specs.declared.Event.{Event}
 use Rattle.bus.specs.declared.BusState.the-variants.{Write}
-use Rattle.bus.specs.Bus.{eventOf, step, address}
+use Rattle.bus.specs.Bus.{step, address}
 use Rattle.capture.specs.Capture.{Logged, Chip, chip}
 use Rattle.calls.specs.Calls.{Call, draw, ask, event, feed, anew, pixel, Answer, Made, made, machine, busEventsOf, QuietChange}
 use Rattle.calls.specs.OnePage as device
@@ -65,7 +65,7 @@ fedBy s chunk out = fedEventsOn (s .device) (s .feed) (s .ram) chunk out
 abbrev pub EachEvent : (ChipBytes → Logged → Type 0) → State → Call Logged → Type 0
 EachEvent P s c = AsMade P busCalls (lentIn s) (busEventsOf (fedBy s) c)
 
--- ---- what the bytes are read as: the device and its RAM, with the feed too, an event, a call
+-- ---- what the bytes are read as: the device and its RAM, these with the feed, a call
 
 abbrev pub chipIn : ChipBytes → Chip
 chipIn l = chip (deviceIn (l .device)) (l .ram)
@@ -73,13 +73,10 @@ chipIn l = chip (deviceIn (l .device)) (l .ram)
 unfoldable pub reads : State → device.State
 reads s = record { device = deviceIn (s .device); ram = s .ram; feed = feedIn (s .feed) }
 
-abbrev pub heardAs : Logged → Event
-heardAs x = eventOf (x .kind) (x .byte)
-
 unfoldable pub heard : Call Logged → Call Event
 heard (draw line) = draw line
 heard (ask cell) = ask cell
-heard (event x) = event (heardAs x)
+heard (event x) = event (device.heardAs x)
 heard (feed chunk out) = feed chunk out
 heard anew = anew
 heard (pixel lines frame x y) = pixel lines frame x y
@@ -88,7 +85,7 @@ heard (pixel lines frame x y) = pixel lines frame x y
 
 -- a bus write: the call is taken, and the event that it makes stores a byte
 abbrev pub Writes : ChipBytes → Logged → Type 0
-Writes l x = (length (l .device) ≡ recordLength) × (x .kind ≤ 3) × device.Stores (step (deviceIn (l .device) .bus) (heardAs x) .effect)
+Writes l x = (length (l .device) ≡ recordLength) × (x .kind ≤ 3) × device.Stores (step (deviceIn (l .device) .bus) (device.heardAs x) .effect)
 
 -- a bus call is quiet if what it changes is: no cell that the frame's remaining lines read, and no setting
 abbrev pub Quiet : ChipBytes → Logged → Type 0
@@ -111,7 +108,7 @@ OnePageBytes = (font : List ℕ) (s : State) (cs : List (Call Logged)) → Quiet
 -- the claim that these bus calls are quiet
 pub record QuietBytes : Type 0 where
   -- one whose event is, on the device that the bytes are read as: so all of QuietEvents (crate calls' specs/Use.antt) holds of bus calls
-  pub events : (s : State) (x : Logged) → device.Quiet (reads s) (heardAs x) → Quiet (lentIn s) x
+  pub events : (s : State) (x : Logged) → device.Quiet (reads s) (device.heardAs x) → Quiet (lentIn s) x
   -- a data byte to a cell of which osd_cell says no (answer 0)
   pub asked-no : (s : State) (byte : ℕ) → deviceIn (s .device) .bus .state ≡ Write
       → cellOn (s .device) (s .ram) (address (deviceIn (s .device) .bus)) ≡ 0 → Quiet (lentIn s) (record { kind = 1; byte = byte })
