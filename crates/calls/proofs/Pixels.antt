@@ -1,16 +1,17 @@
 -- The proof that the pixel asked for is the one that is drawn (specs/Pixels.antt): while RAM and registers stay put, each accepted draw brings
 -- the walk one line on, and no other call moves it.
 -- Assumes nothing.
-use Prim.Native.Nat.{ℕ, suc, _+_, _-_, _%_, _<_}
+use Prim.Native.Nat.{ℕ, suc, _+_, _-_, _%_, _≤_, _<_}
 use mathlib.Core.Path.{_≡_, refl, sym, ap, _∙_, subst}
 use mathlib.Core.Bool.{cond}
 use mathlib.Core.List.{List, [], _∷_}
-use native.Mathlib.Nat.{zero-add, add-zero, add-assoc}
+use native.Mathlib.Nat.{zero-add, add-zero}
 use native.Mathlib.Omega.{arith}
 use lib.Dec.{eqb}
 use lib.ListN.{length, getD}
-use Rattle.runs.specs.Runs.{log, end, total, AsMade}
-use Rattle.runs.proofs.Laws.{kept-by-each}
+use Rattle.limits.specs.Limits.{ramLength, fontLength, frameLines}
+use Rattle.runs.specs.Runs.{end}
+use Rattle.runs.proofs.Laws.{kept-by-each, counted}
 use Rattle.cells.specs.Reading.{value}
 use Rattle.refusals.specs.Refusals.{accepted}
 use Rattle.refusals.proofs.Laws.{not-zero}
@@ -30,7 +31,7 @@ use Rattle.pixel.proofs.Laws.{ask-passed}
 use Rattle.pixel.proofs.Lines.{pixel-is}
 use Rattle.calls.specs.Calls.{Call, ask, event, isDraw, busEventsOf, drew}
 use Rattle.calls.specs.OnePage.{State, events, make, answer, after, calls, fedBy, EachEvent}
-use Rattle.calls.specs.Pixels.{started, StayPut, StayingPut, accepts, linesDrawn, PixelsAgree}
+use Rattle.calls.specs.Pixels.{started, StayPut, StayingPut, accepts, SamePixel, PixelsAgree}
 use Rattle.calls.proofs.Calls.{View, draws, asks, acts, view}
 use Rattle.calls.proofs.OnePage.{by-events}
 use Rattle.calls.proofs.Quiet.{same-unstored, same-refused}
@@ -68,7 +69,7 @@ events-frame u (e ∷ es) = events-frame (events .after u e) es
 
 module _ (font : List ℕ) (r : Registers) (mem : List ℕ) (f lines : ℕ) where
   -- after n of them
-  record At (n : ℕ) (u : State) : Type 0 where
+  pub record At (n : ℕ) (u : State) : Type 0 where
     ram : u .ram ≡ mem
     registers : u .device .registers ≡ r
     number : u .device .frame .number ≡ f
@@ -103,9 +104,9 @@ module _ (font : List ℕ) (r : Registers) (mem : List ℕ) (f lines : ℕ) wher
   drawnBy u c = drew accepts (record { call = c; answer = answer font u c })
 
   -- one call
-  one-call : (n : ℕ) (u : State) (c : Call Event) → At n u → StayPut font u c → At (n + drawnBy u c) (after font u c)
+  pub one-call : (n : ℕ) (u : State) (c : Call Event) → StayPut font u c → At n u → At (n + drawnBy u c) (after font u c)
   unfolding make isDraw
-  one-call n u c i p = by (view c) p
+  one-call n u c p i = by (view c) p
     where
       by : {c : Call Event} → View c → StayPut font u c → At (n + drawnBy u c) (after font u c)
       by (draws line) p =
@@ -118,15 +119,6 @@ module _ (font : List ℕ) (r : Registers) (mem : List ℕ) (f lines : ℕ) wher
       by (acts {c = c} t d) p =
           rw d (frame-kept n u c i p (ap (λ (v : State). v .device .frame) (by-events font u c t .leaves) ∙ events-frame u (busEventsOf (fedBy u) c)))
 
-  -- all calls of a run
-  all-calls : (cs : List (Call Event)) (n : ℕ) (u : State) → At n u → AsMade (StayPut font) (calls font) u cs
-      → At (n + linesDrawn (log (calls font) u cs)) (end (calls font) u cs)
-  unfolding log end total AsMade
-  all-calls [] n u i p = subst (λ (m : ℕ). At m u) (sym (add-zero n)) i
-  all-calls (c ∷ cs) n u i p =
-      subst (λ (m : ℕ). At m (end (calls font) (after font u c) cs)) (add-assoc n (drawnBy u c) (linesDrawn (log (calls font) (after font u c) cs)))
-      (all-calls cs (n + drawnBy u c) (after font u c) (one-call n u c i (p .0)) (p .1))
-
   -- the pixel that the next line has at x
   at-pixel : (n x : ℕ) (u : State) → At n u → x < widthOf (settingsOf r .ld) → getD (pixelsOf (u .device) (u .ram) font) x 0 ≡ pixelAt r mem font f x n
   unfolding pixelsOf
@@ -136,36 +128,44 @@ module _ (font : List ℕ) (r : Registers) (mem : List ℕ) (f lines : ℕ) wher
 
 -- ---- the claim
 
+module _ (font : List ℕ) (s : State) (lines frame : ℕ) (h : 1 ≤ lines) (k : lines ≤ frameLines) where
+  -- after n lines of a frame that starts on s
+  abbrev pub Lines : ℕ → State → Type 0
+  Lines n u = At font (s .device .registers) (s .ram) (frame % 64) lines n u
+
+  pub none-yet : started s lines .device .frame .number ≡ frame % 64 → Lines 0 (started s lines)
+  none-yet number =
+      let start = start-passed (s .device) lines h k in
+      record {
+        ram = refl;
+        registers = ap (λ (o : StartOutcome). o .device .registers) start ∙ unfold inFrame in refl;
+        number = number;
+        left = ap (λ (o : StartOutcome). o .device .frame .left) start ∙ unfold inFrame in omega arith;
+        walk = ap (λ (o : StartOutcome). o .device .frame .walk) start ∙ unfold inFrame walkAfter in refl;
+      }
+
+  pub same-pixel : (u : State) (x y : ℕ) (line : List ℕ) → Lines y u → length (s .ram) ≡ ramLength → length font ≡ fontLength
+      → y < lines → x < lineWidth (s .device) → lineWidth (s .device) ≤ length line → SamePixel font s u lines frame x y line
+  same-pixel u x y line i a b v w room =
+      let wide : lineWidth (u .device) ≡ lineWidth (s .device) = ap (λ (q : Registers). widthOf (settingsOf q .ld)) (i .registers) in
+      let passed : drawLine (u .device) (u .ram) font line ≡ lineDrawn (u .device) (u .ram) font line =
+      draw-passed (u .device) (u .ram) font line (ap length (i .ram) ∙ a) b (λ e. omega (arith, i .left))
+      (omega (arith, room, wide))
+      in
+      record {
+        drawn = ap (λ (o : DrawOutcome). o .reply .refusal) passed ∙ unfold lineDrawn in refl;
+        pixel =
+            ask-passed (s .device .registers) (s .ram) font lines frame x y a b h k w v
+            ∙ ap accepted
+            (sym
+            (ap (λ (o : DrawOutcome). getD (o .line) x 0) passed
+            ∙ line-at (u .device) (u .ram) font line x (omega (arith, w, wide))
+            ∙ at-pixel font (s .device .registers) (s .ram) (frame % 64) lines y x u i w));
+      }
+
 pub pixels-agree : PixelsAgree
 pixels-agree font s lines frame x y cs line a b h k number put count v w room =
-    let r : Registers = s .device .registers in
-    let start = start-passed (s .device) lines h k in
-    let before : At font r (s .ram) (frame % 64) lines 0 (started s lines) =
-    record {
-      ram = refl;
-      registers = ap (λ (o : StartOutcome). o .device .registers) start ∙ unfold inFrame in refl;
-      number = number;
-      left = ap (λ (o : StartOutcome). o .device .frame .left) start ∙ unfold inFrame in omega arith;
-      walk = ap (λ (o : StartOutcome). o .device .frame .walk) start ∙ unfold inFrame walkAfter in refl;
-    }
-    in
     let u : State = end (calls font) (started s lines) cs in
-    let i : At font r (s .ram) (frame % 64) lines y u =
-    subst (λ (n : ℕ). At font r (s .ram) (frame % 64) lines n u) (zero-add _ ∙ count)
-    (all-calls font r (s .ram) (frame % 64) lines cs 0 (started s lines) before put)
-    in
-    let wide : lineWidth (u .device) ≡ lineWidth (s .device) = ap (λ (q : Registers). widthOf (settingsOf q .ld)) (i .registers) in
-    let passed : drawLine (u .device) (u .ram) font line ≡ lineDrawn (u .device) (u .ram) font line =
-    draw-passed (u .device) (u .ram) font line (ap length (i .ram) ∙ a) b (λ e. omega (arith, i .left))
-    (omega (arith, room, wide))
-    in
-    record {
-      drawn = ap (λ (o : DrawOutcome). o .reply .refusal) passed ∙ unfold lineDrawn in refl;
-      pixel =
-          ask-passed r (s .ram) font lines frame x y a b h k w v
-          ∙ ap accepted
-          (sym
-          (ap (λ (o : DrawOutcome). getD (o .line) x 0) passed
-          ∙ line-at (u .device) (u .ram) font line x (omega (arith, w, wide))
-          ∙ at-pixel font r (s .ram) (frame % 64) lines y x u i w));
-    }
+    let i = counted (StayPut font) (calls font) (drew accepts) (Lines font s lines frame h k) (one-call font _ _ _ _) 0 (started s lines) cs put
+    (none-yet font s lines frame h k number) in
+    same-pixel font s lines frame h k u x y line (subst (λ (n : ℕ). Lines font s lines frame h k n u) (zero-add _ ∙ count) i) a b v w room

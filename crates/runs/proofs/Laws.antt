@@ -2,10 +2,12 @@
 -- events that can each be made after another call can all be; and events that can each be made after any other call can be made after
 -- all of them, since one is pushed past each later call, one at a time.
 -- Assumes nothing.
+use Prim.Native.Nat.{ℕ, _+_}
 use mathlib.Core.Path.{_≡_, refl, sym, ap, ap₂, _∙_, subst}
 use mathlib.Core.Bool.{Bool, true, false, not, cond}
 use mathlib.Core.List.{List, [], _∷_, _++_}
-use Rattle.runs.specs.Runs.{Machine, Entry, log, end, AsMade, select, eventsOf, othersOf, SameRuns}
+use native.Mathlib.Nat.{add-zero, add-assoc}
+use Rattle.runs.specs.Runs.{Machine, Entry, log, end, total, AsMade, select, eventsOf, othersOf, SameRuns}
 
 -- ---- a list of calls behind another
 
@@ -34,6 +36,16 @@ pub kept-by-each : {S C A : Type 0} (P : S → C → Type 0) (m : Machine S C A)
 unfolding AsMade end
 kept-by-each P m I f s [] h i = i
 kept-by-each P m I f s (c ∷ cs) h i = kept-by-each P m I f (m .after s c) cs (h .1) (f s c (h .0) i)
+
+-- and what is true of a number, if each call brings it on by a number of its own, is true of their total
+pub counted : {S C A : Type 0} (P : S → C → Type 0) (m : Machine S C A) (f : Entry C A → ℕ) (I : ℕ → S → Type 0)
+    → ((n : ℕ) (s : S) (c : C) → P s c → I n s → I (n + f (record { call = c; answer = m .answer s c })) (m .after s c))
+    → (n : ℕ) (s : S) (cs : List C) → AsMade P m s cs → I n s → I (n + total f (log m s cs)) (end m s cs)
+unfolding log end total AsMade
+counted P m f I g n s [] h i = subst (λ (k : ℕ). I k s) (sym (add-zero n)) i
+counted P m f I g n s (c ∷ cs) h i =
+    subst (λ (k : ℕ). I k (end m (m .after s c) cs)) (add-assoc n _ (total f (log m (m .after s c) cs)))
+    (counted P m f I g _ (m .after s c) cs (h .1) (g n s c (h .0) i))
 
 -- ---- a machine whose states are read as another's
 
