@@ -32,6 +32,7 @@ pub record StayingPut : Type 0 where
   pub events : (font : List ℕ) (s : State) (e : Event) → (Stores (effectOf s e) → ⊥) → StayPut font s (event e)
   pub refused : (font : List ℕ) (s : State) (e : Event) → (hearEvent (s .device) (s .ram) e .reply .refusal ≡ 0 → ⊥) → StayPut font s (event e)
 
+-- refusal 0
 abbrev pub accepts : Reply → Bool
 accepts r = eqb (r .refusal) 0
 
