@@ -225,49 +225,67 @@ module _ (ram font : List ℕ) (address : ℕ) (pen : Pen) (first w : ℕ) (out�
         (omega (arith, q, no-reads ram pen (w - w) a none)))
         (omega arith)
 
-    module _ (more : x < w) (c : Coded) (d : CodeShown ram font a pen bits c) where
-      -- the line ends: the room is filled with plain
-      pub row-ended : c .ended ≡ true → (fill : List ℕ) → fill ≡ replicate (length (take (w - x) (drop x out))) (pen .plain)
-          → RowDrawn ram font address pen first w out₀ (n + c .cells) (putMid x (w - x) out fill)
-      row-ended off fill f =
-          let end = sym (d .ends) ∙ off in
-          let here = room-ended ram font pen bits (w - x) a (i .paired) (omega arith) end in
-          last (c .cells) fill (f ∙ ap (λ (k : ℕ). replicate k (pen .plain)) (mid-len x w out (omega (arith, i .long))) ∙ sym (here .0))
-          (omega (arith, here .1, d .reads, no-slice (getD ram (a + 1) 0) (pen .slice) ram end))
+-- a turn: the row so far, and the code that comes next, for which there is room
+pub record Turn (ram font : List ℕ) (address : ℕ) (pen : Pen) (first w : ℕ) (out₀ : List ℕ) (x a n bits : ℕ) (out : List ℕ) (c : Coded) : Type 0 where
+  pub upto : RowUpTo ram font address pen first w out₀ x a n bits out
+  pub fits : w ≤ length out₀
+  pub more : x < w
+  pub code : CodeShown ram font a pen bits c
 
-      module _ (on : c .ended ≡ false) where
-        twelve : List ℕ
-        twelve = character font (pen .plain) (pen .hidden) bits (placeAt ram pen a)
+module _ {ram font : List ℕ} {address : ℕ} {pen : Pen} {first w : ℕ} {out₀ : List ℕ} {x a n bits : ℕ} {out : List ℕ} {c : Coded}
+    (t : Turn ram font address pen first w out₀ x a n bits out c) where
+  long-enough : w ≤ length out
+  long-enough = omega (arith, t .fits, t .upto .long)
 
-        here : (roomOf ram font pen bits (w - x) a ≡ take (w - x) twelve ++ roomOf ram font pen (c .drawn .bits) (w - x - 12) (even (a + 2)))
-            × (length (cells ram (rowIn pen (w - x) a)) ≡ c .cells + length (cells ram (rowIn pen (w - x - 12) (even (a + 2)))))
-        unfolding twelve
-        here = rw (d .bits on, d .reads) (room-on ram font pen bits (w - x) a (i .paired) (omega arith) (sym (d .ends) ∙ on))
+  -- the line ends: the room is filled with plain
+  pub row-ended : c .ended ≡ true → (fill : List ℕ) → fill ≡ replicate (length (take (w - x) (drop x out))) (pen .plain)
+      → RowDrawn ram font address pen first w out₀ (n + c .cells) (putMid x (w - x) out fill)
+  row-ended off fill f =
+      let end = sym (t .code .ends) ∙ off in
+      let here = room-ended ram font pen bits (w - x) a (t .upto .paired) (omega (arith, t .more)) end in
+      last _ _ _ _ _ _ _ _ _ _ _ _ (t .upto) (t .fits) (c .cells) fill
+      (f ∙ ap (λ (k : ℕ). replicate k (pen .plain)) (mid-len x w out long-enough) ∙ sym (here .0))
+      (omega (arith, here .1, t .code .reads, no-slice (getD ram (a + 1) 0) (pen .slice) ram end))
 
-        long : length twelve ≡ 12
-        unfolding twelve
-        long = character-length font (pen .plain) (pen .hidden) bits (placeAt ram pen a)
+  module _ (on : c .ended ≡ false) where
+    twelve : List ℕ
+    twelve = character font (pen .plain) (pen .hidden) bits (placeAt ram pen a)
 
-        are-twelve : columnPixels (c .drawn .columns) ≡ twelve
-        unfolding twelve
-        are-twelve = d .pixels on
+    here : (roomOf ram font pen bits (w - x) a ≡ take (w - x) twelve ++ roomOf ram font pen (c .drawn .bits) (w - x - 12) (even (a + 2)))
+        × (length (cells ram (rowIn pen (w - x) a)) ≡ c .cells + length (cells ram (rowIn pen (w - x - 12) (even (a + 2)))))
+    unfolding twelve
+    here =
+        rw (t .code .bits on, t .code .reads)
+        (room-on ram font pen bits (w - x) a (t .upto .paired) (omega (arith, t .more)) (sym (t .code .ends) ∙ on))
 
-        -- a whole character is drawn
-        pub row-drawn : x + 12 ≤ w → (part : List ℕ) → part ≡ columnPixels (c .drawn .columns)
-            → RowUpTo ram font address pen first w out₀ (x + 12) (even (a + 2)) (n + c .cells) (c .drawn .bits) (putMid x (x + 12 - x) out part)
-        row-drawn fit part p =
-            let left : w - x - 12 ≡ w - (x + 12) = omega arith in
-            written (x + 12) (even (a + 2)) (c .cells) (c .drawn .bits) part (omega arith) fit (omega (arith, ap length (p ∙ are-twelve), long)) (omega arith)
-            (here .0
-            ∙ ap₂ (λ (y : List ℕ) (k : ℕ). y ++ roomOf ram font pen (c .drawn .bits) k (even (a + 2))) (take-all (w - x) twelve (omega (arith, long)) ∙ sym (p ∙ are-twelve)) left)
-            (here .1 ∙ ap (λ (k : ℕ). c .cells + length (cells ram (rowIn pen k (even (a + 2))))) left)
+    long : length twelve ≡ 12
+    unfolding twelve
+    long = character-length font (pen .plain) (pen .hidden) bits (placeAt ram pen a)
 
-        -- the last character is cut
-        pub row-cut : w < x + 12 → (part : List ℕ) → part ≡ take (length (take (w - x) (drop x out))) (columnPixels (c .drawn .columns))
-            → RowDrawn ram font address pen first w out₀ (n + c .cells) (putMid x (w - x) out part)
-        row-cut cut part p =
-            let none : w - x - 12 ≡ 0 = omega arith in
-            last (c .cells) part
-            (p ∙ ap₂ take (mid-len x w out (omega (arith, i .long))) are-twelve
-            ∙ sym (here .0 ∙ ap (λ (y : List ℕ). take (w - x) twelve ++ y) (no-room ram font pen (c .drawn .bits) (w - x - 12) (even (a + 2)) none) ∙ append-nil (take (w - x) twelve)))
-            (omega (arith, here .1, no-reads ram pen (w - x - 12) (even (a + 2)) none))
+    are-twelve : columnPixels (c .drawn .columns) ≡ twelve
+    unfolding twelve
+    are-twelve = t .code .pixels on
+
+    -- a whole character is drawn
+    pub row-drawn : x + 12 ≤ w → (part : List ℕ) → part ≡ columnPixels (c .drawn .columns)
+        → RowUpTo ram font address pen first w out₀ (x + 12) (even (a + 2)) (n + c .cells) (c .drawn .bits) (putMid x (x + 12 - x) out part)
+    row-drawn fit part p =
+        let left : w - x - 12 ≡ w - (x + 12) = omega arith in
+        let whole : take (w - x) twelve ≡ part = take-all (w - x) twelve (omega (arith, long)) ∙ sym (p ∙ are-twelve) in
+        written _ _ _ _ _ _ _ _ _ _ _ _ (t .upto) (t .fits) (x + 12) (even (a + 2)) (c .cells) (c .drawn .bits) part (omega arith) fit
+        (omega (arith, ap length (p ∙ are-twelve), long)) (omega arith)
+        (here .0 ∙ ap₂ (λ (y : List ℕ) (k : ℕ). y ++ roomOf ram font pen (c .drawn .bits) k (even (a + 2))) whole left)
+        (here .1 ∙ ap (λ (k : ℕ). c .cells + length (cells ram (rowIn pen k (even (a + 2))))) left)
+
+    -- the last character is cut
+    pub row-cut : w < x + 12 → (part : List ℕ) → part ≡ take (length (take (w - x) (drop x out))) (columnPixels (c .drawn .columns))
+        → RowDrawn ram font address pen first w out₀ (n + c .cells) (putMid x (w - x) out part)
+    row-cut cut part p =
+        let none : w - x - 12 ≡ 0 = omega arith in
+        last _ _ _ _ _ _ _ _ _ _ _ _ (t .upto) (t .fits) (c .cells) part
+        (p
+        ∙ ap₂ take (mid-len x w out long-enough) are-twelve
+        ∙ sym (here .0
+        ∙ ap (λ (y : List ℕ). take (w - x) twelve ++ y) (no-room ram font pen (c .drawn .bits) (w - x - 12) (even (a + 2)) none)
+        ∙ append-nil (take (w - x) twelve)))
+        (omega (arith, here .1, no-reads ram pen (w - x - 12) (even (a + 2)) none))

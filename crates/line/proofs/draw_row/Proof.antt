@@ -4,7 +4,8 @@ use Prim.Native.Nat.{_-_, _%_, _≤_}
 use mathlib.Core.Path.{_≡_}
 use native.Mathlib.Omega.{arith}
 use lib.ListN.{length-take, length-drop}
-use Rattle.line.proofs.Turns.{RowUpTo, row-holds, code-few, row-bound, row-drawn, row-ended, row-cut, row-full}
+use denote.Ref.{now}
+use Rattle.line.proofs.Turns.{RowUpTo, row-holds, code-few, row-bound, row-full, Turn, row-drawn, row-ended, row-cut}
 use borrow.Author.Needs.{needs}
 use Rattle.line.proofs.draw_row.Statement.{statement}
 use Rattle.line.proofs.draw_row.Tie as tie
@@ -26,40 +27,55 @@ code-at-requires c κs =
     let p = c .before .before .before .before .before .before .before .before .pre in
     (c .before .before .before .before .row-table .ensures, (p .1 .0, (p .1 .1, omega (arith, c .before .before .loop .inv .0 .paired))))
 
+-- the row so far, and the code that was looked at
+turn : (c : tie.After-code-at Inv-loop μ-loop)
+    → let l = c .before .before .before in
+    let a = l .before .before .before .before .before .before .args in
+    Turn (now (a .ram)) (now (a .font)) (a .address) (a .pen) (a .first) (a .w) (now (a .out)) (l .loop .x) (l .loop .a) (l .loop .cells) (l .loop .before)
+    (l .loop .out) (c .code-at .result)
+turn c =
+    let l = c .before .before .before in
+    record {
+      upto = l .loop .inv .0;
+      fits = l .before .before .before .before .before .before .pre .0 .1;
+      more = c .before .before .loop-test .taken;
+      code = c .code-at .ensures;
+    }
+
 add-cells : tie.Need-add-cells Inv-loop μ-loop
 add-cells c =
-    let l = c .before .before .before .before .loop in
-    omega (arith, row-bound _ _ _ _ _ _ _ (l .x) (l .a) (l .cells) (l .before) (l .out) (c .before .before .before .before .before .before .before .before .before .before .pre .0 .2) (l .inv .0), code-few _ _ _ _ _ _ (c .before .code-at .ensures))
+    let t = turn (c .before) in
+    let p = c .before .before .before .before .before .before .before .before .before .before .pre in
+    omega (arith, row-bound _ _ _ _ _ _ _ _ _ _ _ _ (p .0 .2) (t .upto), code-few _ _ _ _ _ _ (t .code))
 
 returns : tie.Need-returns Inv-loop μ-loop
 returns c =
-    let l = c .before .before .before .before .before .before .before .before .before .loop in
-    row-ended _ _ _ _ _ _ _ (l .x) (l .a) (l .cells) (l .before) (l .out) (l .inv .0) (c .before .before .before .before .before .before .before .before .before .before .before .before .before .before .before .pre .0 .1) (c .before .before .before .before .before .before .before .before .loop-test .taken) _ (c .before .before .before .before .before .before .code-at .ensures) (c .before .before .before .before .if1 .taken) _
-    (c .before .before .fill .ensures)
+    let e = c .before .before .before .before in
+    row-ended (turn (e .before .before)) (e .if1 .taken) _ (c .before .before .fill .ensures)
 
 put-cut-requires : tie.Need-put-cut-requires Inv-loop μ-loop
 put-cut-requires c κs = simp (length-take, length-drop) (omega (arith, c .before .if2 .taken))
 
 returns-2 : tie.Need-returns-2 Inv-loop μ-loop
 returns-2 c =
-    let l = c .before .before .before .before .before .before .before .before .before .before .before .loop in
-    row-cut _ _ _ _ _ _ _ (l .x) (l .a) (l .cells) (l .before) (l .out) (l .inv .0) (c .before .before .before .before .before .before .before .before .before .before .before .before .before .before .before .before .before .pre .0 .1) (c .before .before .before .before .before .before .before .before .before .before .loop-test .taken) _ (c .before .before .before .before .before .before .before .before .code-at .ensures) (c .before .before .before .before .before .before .if1 .left)
-    (omega (arith, c .before .before .before .before .if2 .taken)) _ (c .before .before .put-cut .ensures)
+    let f = c .before .before .before .before in
+    let e = f .before .before in
+    row-cut (turn (e .before .before)) (e .if1 .left) (omega (arith, f .if2 .taken)) _ (c .before .before .put-cut .ensures)
 
 put-twelve-requires : tie.Need-put-twelve-requires Inv-loop μ-loop
 put-twelve-requires c κs =
+    let t = turn (c .before .before .before .before .before) in
     let l = c .before .before .before .before .before .before .before .before .loop in
-    simp (length-take, length-drop)
-    (omega (arith, l .inv .0 .long, c .before .before .before .before .before .before .before .before .before .before .before .before .before .before .pre .0 .1, c .before .if2 .left, l .inv .2))
+    simp (length-take, length-drop) (omega (arith, t .upto .long, t .fits, c .before .if2 .left, l .inv .2))
 
 loop-again : tie.Need-loop-again Inv-loop μ-loop
 loop-again c =
-    let l = c .before .before .before .before .before .before .before .before .before .before .before .loop in
-    let t = c .before .before .before .before .if2 .left in (
-      row-drawn _ _ _ _ _ _ _ (l .x) (l .a) (l .cells) (l .before) (l .out) (l .inv .0) (c .before .before .before .before .before .before .before .before .before .before .before .before .before .before .before .before .before .pre .0 .1) (c .before .before .before .before .before .before .before .before .before .before .loop-test .taken) _ (c .before .before .before .before .before .before .before .before .code-at .ensures) (c .before .before .before .before .before .before .if1 .left)
-          (omega (arith, t, l .inv .2)) _ (c .before .before .put-twelve .ensures),
-      omega (arith, t, l .inv .2),
-      omega (arith, t, l .inv .2),
+    let f = c .before .before .before .before in
+    let e = f .before .before in
+    let l = e .before .before .before .before .before .loop in (
+      row-drawn (turn (e .before .before)) (e .if1 .left) (omega (arith, f .if2 .left, l .inv .2)) _ (c .before .before .put-twelve .ensures),
+      omega (arith, f .if2 .left, l .inv .2),
+      omega (arith, f .if2 .left, l .inv .2),
     )
 
 returns-3 : tie.Need-returns-3 Inv-loop μ-loop
