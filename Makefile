@@ -8,7 +8,7 @@ MANIFEST = --quiet --offline --manifest-path compare/Cargo.toml
 STORED = test_bus test_feed test_frames test_pages test_pixel test_bench demo depot door_monitor
 INTO = .
 
-.PHONY: demo depot bdf claims references unused stored stored-check library divisions example model comparison speed ports port-known ports-refusals ports-test
+.PHONY: demo depot bdf claims references unused stored stored-check library divisions example model comparison speed ports port-known ports-refusals ports-test ports-count
 
 # the picture: proves, builds and runs it, and shows it as text
 demo:
@@ -64,6 +64,13 @@ ports-test: ports
 	$(CARGO) run $(MANIFEST) --release --bin trace -- target/ports-test/trace crates/demo/stdin $(SEED) $(SESSIONS) > target/ports-test/expected
 	$(CARGO) run $(MANIFEST) --release --bin trace -- target/ports-test/trace.short crates/demo/stdin 9425 60 > target/ports-test/expected.short
 	ports/test $(PORT)
+
+# instructions of each call on a Cortex-M0 and a Cortex-M4, counted by an emulator where it is installed (docs/SPEED.md)
+ports-count: library
+	ports/build thumbv6m-none-eabi thumbv7em-none-eabi
+	mkdir -p target/ports-count
+	$(CARGO) run $(MANIFEST) --release --bin pages -- target/ports-count/pages
+	ports/count
 
 # the C example against its stored output (tests/door_monitor.py)
 example: library

@@ -24,5 +24,6 @@ uint32_t stack_touched(void);
 /* The programs: 0 where all is well. */
 int replay(void);
 int sample(void);
+int count(void);
 
 #endif

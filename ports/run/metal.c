@@ -162,11 +162,11 @@ __attribute__((noinline)) uint32_t stack_touched(void)
 
 int main(void)
 {
-    if (sample())
-        return 1;
-#ifdef TRACE
-    return replay();
+#if defined COUNT
+    return count();
+#elif defined TRACE
+    return sample() || replay();
 #else
-    return 0;
+    return sample();
 #endif
 }

@@ -8,6 +8,7 @@ pub mod library;
 pub mod linked;
 pub mod model;
 pub mod pages;
+pub mod raced;
 pub mod random;
 pub mod recorder;
 pub mod sample;

@@ -8,14 +8,13 @@ use osd_model::{bus_bytes, feed_bytes, font_file, pixel_bytes, Device, Event};
 use runner::font_files::FILE;
 use runner::library::Place;
 use runner::linked;
-use runner::pages::{self, FIRST_USER, FONT, RAM};
-use runner::random::Random;
-use runner::traffic::{self, Logged};
+use runner::pages::{FONT, RAM};
+use runner::raced::{transfer, Pages};
+use runner::traffic;
 use std::hint::black_box;
 use std::time::Instant;
 
 const LINES: u32 = 2048;
-const WORDS: usize = RAM / 2;
 
 type Record = [u8; 32];
 
@@ -140,19 +139,6 @@ fn draw(name: &str, rounds: u32, mut pair: Pair) {
 }
 
 const TRANSFERS: u32 = 400;
-
-/// A host's transfer: start, slave address, internal address, sixty data bytes, stop.
-fn transfer(reads: bool) -> Vec<Logged> {
-    let mut events = vec![(0, 0), (1, 0xBA), (1, 0x01), (1, 0x40)];
-    if reads {
-        events.extend([(0, 0), (1, 0xBB)]);
-        events.extend([(2, 0); 60]);
-    } else {
-        events.extend((0..60).map(|i| (1, i)));
-    }
-    events.push((3, 0));
-    events
-}
 
 fn bus(name: &str, rounds: u32, font: &[u8], reads: bool) {
     let pair = Pair::new(vec![0; RAM], font, [63, 4, 18, 0x80]);
@@ -343,72 +329,9 @@ fn font_read(name: &str, rounds: u32, font: &[u8], changed: Option<usize>) {
     row(name, figures);
 }
 
-/// Every descriptor shows the row of 61 codes at word 256.
-fn full_page(mut code: impl FnMut() -> (u8, u8)) -> Vec<u8> {
-    let mut ram = vec![0; RAM];
-    for word in 0..256 {
-        pages::characters(&mut ram, word, 256, true, false);
-    }
-    for word in 256..WORDS {
-        let (attributes, high) = code();
-        pages::code(&mut ram, word, attributes, high);
-    }
-    ram
-}
-
-/// Two short texts with much transparent picture between them, as a door monitor shows them.
-fn stop_page(random: &mut Random) -> Vec<u8> {
-    let mut ram = vec![0; RAM];
-    for page in 0..8 {
-        let word = 4 * page;
-        pages::spacing(&mut ram, word, 20);
-        pages::characters(&mut ram, word + 1, 256, true, true);
-        pages::spacing(&mut ram, word + 2, 180);
-        pages::characters(&mut ram, word + 3, 300, true, false);
-    }
-    for word in 32..256 {
-        pages::spacing(&mut ram, word, 255);
-    }
-    for (row, length) in [(256, 24), (300, 16)] {
-        for word in row..row + length {
-            pages::code(&mut ram, word, 0x7A, 32 + random.below(90) as u8);
-        }
-        pages::code(&mut ram, row + length, 0, pages::END_OF_LINE);
-    }
-    ram
-}
-
-/// Every word is the descriptor of an enabled strip, each with a row of its own.
-fn all_descriptors() -> Vec<u8> {
-    let mut ram = vec![0; RAM];
-    for word in 0..WORDS {
-        pages::characters(&mut ram, word, 7 * word, true, false);
-    }
-    ram
-}
-
-/// Every word is a strip's descriptor, and a user character as a code. The last one alone has DE, so that 2,048 lines of CH 1 end in it.
-fn all_strips() -> Vec<u8> {
-    let mut ram = vec![0; RAM];
-    for word in 0..WORDS {
-        pages::characters(&mut ram, word, 7 * word, word == WORDS - 1, false);
-    }
-    ram
-}
-
 fn main() {
     let rounds = std::env::args().nth(1).map_or(200, |word| word.parse().expect("a number"));
-    let mut random = Random::new(9425);
-    let mut font = vec![0; FONT];
-    random.fill(&mut font);
-    let mut noise = vec![0; RAM];
-    random.fill(&mut noise);
-    let font_page = full_page(|| (random.byte() & 0x77, random.below(128) as u8));
-    let mut random = Random::new(9426);
-    let user_page = full_page(|| (random.byte() & 0x77, FIRST_USER + random.below(26) as u8));
-    let mut random = Random::new(9427);
-    let shadowed = full_page(|| (0x0A | random.byte() & 0x70, random.below(128) as u8));
-    let stop = stop_page(&mut random);
+    let Pages { font, font_page, user_page, shadowed, stop, noise, descriptors, strips } = Pages::new();
 
     println!("| Row | Proved, ns | Rust, ns | Ratio |");
     println!("|---|---|---|---|");
@@ -424,16 +347,14 @@ fn main() {
     feed("a fed event, writing", rounds, &font, false);
     feed("a fed event, reading", rounds, &font, true);
     for ch in [1, 18, 63] {
-        for (name, ram) in
-            [("full page", &font_page), ("stop page", &stop), ("noise", &noise), ("all descriptors", &all_descriptors())]
-        {
+        for (name, ram) in [("full page", &font_page), ("stop page", &stop), ("noise", &noise), ("all descriptors", &descriptors)] {
             let pair = Pair::new(ram.clone(), &font, [63, 4, ch, 0x80]);
             cells(&format!("a cell question, CH {ch}, {name}"), rounds, pair);
         }
     }
     pixel("a pixel, first line, first character", rounds, wide(&font_page), 36, 0);
     pixel("a pixel, CH 18, full page, line 1,000, in the middle", rounds, wide(&font_page), 384, 1000);
-    let thin = Pair::new(all_strips(), &font, [63, 4, 1, 0x80]);
+    let thin = Pair::new(strips, &font, [63, 4, 1, 0x80]);
     pixel("a pixel, CH 1, 2,048 strips, last line, last column", rounds, thin, 767, 2047);
     font_write("a font file, written", rounds, &font);
     font_read("a font file, read", rounds, &font, None);
