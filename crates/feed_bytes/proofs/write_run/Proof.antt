@@ -12,7 +12,7 @@ use Rattle.capture.specs.Places.{from}
 use Rattle.layout.specs.Layout.{busAt, put, busBytes}
 use Rattle.interface.specs.Interface.{busCalls}
 use Rattle.feed_bytes.specs.Turns.{lent}
-use Rattle.feed_bytes.proofs.Runs.{at, stored-first, stored-on, kind-before, ran-none, second-fits}
+use Rattle.feed_bytes.proofs.Runs.{at, stored-first, stored-on, in-run, kind-before, ran-none, second-fits}
 use Rattle.feed_bytes.proofs.write_run.Statement.{statement}
 use Rattle.feed_bytes.proofs.write_run.Tie as tie
 
@@ -67,23 +67,31 @@ returns-4 c =
       left = λ held. ap (λ (xs : List ℕ). from busCalls (lent xs (l .ram)) (now (a .chunk)) held (l .j) (l .out) (l .j - a .first)) (c .before .before .end-run .ensures) ∙ l .inv .7 held;
     }
 
+loop-less : tie.Need-loop-less Inv-loop μ-loop
+loop-less c =
+    let l = c .before .before .before .before .before .before .before .before .before .before .before .loop in
+    let a = c .before .before .before .before .before .before .before .before .before .before .before .before .before .before .before .before .before .before .before .before .before .before .before in
+    let on = in-run (a .args .i) (l .j) (length (now (a .args .chunk))) (a .pre .1 .behind) (l .inv .3) (l .inv .4) (c .before .before .before .before .before .before .before .before .before .before .loop-test .taken) in
+    on .less
+
 loop-again : tie.Need-loop-again Inv-loop μ-loop
 loop-again c =
     let l = c .before .before .before .before .before .before .before .before .before .before .before .loop in
     let a = c .before .before .before .before .before .before .before .before .before .before .before .before .before .before .before .before .before .before .before .before .before .before .before in
+    let on = in-run (a .args .i) (l .j) (length (now (a .args .chunk))) (a .pre .1 .behind) (l .inv .3) (l .inv .4) (c .before .before .before .before .before .before .before .before .before .before .loop-test .taken) in
     let n : ℕ = l .j - a .args .first in
     let one : n + 1 ≡ suc n = omega arith in (
       search needs,
       search needs,
       search needs,
       search needs,
-      search needs,
-      search needs,
+      on .events,
+      on .within,
       omega arith,
       λ held.
           stored-on (l .device) (l .ram) (now (a .args .chunk)) held (l .j) (l .out) n (l .address) (l .inv .0 ∙ a .pre .0 .0) (l .inv .1 ∙ a .pre .0 .1) (l .inv .6)
-          (c .before .before .before .before .before .before .before .before .before .before .loop-test .taken) (kind-before (now (a .args .chunk)) held (l .j) 1 (omega (arith, l .inv .3, a .pre .1 .behind)) (c .before .before .before .before .before .before .before .before .if4 .left))
-          (c .before .before .before .before .store .ensures .0) (c .before .before .before .before .store .ensures .1) (ap (λ (k : ℕ). set (set (l .out) n 1) k 0) one) (omega arith) (omega arith)
+          (on .inside) (kind-before (now (a .args .chunk)) held (l .j) 1 (on .behind) (c .before .before .before .before .before .before .before .before .if4 .left))
+          (c .before .before .before .before .store .ensures .0) (c .before .before .before .before .store .ensures .1) (ap (λ (k : ℕ). set (set (l .out) n 1) k 0) one) (omega arith) (on .output (a .args .first) (a .pre .1 .reached))
           ∙ l .inv .7 held,
     )
 
@@ -91,7 +99,8 @@ slice-write-out-2 : tie.Need-slice-write-out-2 Inv-loop μ-loop
 slice-write-out-2 c =
     let l = c .before .before .before .before .before .before .before .before .before .before .before .loop in
     let a = c .before .before .before .before .before .before .before .before .before .before .before .before .before .before .before .before .before .before .before .before .before .before .before in
-    second-fits (now (a .args .chunk)) (now (a .args .out)) (l .out) (a .args .first) (a .args .i) (l .j) 1 (a .pre .1) (l .inv .2) (l .inv .3) (l .inv .4) (c .before .before .before .before .before .before .before .before .before .before .loop-test .taken)
+    let on = in-run (a .args .i) (l .j) (length (now (a .args .chunk))) (a .pre .1 .behind) (l .inv .3) (l .inv .4) (c .before .before .before .before .before .before .before .before .before .before .loop-test .taken) in
+    second-fits (now (a .args .chunk)) (now (a .args .out)) (l .out) (a .args .first) (a .args .i) (l .j) 1 (a .pre .1) (l .inv .2) (l .inv .3) (l .inv .4) (on .inside)
 
 returns-5 : tie.Need-returns-5 Inv-loop μ-loop
 returns-5 c =
@@ -120,6 +129,8 @@ write-run-spec =
     loop-holds
     (λ c. search needs)
     (λ c. search needs)
+    (λ c. search needs)
+    (λ c. search needs)
     (λ c κs. search needs)
     (λ c. search needs)
     (λ c. search needs)
@@ -134,7 +145,7 @@ write-run-spec =
     slice-write-out-2
     (λ c. search needs)
     (λ c. search needs)
-    (λ c. search needs)
+    loop-less
     loop-again
     (λ c κs. search needs)
     (λ c. search needs)
