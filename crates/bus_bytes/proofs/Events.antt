@@ -24,9 +24,9 @@ use Rattle.bus.specs.declared.Effect.the-variants.{Acknowledge, Ignore, Store, 
 use Rattle.bus.specs.Bus.{eventOf, goes, step, isRegister, registersWith, ramWith, answerTo, taken, busEvent, byteIn}
 use Rattle.bus.proofs.Unheard.{Asks, asks}
 use Rattle.device.specs.declared.Device.{Device}
-use Rattle.layout.specs.Layout.{busAt, busLength, registersAt, registersLength, recordLength, put, busBytes, deviceIn}
+use Rattle.layout.specs.Layout.{busAt, registersAt, registersLength, recordLength, busBytes, putBus, putRegisters, deviceIn}
 use Rattle.facts.proofs.Parts.{sets-comm, sets-part, set-part}
-use Rattle.layout.proofs.Laws.{put-part}
+use Rattle.layout.proofs.Laws.{bus-put}
 use Rattle.interface.specs.Interface as face
 use Rattle.interface.specs.Interface.{answerOf, ignoredOn, heardOn, busOn}
 use Rattle.interface.proofs.Laws.{state-byte, ignored-same, bus-is}
@@ -48,7 +48,7 @@ module _ (a x : ℕ) where
     where
       by : (t : Bool)
           → cond t (set xs (registersAt + place) (bitAnd x (getD kept place 0))) xs
-          ≡ put registersAt (cond t (stored (deviceIn xs .registers) (a - 0x3FF0) x) (deviceIn xs .registers) .bytes) xs
+          ≡ putRegisters (cond t (stored (deviceIn xs .registers) (a - 0x3FF0) x) (deviceIn xs .registers)) xs
       by true = set-part registersAt registersLength place xs _ (omega arith)
       by false = sym (sets-part registersAt registersLength xs)
 
@@ -59,15 +59,15 @@ module _ (a x : ℕ) where
   set-none xs h = rw (lt-leb _ _ h) at set-is xs
 
   -- before the bus's bytes are put, or after
-  pub stored-in-place : (b : Bus) (xs : List ℕ) → storedOn a x (put busAt (busBytes b) xs) ≡ put busAt (busBytes b) (storedOn a x xs)
-  stored-in-place b xs = sym (set-is (put busAt (busBytes b) xs)) ∙ by (isRegister a) ∙ ap (put busAt (busBytes b)) (set-is xs)
+  pub stored-in-place : (b : Bus) (xs : List ℕ) → storedOn a x (putBus b xs) ≡ putBus b (storedOn a x xs)
+  stored-in-place b xs = sym (set-is (putBus b xs)) ∙ by (isRegister a) ∙ ap (putBus b) (set-is xs)
     where
       v : ℕ
       v = bitAnd x (getD kept place 0)
 
       by : (t : Bool)
-          → cond t (set (put busAt (busBytes b) xs) (registersAt + place) v) (put busAt (busBytes b) xs)
-          ≡ put busAt (busBytes b) (cond t (set xs (registersAt + place) v) xs)
+          → cond t (set (putBus b xs) (registersAt + place) v) (putBus b xs)
+          ≡ putBus b (cond t (set xs (registersAt + place) v) xs)
       by true = sets-comm xs (busBytes b) (v ∷ []) busAt (registersAt + place) (omega arith)
       by false = refl
 
@@ -83,10 +83,10 @@ in-space b e (Load a) k = omega (arith, k)
 pub step-in-space : (b : Bus) (e : Event) → InSpace (step b e .effect)
 step-in-space b e = in-space b e (step b e .effect) (asks b e)
 
-module _ (xs ram ys : List ℕ) (s : Step) (e : ys ≡ put busAt (busBytes (s .bus)) xs) where
+module _ (xs ram ys : List ℕ) (s : Step) (e : ys ≡ putBus (s .bus) xs) where
   -- registers that stay as they are
-  stay : ys ≡ put busAt (busBytes (s .bus)) (put registersAt (deviceIn xs .registers .bytes) xs)
-  stay = e ∙ ap (put busAt (busBytes (s .bus))) (sym (sets-part registersAt registersLength xs))
+  stay : ys ≡ putBus (s .bus) (putRegisters (deviceIn xs .registers) xs)
+  stay = e ∙ ap (putBus (s .bus)) (sym (sets-part registersAt registersLength xs))
 
   pub applied-acknowledge : s .effect ≡ Acknowledge
       → _≡_ {A = face.BusDone} (record { device = ys; ram = ram; answer = 0 }) (stepOn xs ram s)
@@ -114,12 +114,12 @@ applied-ignore xs ram ys s why a q e p = rw (q, not-zero (NotAcknowledged why)) 
 
 -- a start and a stop: the counter stays
 module _ (xs ram ys : List ℕ) where
-  pub started-slave : ys ≡ put busAt (busBytes (record { state = Slave; counter = deviceIn xs .bus .counter })) xs
+  pub started-slave : ys ≡ putBus (record { state = Slave; counter = deviceIn xs .bus .counter }) xs
       → _≡_ {A = face.BusDone} (record { device = ys; ram = ram; answer = 0 }) (eventOn xs ram Start)
   unfolding step
   started-slave e = applied-acknowledge xs ram ys (goes (deviceIn xs .bus) Slave Acknowledge) e refl
 
-  pub stopped-idle : ys ≡ put busAt (busBytes (record { state = Idle; counter = deviceIn xs .bus .counter })) xs
+  pub stopped-idle : ys ≡ putBus (record { state = Idle; counter = deviceIn xs .bus .counter }) xs
       → _≡_ {A = face.BusDone} (record { device = ys; ram = ram; answer = 0 }) (eventOn xs ram Stop)
   unfolding step
   stopped-idle e = applied-acknowledge xs ram ys (goes (deviceIn xs .bus) Idle Acknowledge) e refl
@@ -131,7 +131,7 @@ abbrev pub up : BusState → ℕ → Bus
 up s n = record { state = s; counter = (n % 0x4000 + 1) % 0x4000 }
 
 module _ (xs ram ys : List ℕ) (n : ℕ) (p : n ≡ deviceIn xs .bus .counter) where
-  pub written-next : (x : ℕ) (zs ram′ : List ℕ) → getD xs busAt 0 ≡ 5 → ys ≡ put busAt (busBytes (up Write n)) xs → zs ≡ storedOn (n % 0x4000) x ys
+  pub written-next : (x : ℕ) (zs ram′ : List ℕ) → getD xs busAt 0 ≡ 5 → ys ≡ putBus (up Write n) xs → zs ≡ storedOn (n % 0x4000) x ys
       → ram′ ≡ ramWith (Store (n % 0x4000) x) ram → _≡_ {A = face.BusDone} (record { device = zs; ram = ram′; answer = 0 }) (eventOn xs ram (Byte x))
   unfolding step
   written-next x zs ram′ five e q r =
@@ -142,14 +142,14 @@ module _ (xs ram ys : List ℕ) (n : ℕ) (p : n ≡ deviceIn xs .bus .counter) 
       by : step (deviceIn xs .bus) (Byte x) ≡ record { bus = up Write (deviceIn xs .bus .counter); effect = Store (deviceIn xs .bus .counter % 0x4000) x }
       by = rw (state-byte xs, five)
 
-  pub fetched-next : (byte : ℕ) → length xs ≡ recordLength → getD xs busAt 0 ≡ 6 → ys ≡ put busAt (busBytes (up Read n)) xs
+  pub fetched-next : (byte : ℕ) → length xs ≡ recordLength → getD xs busAt 0 ≡ 6 → ys ≡ putBus (up Read n) xs
       → byte ≡ byteIn (n % 0x4000) (deviceIn ys .registers) ram
       → _≡_ {A = face.BusDone} (record { device = ys; ram = ram; answer = byte }) (eventOn xs ram Fetch)
   unfolding step
   fetched-next byte h six e q =
       applied-load xs ram ys (record { bus = up Read n; effect = Load (n % 0x4000) }) e (n % 0x4000) byte refl
       (q ∙ ap (λ (d : Device). byteIn (n % 0x4000) (d .registers) ram)
-      (ap deviceIn e ∙ put-part busAt busLength (busBytes (up Read n)) xs refl (omega arith) (tt, tt, tt, tt)))
+      (ap deviceIn e ∙ bus-put (up Read n) xs h))
       ∙ ap (λ (m : ℕ). stepOn xs ram (record { bus = up Read m; effect = Load (m % 0x4000) })) p
       ∙ ap (stepOn xs ram) (sym by)
     where

@@ -8,7 +8,7 @@ use Rattle.bus.specs.declared.Step.{Step}
 use Rattle.bus.specs.declared.Effect.{Effect}
 use Rattle.bus.specs.declared.Effect.the-variants.{Acknowledge, Ignore, Store, Load}
 use Rattle.bus.specs.Bus.{registersWith, step, taken}
-use Rattle.layout.specs.Layout.{registersAt, put, deviceIn}
+use Rattle.layout.specs.Layout.{putRegisters, deviceIn}
 use Rattle.interface.specs.Interface.{BusDone, heardOn}
 
 -- an address that a step of the bus asks for is at most 3FFF
@@ -27,4 +27,4 @@ eventOn xs ram e = stepOn xs ram (step (deviceIn xs .bus) e)
 
 -- what a store to an address leaves of the record: the registers after it, in their place
 abbrev pub storedOn : ℕ → ℕ → List ℕ → List ℕ
-storedOn a x xs = put registersAt (registersWith (Store a x) (deviceIn xs .registers) .bytes) xs
+storedOn a x xs = putRegisters (registersWith (Store a x) (deviceIn xs .registers)) xs

@@ -7,7 +7,7 @@ ghost use Rattle.refusals.specs.Refusals.{refused};
 ghost use Rattle.bus.specs.declared.Event.the-variants.{Byte, Fetch};
 ghost use Rattle.bus.specs.declared.Effect.the-variants.{Store};
 ghost use Rattle.bus.specs.Bus.{ramWith, byteIn};
-ghost use Rattle.layout.specs.Layout.{busAt, recordLength, put, busBytes, deviceIn};
+ghost use Rattle.layout.specs.Layout.{busAt, recordLength, putBus, deviceIn};
 ghost use Rattle.interface.specs.Interface.{answerOf, ignoredOn, busOn};
 ghost use Rattle.bus_bytes.specs.Steps.{InSpace, stepOn, eventOn, storedOn};
 use bus::Bus;
@@ -150,7 +150,7 @@ pub fn read_next(device: &mut [u8], ram: &mut [u8]) -> u32
 // A start or a stop: the bus waits for something else, and the counter stays.
 fn go(device: &mut [u8], state: BusState)
     requires { ⌜ length (now device) ≡ recordLength ⌝ }
-    ensures { λ _. ⌜ now (device .exit) ≡ put busAt (busBytes (record { state = state; counter = deviceIn (now (device .entry)) .bus .counter })) (now (device .entry)) ⌝ }
+    ensures { λ _. ⌜ now (device .exit) ≡ putBus (record { state = state; counter = deviceIn (now (device .entry)) .bus .counter }) (now (device .entry)) ⌝ }
 {
     let counter = layout::counter_of(device);
     layout::write_bus(

@@ -2,12 +2,11 @@
 -- Assumes nothing.
 use Prim.Native.Nat.{ℕ, suc, _+_, _-_, _*_, _/_, _%_, _≤_, _<_}
 use mathlib.Core.Path.{_≡_, refl, sym, ap, _∙_}
-use mathlib.Core.List.{List, [], _∷_, _++_}
+use mathlib.Core.List.{List, [], _∷_}
 use native.Mathlib.Omega.{arith}
 use borrow.Author.Tests.{eq-eqb, ne-eqb}
-use lib.ListN.{length, getD, set, drop, length-drop, length-set}
-use lib.Seq.{length-take-le, sets, sets-eq, length-sets}
-use Rattle.facts.proofs.Parts.{sets-part}
+use lib.ListN.{length, getD, set, length-set}
+use lib.Seq.{sets}
 use Rattle.refusals.specs.Refusals.{accepted}
 use Rattle.bus.specs.declared.BusState.{BusState}
 use Rattle.bus.specs.declared.BusState.the-variants.{Write, Read}
@@ -18,8 +17,8 @@ use Rattle.bus.specs.Bus.{eventOf, step, ramWith, byteIn, answerTo, taken, busE
 use Rattle.device.specs.declared.Device.{Device}
 use Rattle.device.specs.Device.{hearEvent}
 use Rattle.capture.specs.Places.{kindAt, Rest, from}
-use Rattle.layout.specs.Layout.{busAt, registersAt, registersLength, recordLength, put, stateNumber, busBytes, deviceIn}
-use Rattle.layout.proofs.Laws.{withBus, event-back}
+use Rattle.layout.specs.Layout.{busAt, recordLength, stateNumber, putBus, deviceIn}
+use Rattle.layout.proofs.Laws.{putBus-length, bus-put, in-front, put-over}
 use Rattle.interface.specs.Interface.{busOn, ChipBytes, busCalls}
 use Rattle.interface.proofs.Laws.{state-byte}
 use Rattle.bus_bytes.specs.Steps.{storedOn}
@@ -27,45 +26,29 @@ use Rattle.feed_bytes.specs.Turns.{lent, Place, Ran}
 use Rattle.bus_bytes.proofs.Events.{stored-in-place, up, written-next, fetched-next, bus-heard}
 use Rattle.feed_bytes.proofs.Feeds.{turn}
 
--- ---- the bus part, put over another
-
+-- the bus in a state, with its counter at an address
 abbrev pub at : BusState → ℕ → Bus
 at s a = record { state = s; counter = a }
-
-in-front : (b : Bus) (xs : List ℕ) → length xs ≡ recordLength → put busAt (busBytes b) xs ≡ busBytes b ++ drop 4 xs
-in-front b xs h = sets-eq (busBytes b) xs busAt (omega arith)
-
-put-over : (b c : Bus) (xs : List ℕ) → length xs ≡ recordLength → put busAt (busBytes b) (put busAt (busBytes c) xs) ≡ put busAt (busBytes b) xs
-put-over b c xs h =
-    in-front b (put busAt (busBytes c) xs) (length-sets xs busAt (busBytes c) ∙ h)
-    ∙ ap (λ (l : List ℕ). busBytes b ++ drop 4 l) (in-front c xs h)
-    ∙ sym (in-front b xs h)
-
--- it is read back, and the rest stays
-bus-put : (b : Bus) (xs : List ℕ) → length xs ≡ recordLength → deviceIn (put busAt (busBytes b) xs) ≡ withBus b (deviceIn xs)
-bus-put b xs h =
-    ap (λ (l : List ℕ). deviceIn (put busAt (busBytes b) l)) (sym (sets-part registersAt registersLength xs))
-    ∙ event-back b (deviceIn xs .registers) xs (length-take-le registersLength (drop registersAt xs) (simp length-drop (omega arith))) h
 
 -- ---- an event of a run
 
 -- bytes xs that differ from ys in the bus part alone
 module _ (xs ys ram : List ℕ) (a x : ℕ) (h : length xs ≡ recordLength) (r : length ram ≡ 1024) (n : deviceIn xs .bus .counter % 0x4000 ≡ a)
-    (over : (b : Bus) → put busAt (busBytes b) xs ≡ put busAt (busBytes b) ys) where
+    (over : (b : Bus) → putBus b xs ≡ putBus b ys) where
   abbrev c : ℕ
   c = deviceIn xs .bus .counter
 
   -- a data byte
   stored : getD xs busAt 0 ≡ 5 → busOn xs ram 1 x
-      ≡ record { device = put busAt (busBytes (at Write ((a + 1) % 0x4000))) (storedOn a x ys); ram = ramWith (Store a x) ram; answer = 0 }
+      ≡ record { device = putBus (at Write ((a + 1) % 0x4000)) (storedOn a x ys); ram = ramWith (Store a x) ram; answer = 0 }
   stored five =
       sym (bus-heard xs ram 1 x h (omega arith) (Byte x) _ r refl
-      (written-next xs ram (put busAt (busBytes (up Write c)) xs) c refl x _ _ five refl refl refl))
+      (written-next xs ram (putBus (up Write c) xs) c refl x _ _ five refl refl refl))
       ∙ λ i. record { device = placed i; ram = ramWith (Store (n i) x) ram; answer = 0 }
     where
-      placed : storedOn (c % 0x4000) x (put busAt (busBytes (up Write c)) xs) ≡ put busAt (busBytes (at Write ((a + 1) % 0x4000))) (storedOn a x ys)
+      placed : storedOn (c % 0x4000) x (putBus (up Write c) xs) ≡ putBus (at Write ((a + 1) % 0x4000)) (storedOn a x ys)
       placed =
-          (λ i. storedOn (n i) x (put busAt (busBytes (at Write ((n i + 1) % 0x4000))) xs))
+          (λ i. storedOn (n i) x (putBus (at Write ((n i + 1) % 0x4000)) xs))
           ∙ ap (storedOn a x) (over (at Write ((a + 1) % 0x4000)))
           ∙ stored-in-place a x (at Write ((a + 1) % 0x4000)) ys
 
@@ -75,15 +58,15 @@ module _ (xs ys ram : List ℕ) (a x : ℕ) (h : length xs ≡ recordLength) (r 
 
   -- a fetch
   fetched : getD xs busAt 0 ≡ 6 → deviceIn ys .registers ≡ deviceIn xs .registers
-      → busOn xs ram 2 x ≡ record { device = put busAt (busBytes (at Read ((a + 1) % 0x4000))) ys; ram = ram; answer = byteIn a (deviceIn ys .registers) ram }
+      → busOn xs ram 2 x ≡ record { device = putBus (at Read ((a + 1) % 0x4000)) ys; ram = ram; answer = byteIn a (deviceIn ys .registers) ram }
   fetched six g =
-      sym (bus-heard xs ram 2 x h (omega arith) Fetch _ r refl (fetched-next xs ram (put busAt (busBytes (up Read c)) xs) c refl _ h six refl refl))
+      sym (bus-heard xs ram 2 x h (omega arith) Fetch _ r refl (fetched-next xs ram (putBus (up Read c) xs) c refl _ h six refl refl))
       ∙ λ i. record { device = placed i; ram = ram; answer = byte i }
     where
-      placed : put busAt (busBytes (up Read c)) xs ≡ put busAt (busBytes (at Read ((a + 1) % 0x4000))) ys
-      placed = (λ i. put busAt (busBytes (at Read ((n i + 1) % 0x4000))) xs) ∙ over (at Read ((a + 1) % 0x4000))
+      placed : putBus (up Read c) xs ≡ putBus (at Read ((a + 1) % 0x4000)) ys
+      placed = (λ i. putBus (at Read ((n i + 1) % 0x4000)) xs) ∙ over (at Read ((a + 1) % 0x4000))
 
-      byte : byteIn (c % 0x4000) (deviceIn (put busAt (busBytes (up Read c)) xs) .registers) ram ≡ byteIn a (deviceIn ys .registers) ram
+      byte : byteIn (c % 0x4000) (deviceIn (putBus (up Read c) xs) .registers) ram ≡ byteIn a (deviceIn ys .registers) ram
       byte =
           ap (λ (d : Device). byteIn (c % 0x4000) (d .registers) ram) (bus-put (up Read c) xs h)
           ∙ λ i. byteIn (n i) (sym g i) ram
@@ -99,19 +82,19 @@ module _ (xs ys ram : List ℕ) (a x : ℕ) (h : length xs ≡ recordLength) (r 
 
 module _ (ys ram chunk : List ℕ) (held j : ℕ) (out : List ℕ) (n a : ℕ) (h : length ys ≡ recordLength) (r : length ram ≡ 1024) (few : a < 0x4000) where
   abbrev pub behind : BusState → Rest ChipBytes
-  behind s = from busCalls (lent (put busAt (busBytes (at s a)) ys) ram) chunk held j out n
+  behind s = from busCalls (lent (putBus (at s a) ys) ram) chunk held j out n
 
   module _ (s : BusState) where
     abbrev xs : List ℕ
-    xs = put busAt (busBytes (at s a)) ys
+    xs = putBus (at s a) ys
 
     long : length xs ≡ recordLength
-    long = length-sets ys busAt (busBytes (at s a)) ∙ h
+    long = putBus-length (at s a) ys ∙ h
 
     counted : deviceIn xs .bus .counter % 0x4000 ≡ a
     counted = ap (λ (d : Device). d .bus .counter % 0x4000) (bus-put (at s a) ys h) ∙ omega arith
 
-    over : (b : Bus) → put busAt (busBytes b) xs ≡ put busAt (busBytes b) ys
+    over : (b : Bus) → putBus b xs ≡ putBus b ys
     over b = put-over b (at s a) ys h
 
     state : getD xs busAt 0 ≡ stateNumber s
@@ -123,7 +106,7 @@ module _ (ys ram chunk : List ℕ) (held j : ℕ) (out : List ℕ) (n a : ℕ) (
   -- an event of the run, wherever the bus part stands
   module _ (l : j < length chunk) where
     stored-turn : kindAt chunk held j ≡ 1 → behind Write
-        ≡ from busCalls (lent (put busAt (busBytes (at Write ((a + 1) % 0x4000))) (storedOn a (getD chunk j 0) ys)) (ramWith (Store a (getD chunk j 0)) ram))
+        ≡ from busCalls (lent (putBus (at Write ((a + 1) % 0x4000)) (storedOn a (getD chunk j 0) ys)) (ramWith (Store a (getD chunk j 0)) ram))
         chunk held (suc (suc j)) (sets out n (1 ∷ 0 ∷ [])) (suc (suc n))
     stored-turn k =
         turn (xs Write) ram chunk held j out n 1 l k (omega arith)
@@ -131,7 +114,7 @@ module _ (ys ram chunk : List ℕ) (held j : ℕ) (out : List ℕ) (n a : ℕ) (
         (stored-reply (xs Write) ys ram a (getD chunk j 0) (long Write) r (counted Write) (over Write) (state Write))
 
     fetched-turn : kindAt chunk held j ≡ 2 → behind Read
-        ≡ from busCalls (lent (put busAt (busBytes (at Read ((a + 1) % 0x4000))) ys) ram)
+        ≡ from busCalls (lent (putBus (at Read ((a + 1) % 0x4000)) ys) ram)
         chunk held (suc (suc j)) (sets out n (1 ∷ byteIn a (deviceIn ys .registers) ram ∷ [])) (suc (suc n))
     fetched-turn k =
         turn (xs Read) ram chunk held j out n 2 l k (omega arith)
@@ -156,15 +139,15 @@ module _ (ys ram chunk : List ℕ) (held j : ℕ) (out : List ℕ) (n a : ℕ) (
     -- and goes on
     pub stored-on : {ys′ ram′ out′ : List ℕ} {j′ n′ : ℕ} → kindAt chunk held j ≡ 1
         → ys′ ≡ storedOn a (getD chunk j 0) ys → ram′ ≡ ramWith (Store a (getD chunk j 0)) ram → out′ ≡ sets out n (1 ∷ 0 ∷ []) → j′ ≡ suc (suc j) → n′ ≡ suc (suc n)
-        → from busCalls (lent (put busAt (busBytes (at Write ((a + 1) % 0x4000))) ys′) ram′) chunk held j′ out′ n′ ≡ behind Write
+        → from busCalls (lent (putBus (at Write ((a + 1) % 0x4000)) ys′) ram′) chunk held j′ out′ n′ ≡ behind Write
     stored-on k p q u v w =
-        (λ i. from busCalls (lent (put busAt (busBytes (at Write ((a + 1) % 0x4000))) (p i)) (q i)) chunk held (v i) (u i) (w i)) ∙ sym (stored-turn k)
+        (λ i. from busCalls (lent (putBus (at Write ((a + 1) % 0x4000)) (p i)) (q i)) chunk held (v i) (u i) (w i)) ∙ sym (stored-turn k)
 
     pub fetched-on : {out′ : List ℕ} {j′ n′ : ℕ} → kindAt chunk held j ≡ 2
         → out′ ≡ sets out n (1 ∷ byteIn a (deviceIn ys .registers) ram ∷ []) → j′ ≡ suc (suc j) → n′ ≡ suc (suc n)
-        → from busCalls (lent (put busAt (busBytes (at Read ((a + 1) % 0x4000))) ys) ram) chunk held j′ out′ n′ ≡ behind Read
+        → from busCalls (lent (putBus (at Read ((a + 1) % 0x4000)) ys) ram) chunk held j′ out′ n′ ≡ behind Read
     fetched-on k u v w =
-        (λ i. from busCalls (lent (put busAt (busBytes (at Read ((a + 1) % 0x4000))) ys) ram) chunk held (v i) (u i) (w i)) ∙ sym (fetched-turn k)
+        (λ i. from busCalls (lent (putBus (at Read ((a + 1) % 0x4000)) ys) ram) chunk held (v i) (u i) (w i)) ∙ sym (fetched-turn k)
 
 -- ---- the places of a run
 

@@ -6,7 +6,7 @@ ghost use lib.ListN.{length};
 ghost use lib.Seq.{sets};
 ghost use Rattle.limits.specs.Limits.{ramLength};
 ghost use Rattle.capture.specs.Capture.{isShut, wouldComplete, takenReply};
-ghost use Rattle.layout.specs.Layout.{busAt, recordLength, put, busBytes};
+ghost use Rattle.layout.specs.Layout.{recordLength, putBus};
 ghost use Rattle.interface.specs.Interface.{answerOf, chunkMax};
 ghost use Rattle.feed_bytes.specs.Turns.{outputIn, eventsOn, took, lent, Place, Ran};
 use bus::Bus;
@@ -32,7 +32,7 @@ fn put_output(out: &mut [u8], n: usize, answer: u32)
 // The end of a run: the bus part is written once, with the counter that was kept apart.
 fn end_run(device: &mut [u8], state: BusState, counter: u16)
     requires { ⌜ length (now device) ≡ recordLength ⌝ }
-    ensures { λ _. ⌜ now (device .exit) ≡ put busAt (busBytes (record { state = state; counter = counter })) (now (device .entry)) ⌝ }
+    ensures { λ _. ⌜ now (device .exit) ≡ putBus (record { state = state; counter = counter }) (now (device .entry)) ⌝ }
 {
     layout::write_bus(
         device,

@@ -9,7 +9,6 @@ use native.Mathlib.Omega.{arith}
 use borrow.Author.Tests.{eq-eqb, le-ltb, eqb-true, eqb-false, ltb-false}
 use lib.Dec.{T, eqb, ltb}
 use lib.ListN.{length, drop, set, length-append, length-set, length-take, length-drop}
-use lib.Seq.{length-sets}
 use Rattle.facts.proofs.Choice.{either}
 use Rattle.runs.specs.Runs.{end, AsMade}
 use Rattle.runs.proofs.Laws.{kept-by-each, end-read, log-read}
@@ -42,9 +41,9 @@ use Rattle.capture.specs.declared.Feed.the-variants.{Open, Half, Shut}
 use Rattle.capture.specs.Capture.{Logged, freshFeed, badKind, finished, feedAfter, outputs, outputFrom, Chip, chip, busEvents, takenReply, FeedOutcome, chunkFed, feedBy, feedChunk}
 use Rattle.capture.proofs.Laws.{held-one, output-room, by-verdict, taken-value}
 use Rattle.pixel.specs.Ask.{askPixel}
-use Rattle.layout.specs.Layout.{busAt, registersAt, registersLength, nextAt, frameAt, recordLength, part, put, stateNumber, busBytes, nextBytes, frameBytes, registersIn, deviceIn}
+use Rattle.layout.specs.Layout.{busAt, registersAt, registersLength, recordLength, part, stateNumber, registersIn, putBus, putRegisters, putNext, deviceIn}
 use Rattle.layout.specs.FeedLayout.{feedLength, feedIn}
-use Rattle.layout.proofs.Laws.{withBus, withRegisters, read-back, event-back, deaf-back, draw-back, start-back, feed-back}
+use Rattle.layout.proofs.Laws.{putBus-length, putRegisters-length, putNext-length, putFrame-length, withBus, withRegisters, read-back, event-back, deaf-back, draw-back, start-back, feed-back}
 use Rattle.interface.specs.Interface.{answerOf, notTaken, isRecord, Done, freshOn, BusDone, ignoredOn, heardOn, recordAfter, busOn, startedOn, startOn, DrawDone, drawnOn, drawOn, pixelOn, isFeed, chunkMax, FeedMade, feedFreshOn, ChipBytes, busCalls, FeedDone, chunkFedOn, fedOnBy, verdictOn, rightLengths, feedOn, notFedOn, fontWriteOn, fontReadOn, Crossing}
 use Rattle.interface.proofs.Laws.{if-taken, ignored-same, fresh-not, bus-is, bus-not-record, bus-not-kind, start-not, draw-not, cell-not, pixel-not, feed-fresh-not, feed-not, cell-is, pixel-is, feed-tests, feed-is}
 
@@ -117,7 +116,7 @@ module _ (xs ram : List ℕ) (e : Event) where
   heard-back h = by (eqb (outcome .reply .refusal) 0) refl (ℕ-discrete (length ram) 1024)
     where
       by : (t : Bool) → eqb (outcome .reply .refusal) 0 ≡ t → Dec (length ram ≡ 1024)
-          → deviceIn (cond t (put busAt (busBytes (outcome .bus)) (put registersAt (outcome .registers .bytes) xs)) (ignoredOn (outcome .bus .state) xs)) ≡ After xs (outcome .bus) (outcome .registers)
+          → deviceIn (cond t (putBus (outcome .bus) (putRegisters (outcome .registers) xs)) (ignoredOn (outcome .bus .state) xs)) ≡ After xs (outcome .bus) (outcome .registers)
       by true p l = event-back (outcome .bus) (outcome .registers) xs (heard-sixteen xs ram e h) h
       by false p (no m) = rw (sym (busEvent-refused itsBus itsRegisters ram e m)) (ap deviceIn (ignored-same xs))
       by false p (yes l) =
@@ -251,7 +250,7 @@ unfolding busOn heardOn hearEvent
 bus-length xs ram kind byte =
     let o : BusOutcome = busEvent (deviceIn xs .bus) (deviceIn xs .registers) ram (eventOf kind byte) in
     either (λ (r : BusDone). Long xs (r .device) × Long ram (r .ram)) (isRecord xs && not (ltb 3 kind)) _ _ (
-      either (Long xs) (eqb (o .reply .refusal) 0) _ _ (length-sets (put registersAt (o .registers .bytes) xs) busAt (busBytes (o .bus)) ∙ length-sets xs registersAt (o .registers .bytes))
+      either (Long xs) (eqb (o .reply .refusal) 0) _ _ (putBus-length (o .bus) (putRegisters (o .registers) xs) ∙ putRegisters-length (o .registers) xs)
           (either (Long xs) (eqb (stateNumber (o .bus .state)) 1) _ _ (length-set xs busAt 1) refl),
       busEvent-length (deviceIn xs .bus) (deviceIn xs .registers) ram (eventOf kind byte),
     )
@@ -263,7 +262,7 @@ start-length xs lines =
     let o : StartOutcome = startFrame (deviceIn xs) lines in
     either (λ (r : Done). Long xs (r .device)) (isRecord xs) _ _
     (either (Long xs) (eqb (o .reply .refusal) 0) _ _
-    (length-sets (put nextAt (nextBytes (o .device .next)) xs) frameAt (frameBytes (o .device .frame)) ∙ length-sets xs nextAt (nextBytes (o .device .next))) refl) refl
+    (putFrame-length (o .device .frame) (putNext (o .device .next) xs) ∙ putNext-length (o .device .next) xs) refl) refl
 
 draw-length : (xs ram font line : List ℕ)
     → (length (drawOn xs ram font line .device) ≡ length xs) × (length (drawOn xs ram font line .line) ≡ length line)
@@ -271,7 +270,7 @@ unfolding drawOn drawnOn
 draw-length xs ram font line =
     let o : DrawOutcome = drawLine (deviceIn xs) ram font line in
     if-taken (λ (r : DrawDone). Long xs (r .device) × Long line (r .line)) (isRecord xs) _ _
-    (λ e. (either (Long xs) (eqb (o .reply .refusal) 0) _ _ (length-sets xs frameAt (frameBytes (o .device .frame))) refl, draw-cases xs ram font line (eqb-true _ _ e) .2))
+    (λ e. (either (Long xs) (eqb (o .reply .refusal) 0) _ _ (putFrame-length (o .device .frame) xs) refl, draw-cases xs ram font line (eqb-true _ _ e) .2))
     (refl, refl)
 
 -- ---- the answers, and the other buffers

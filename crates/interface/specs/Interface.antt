@@ -23,7 +23,7 @@ use Rattle.device.specs.Device.{freshDevice, EventOutcome, hearEvent, StartOutc
 use Rattle.pixel.specs.Ask.{askPixel}
 use Rattle.capture.specs.declared.Feed.{Feed}
 use Rattle.capture.specs.Capture.{Logged, freshFeed, finished, feedAfter, outputFrom, chip, feedVerdict, takenReply, eventsBy, FeedOutcome, feedChunk}
-use Rattle.layout.specs.Layout.{busAt, registersAt, registersLength, nextAt, frameAt, recordLength, part, put, stateNumber, busBytes, nextBytes, frameBytes, deviceBytes, deviceIn}
+use Rattle.layout.specs.Layout.{busAt, registersAt, registersLength, recordLength, part, stateNumber, putBus, putRegisters, putNext, putFrame, deviceBytes, deviceIn}
 use Rattle.layout.specs.FeedLayout.{feedLength, feedBytes, feedIn}
 
 -- ---- answers: refusal × 65,536 + value
@@ -68,7 +68,7 @@ ignoredOn s xs = cond (eqb (stateNumber s) 1) (set xs busAt 1) xs
 unfoldable pub heardOn : List ℕ → BusOutcome → BusDone
 heardOn xs o =
     record {
-      device = unlessRefused (o .reply) (put busAt (busBytes (o .bus)) (put registersAt (o .registers .bytes) xs)) (ignoredOn (o .bus .state) xs);
+      device = unlessRefused (o .reply) (putBus (o .bus) (putRegisters (o .registers) xs)) (ignoredOn (o .bus .state) xs);
       ram = o .ram;
       answer = answerOf (o .reply);
     }
@@ -89,7 +89,7 @@ busOn xs ram kind byte =
 unfoldable pub startedOn : List ℕ → StartOutcome → Done
 startedOn xs o =
     record {
-      device = unlessRefused (o .reply) (put frameAt (frameBytes (o .device .frame)) (put nextAt (nextBytes (o .device .next)) xs)) xs;
+      device = unlessRefused (o .reply) (putFrame (o .device .frame) (putNext (o .device .next) xs)) xs;
       answer = answerOf (o .reply);
     }
 
@@ -106,7 +106,7 @@ pub record DrawDone : Type 0 where
 unfoldable pub drawnOn : List ℕ → DrawOutcome → DrawDone
 drawnOn xs o =
     record {
-      device = unlessRefused (o .reply) (put frameAt (frameBytes (o .device .frame)) xs) xs;
+      device = unlessRefused (o .reply) (putFrame (o .device .frame) xs) xs;
       line = o .line;
       answer = answerOf (o .reply);
     }

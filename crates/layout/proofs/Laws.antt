@@ -19,7 +19,7 @@ use Rattle.walk.specs.declared.Strip.the-variants.{Spacing, Characters}
 use Rattle.device.specs.declared.Frame.{Frame}
 use Rattle.device.specs.declared.Device.{Device}
 use Rattle.capture.specs.declared.Feed.the-variants.{Open, Half, Shut}
-use Rattle.layout.specs.Layout.{busAt, busLength, registersAt, registersLength, nextAt, nextLength, frameAt, frameLength, recordLength, part, put, stateNumber, heldHigh, stateOf, busBytes, busIn, registersIn, nextBytes, nextIn, packed, stripIn, frameBytes, frameIn, deviceBytes, deviceIn, PutInPlace, ReadBack}
+use Rattle.layout.specs.Layout.{busAt, busLength, registersAt, registersLength, nextAt, nextLength, frameAt, frameLength, recordLength, part, put, PutInPlace, stateNumber, heldHigh, busBytes, stateOf, busIn, registersIn, nextBytes, nextIn, packed, stripIn, frameBytes, frameIn, putBus, putRegisters, putNext, putFrame, deviceBytes, deviceIn, ReadBack}
 use Rattle.layout.specs.FeedLayout.{FeedReadBack}
 use Rattle.facts.proofs.Parts.{fit, part-put, sets-append, sets-all, set-part}
 
@@ -27,6 +27,19 @@ use Rattle.facts.proofs.Parts.{fit, part-put, sets-append, sets-all, set-part}
 
 pub put-in-place : PutInPlace
 put-in-place at bytes xs h = sets-eq bytes xs at h ∙ append-assoc (take at xs) bytes (drop (at + length bytes) xs)
+
+-- the record keeps its length
+pub putBus-length : (b : Bus) (xs : List ℕ) → length (putBus b xs) ≡ length xs
+putBus-length b xs = length-sets xs busAt (busBytes b)
+
+pub putRegisters-length : (r : Registers) (xs : List ℕ) → length (putRegisters r xs) ≡ length xs
+putRegisters-length r xs = length-sets xs registersAt (r .bytes)
+
+pub putNext-length : (n : ℕ) (xs : List ℕ) → length (putNext n xs) ≡ length xs
+putNext-length n xs = length-sets xs nextAt (nextBytes n)
+
+pub putFrame-length : (f : Frame) (xs : List ℕ) → length (putFrame f xs) ≡ length xs
+putFrame-length f xs = length-sets xs frameAt (frameBytes f)
 
 -- ---- each part by itself
 
@@ -85,7 +98,7 @@ abbrev IsPart : ℕ → ℕ → Type 0
 IsPart at n = T (fit at n busAt busLength) × T (fit at n registersAt registersLength) × T (fit at n nextAt nextLength) × T (fit at n frameAt frameLength)
 
 -- it is read, and all other parts are as they were
-pub put-part : (at n : ℕ) (bs xs : List ℕ) → length bs ≡ n → at + n ≤ length xs → IsPart at n
+put-part : (at n : ℕ) (bs xs : List ℕ) → length bs ≡ n → at + n ≤ length xs → IsPart at n
     → deviceIn (put at bs xs) ≡ of (λ from m. cond (eqb from at) bs (part from m xs))
 put-part at n bs xs l h t = λ i. record {
   bus = busIn (read busAt busLength (t .0) i);
@@ -99,12 +112,12 @@ put-part at n bs xs l h t = λ i. record {
 
 -- all parts put in their places are the whole record
 pub whole-put : (d : Device) (xs : List ℕ) → length xs ≡ recordLength → length (d .registers .bytes) ≡ registersLength
-    → put frameAt (frameBytes (d .frame)) (put nextAt (nextBytes (d .next)) (put registersAt (d .registers .bytes) (put busAt (busBytes (d .bus)) xs)))
+    → putFrame (d .frame) (putNext (d .next) (putRegisters (d .registers) (putBus (d .bus) xs)))
     ≡ deviceBytes d
 whole-put d xs h l =
     let rest : List ℕ = nextBytes (d .next) ++ frameBytes (d .frame) in
     let r : List ℕ = d .registers .bytes in
-    let ys : List ℕ = put busAt (busBytes (d .bus)) xs in
+    let ys : List ℕ = putBus (d .bus) xs in
     let e : nextAt ≡ registersAt + length r = omega arith in
     ap (λ (k : ℕ). sets (put registersAt r ys) k rest) e
     ∙ sets-append ys r rest registersAt
@@ -138,12 +151,28 @@ withFrame f d = record { bus = d .bus; registers = d .registers; frame = f; next
 abbrev pub withNext : ℕ → Device → Device
 withNext n d = record { bus = d .bus; registers = d .registers; frame = d .frame; next = n }
 
+-- a bus
+pub bus-put : (b : Bus) (xs : List ℕ) → length xs ≡ recordLength → deviceIn (putBus b xs) ≡ withBus b (deviceIn xs)
+bus-put b xs h =
+    put-part busAt busLength (busBytes b) xs refl (omega arith) (tt, tt, tt, tt)
+    ∙ ap (λ (c : Bus). withBus c (deviceIn xs)) (bus-back b)
+
+-- put over another
+pub in-front : (b : Bus) (xs : List ℕ) → length xs ≡ recordLength → putBus b xs ≡ busBytes b ++ drop busLength xs
+in-front b xs h = sets-eq (busBytes b) xs busAt (omega arith)
+
+pub put-over : (b c : Bus) (xs : List ℕ) → length xs ≡ recordLength → putBus b (putBus c xs) ≡ putBus b xs
+put-over b c xs h =
+    in-front b (putBus c xs) (putBus-length c xs ∙ h)
+    ∙ ap (λ (l : List ℕ). busBytes b ++ drop busLength l) (in-front c xs h)
+    ∙ sym (in-front b xs h)
+
 -- an event: bus and registers
 pub event-back : (b : Bus) (r : Registers) (xs : List ℕ) → length (r .bytes) ≡ registersLength → length xs ≡ recordLength
-    → deviceIn (put busAt (busBytes b) (put registersAt (r .bytes) xs)) ≡ withBus b (withRegisters r (deviceIn xs))
+    → deviceIn (putBus b (putRegisters r xs)) ≡ withBus b (withRegisters r (deviceIn xs))
 event-back b r xs l h =
-    put-part busAt busLength (busBytes b) (put registersAt (r .bytes) xs) refl (omega (arith, length-sets xs registersAt (r .bytes))) (tt, tt, tt, tt)
-    ∙ ap₂ withBus (bus-back b) (put-part registersAt registersLength (r .bytes) xs l (omega arith) (tt, tt, tt, tt))
+    bus-put b (putRegisters r xs) (putRegisters-length r xs ∙ h)
+    ∙ ap (withBus b) (put-part registersAt registersLength (r .bytes) xs l (omega arith) (tt, tt, tt, tt))
 
 -- one that turns the device deaf: the state alone
 pub deaf-back : (xs : List ℕ) → length xs ≡ recordLength
@@ -156,16 +185,16 @@ deaf-back xs h =
     ∙ rw (getD-set-same p 0 1 0 (omega arith), getD-set-other p 0 2 1 0 (λ e. omega arith), getD-set-other p 0 3 1 0 (λ e. omega arith))
 
 -- a draw: the frame
-pub draw-back : (f : Frame) (xs : List ℕ) → length xs ≡ recordLength → deviceIn (put frameAt (frameBytes f) xs) ≡ withFrame f (deviceIn xs)
+pub draw-back : (f : Frame) (xs : List ℕ) → length xs ≡ recordLength → deviceIn (putFrame f xs) ≡ withFrame f (deviceIn xs)
 draw-back f xs h =
     put-part frameAt frameLength (frameBytes f) xs refl (omega arith) (tt, tt, tt, tt)
     ∙ ap (λ (g : Frame). withFrame g (deviceIn xs)) (frame-back f)
 
 -- a frame start: the frame and the next frame number
 pub start-back : (f : Frame) (n : ℕ) (xs : List ℕ) → length xs ≡ recordLength
-    → deviceIn (put frameAt (frameBytes f) (put nextAt (nextBytes n) xs)) ≡ withFrame f (withNext n (deviceIn xs))
+    → deviceIn (putFrame f (putNext n xs)) ≡ withFrame f (withNext n (deviceIn xs))
 start-back f n xs h =
-    draw-back f (put nextAt (nextBytes n) xs) (length-sets xs nextAt (nextBytes n) ∙ h)
+    draw-back f (putNext n xs) (putNext-length n xs ∙ h)
     ∙ ap (withFrame f) (put-part nextAt nextLength (nextBytes n) xs refl (omega arith) (tt, tt, tt, tt))
 
 -- ---- the feed's record

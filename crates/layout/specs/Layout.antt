@@ -25,7 +25,7 @@ use mathlib.Core.List.{List, [], _∷_, _++_}
 use lib.Dec.{eqb}
 use lib.ListN.{length, getD, take, drop}
 use lib.Seq.{sets}
-use Rattle.buffers.specs.Buffers.{word}
+use Rattle.buffers.specs.Buffers.{word, wordBytes}
 use Rattle.registers.specs.declared.Registers.{Registers}
 use Rattle.bus.specs.declared.BusState.{BusState}
 use Rattle.bus.specs.declared.BusState.the-variants.{Idle, Deaf, Slave, High, Low, Write, Read}
@@ -80,7 +80,8 @@ PutInPlace =
     (at : ℕ) (bytes xs : List ℕ) → at + length bytes ≤ length xs
     → put at bytes xs ≡ take at xs ++ (bytes ++ drop (at + length bytes) xs)
 
--- Below, each part has its own bytes, and is read from its own bytes: no part's definitions know where it stands.
+-- Below, each part has its own bytes, and is read from its own bytes: no part's definitions know where it stands. What calls leave is said by
+-- the parts put in their places, so no definition above this file knows it either.
 
 -- ---- the bus
 
@@ -103,7 +104,7 @@ heldHigh Write = 0
 heldHigh Read = 0
 
 abbrev pub busBytes : Bus → List ℕ
-busBytes b = stateNumber (b .state) ∷ heldHigh (b .state) ∷ b .counter % 256 ∷ b .counter / 256 ∷ []
+busBytes b = stateNumber (b .state) ∷ heldHigh (b .state) ∷ wordBytes (b .counter)
 
 abbrev pub stateOf : ℕ → ℕ → BusState
 stateOf n held =
@@ -143,8 +144,7 @@ stripIn kind lines address line =
 -- with its strip as numbers
 abbrev pub frameWith : Frame → Packed → List ℕ
 frameWith f p =
-    f .number ∷ f .left % 256 ∷ f .left / 256 ∷ f .walk .descriptor % 256 ∷ f .walk .descriptor / 256
-    ∷ p .kind ∷ p .lines ∷ p .address % 256 ∷ p .address / 256 ∷ p .line % 256 ∷ p .line / 256 ∷ []
+    f .number ∷ (wordBytes (f .left) ++ (wordBytes (f .walk .descriptor) ++ (p .kind ∷ p .lines ∷ (wordBytes (p .address) ++ wordBytes (p .line)))))
 
 abbrev pub frameBytes : Frame → List ℕ
 frameBytes f = frameWith f (packed (f .walk .strip))
@@ -156,6 +156,24 @@ frameIn bytes =
       number = getD bytes 0 0;
       walk = record { descriptor = word bytes 3; strip = stripIn (getD bytes 5 0) (getD bytes 6 0) (word bytes 7) (word bytes 9) };
     }
+
+-- ---- parts put in their places
+
+-- the record with another bus
+abbrev pub putBus : Bus → List ℕ → List ℕ
+putBus b xs = put busAt (busBytes b) xs
+
+-- with other registers
+abbrev pub putRegisters : Registers → List ℕ → List ℕ
+putRegisters r xs = put registersAt (r .bytes) xs
+
+-- with another next frame number
+abbrev pub putNext : ℕ → List ℕ → List ℕ
+putNext n xs = put nextAt (nextBytes n) xs
+
+-- with another frame
+abbrev pub putFrame : Frame → List ℕ → List ℕ
+putFrame f xs = put frameAt (frameBytes f) xs
 
 -- ---- the whole record
 

@@ -1,10 +1,11 @@
 // The device record in 32 lent bytes, as parts at offsets (include/osd.h has the table). Any bytes are some record.
 ghost use mathlib.Core.Path.{_≡_};
 ghost use mathlib.Core.Bool.{cond};
-ghost use mathlib.Core.List.{[], _∷_};
-ghost use Prim.Native.Nat.{_+_, _/_, _%_};
+ghost use mathlib.Core.List.{_∷_};
+ghost use Prim.Native.Nat.{_+_};
 ghost use lib.ListN.{length};
-ghost use Rattle.layout.specs.Layout.{busAt, busLength, registersAt, registersLength, nextAt, frameAt, frameLength, recordLength, put, stateNumber, heldHigh, stateOf, busBytes, busIn, registersIn, nextBytes, packed, stripIn, frameWith, frameBytes, frameIn, deviceBytes, deviceIn};
+ghost use Rattle.buffers.specs.Buffers.{wordBytes};
+ghost use Rattle.layout.specs.Layout.{busAt, busLength, registersLength, frameLength, recordLength, put, stateNumber, heldHigh, stateOf, busIn, registersIn, packed, stripIn, frameWith, frameIn, putBus, putRegisters, putNext, putFrame, deviceBytes, deviceIn};
 ghost use Rattle.layout.specs.FeedLayout.{feedLength, feedState, feedBytes, feedOf, feedIn};
 use bus::Bus;
 use bus::BusState;
@@ -112,7 +113,7 @@ pub fn counter_of(device: &[u8]) -> u16
 // The bus as numbers, put in its place.
 fn put_bus(device: &mut [u8], number: u8, held: u8, counter: u16)
     requires { ⌜ length (now device) ≡ recordLength ⌝ }
-    ensures { λ _. ⌜ now (device .exit) ≡ put busAt (number ∷ held ∷ counter % 256 ∷ counter / 256 ∷ []) (now (device .entry)) ⌝ }
+    ensures { λ _. ⌜ now (device .exit) ≡ put busAt (number ∷ held ∷ wordBytes counter) (now (device .entry)) ⌝ }
 {
     device[BUS_AT] = number;
     device[BUS_AT + 1] = held;
@@ -122,7 +123,7 @@ fn put_bus(device: &mut [u8], number: u8, held: u8, counter: u16)
 
 pub fn write_bus(device: &mut [u8], bus: Bus)
     requires { ⌜ length (now device) ≡ recordLength ⌝ }
-    ensures { λ _. ⌜ now (device .exit) ≡ put busAt (busBytes bus) (now (device .entry)) ⌝ }
+    ensures { λ _. ⌜ now (device .exit) ≡ putBus bus (now (device .entry)) ⌝ }
 {
     let state = bus.state;
     put_bus(device, state_number(state), held_high(state), bus.counter);
@@ -148,7 +149,7 @@ fn registers_of(device: &[u8]) -> Registers
 
 fn write_registers(device: &mut [u8], registers: Registers)
     requires { ⌜ length (now device) ≡ recordLength ⌝ }
-    ensures { λ _. ⌜ now (device .exit) ≡ put registersAt (registers .bytes) (now (device .entry)) ⌝ }
+    ensures { λ _. ⌜ now (device .exit) ≡ putRegisters registers (now (device .entry)) ⌝ }
 {
     let bytes = registers.bytes;
     buffers::put(device, REGISTERS_AT, &bytes);
@@ -250,7 +251,7 @@ fn frame_bytes(frame: Frame, strip: Packed) -> [u8; FRAME_LENGTH]
 
 pub fn write_frame(device: &mut [u8], frame: Frame)
     requires { ⌜ length (now device) ≡ recordLength ⌝ }
-    ensures { λ _. ⌜ now (device .exit) ≡ put frameAt (frameBytes frame) (now (device .entry)) ⌝ }
+    ensures { λ _. ⌜ now (device .exit) ≡ putFrame frame (now (device .entry)) ⌝ }
 {
     let walk = frame.walk;
     let strip = walk.strip;
@@ -261,7 +262,7 @@ pub fn write_frame(device: &mut [u8], frame: Frame)
 // The frame with the number that the next one takes.
 pub fn write_start(device: &mut [u8], next: u8, frame: Frame)
     requires { ⌜ length (now device) ≡ recordLength ⌝ }
-    ensures { λ _. ⌜ now (device .exit) ≡ put frameAt (frameBytes frame) (put nextAt (nextBytes next) (now (device .entry))) ⌝ }
+    ensures { λ _. ⌜ now (device .exit) ≡ putFrame frame (putNext next (now (device .entry))) ⌝ }
 {
     device[NEXT_AT] = next;
     write_frame(device, frame);

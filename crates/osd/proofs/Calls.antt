@@ -15,7 +15,7 @@ use Rattle.device.specs.declared.DrawDone.{DrawDone}
 use Rattle.device.specs.declared.StartAnswer.the-variants as start
 use Rattle.device.specs.declared.DrawAnswer.the-variants as draw
 use Rattle.device.specs.Device.{freshDevice, startOutcome, startFrame, drawOutcome, drawLine}
-use Rattle.layout.specs.Layout.{nextAt, frameAt, recordLength, put, nextBytes, frameBytes, deviceBytes, deviceIn}
+use Rattle.layout.specs.Layout.{recordLength, putNext, putFrame, deviceBytes, deviceIn}
 use Rattle.interface.specs.Interface as face
 use Rattle.interface.specs.Interface.{answerOf, freshOn, startedOn, startOn, drawnOn, drawOn}
 use Rattle.interface.proofs.Laws.{start-is, draw-is}
@@ -32,7 +32,7 @@ module _ (xs : List ℕ) (lines : ℕ) (x : Device) (d : StartDone) (h : length 
   started : startedOn xs (startOutcome d) ≡ startOn xs lines
   started = ap (startedOn xs) (e ∙ ap (λ (y : Device). startFrame y lines) u) ∙ start-is xs h lines
 
-  pub start-done : (ys : List ℕ) → d .answer ≡ start.Started → ys ≡ put frameAt (frameBytes (d .device .frame)) (put nextAt (nextBytes (d .device .next)) xs)
+  pub start-done : (ys : List ℕ) → d .answer ≡ start.Started → ys ≡ putFrame (d .device .frame) (putNext (d .device .next) xs)
       → _≡_ {A = face.Done} (record { device = ys; answer = 0 }) (startOn xs lines)
   unfolding startedOn
   start-done ys q p = by ∙ started
@@ -55,7 +55,7 @@ module _ (xs ram font line line′ : List ℕ) (x : Device) (d : DrawDone) (h : 
   drawn : drawnOn xs (drawOutcome d line′) ≡ drawOn xs ram font line
   drawn = ap (drawnOn xs) (e ∙ ap (λ (y : Device). drawLine y ram font line) u) ∙ draw-is xs h ram font line
 
-  pub draw-done : (ys : List ℕ) (n : ℕ) → d .answer ≡ draw.Drawn n → ys ≡ put frameAt (frameBytes (d .device .frame)) xs
+  pub draw-done : (ys : List ℕ) (n : ℕ) → d .answer ≡ draw.Drawn n → ys ≡ putFrame (d .device .frame) xs
       → _≡_ {A = face.DrawDone} (record { device = ys; line = line′; answer = n }) (drawOn xs ram font line)
   unfolding drawnOn
   draw-done ys n q p = by ∙ drawn

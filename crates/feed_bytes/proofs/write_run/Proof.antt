@@ -9,7 +9,7 @@ use denote.Ref.{now}
 use lib.ListN.{length, set}
 use Rattle.bus.specs.declared.BusState.the-variants.{Write}
 use Rattle.capture.specs.Places.{from}
-use Rattle.layout.specs.Layout.{busAt, put, busBytes}
+use Rattle.layout.specs.Layout.{putBus}
 use Rattle.interface.specs.Interface.{busCalls}
 use Rattle.feed_bytes.specs.Turns.{lent}
 use Rattle.feed_bytes.proofs.Runs.{at, stored-first, stored-on, in-run, kind-before, ran-none, second-fits}
@@ -25,7 +25,7 @@ Inv-loop device₀ ram₀ chunk out₀ i first address₀ j₀ device ram out ad
     × ((j - i) % 2 ≡ 0)
     × (j ≤ length chunk + 1)
     × (address < 0x4000)
-    × ((held : ℕ) → from busCalls (lent (put busAt (busBytes (at Write address)) device) ram) chunk held j out (j - first) ≡ from busCalls (lent device₀ ram₀) chunk held i out₀ (i - first))
+    × ((held : ℕ) → from busCalls (lent (putBus (at Write address) device) ram) chunk held j out (j - first) ≡ from busCalls (lent device₀ ram₀) chunk held i out₀ (i - first))
 
 abbrev μ-loop : tie.MeasureT-loop
 μ-loop device₀ ram₀ chunk out₀ i first address₀ j₀ device ram out address j = length chunk + 1 - j

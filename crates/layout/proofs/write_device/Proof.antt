@@ -6,7 +6,7 @@ use mathlib.Core.List.{List}
 use lib.ListN.{length}
 use denote.Ref.{now}
 use borrow.Author.Needs.{needs}
-use Rattle.layout.specs.Layout.{registersAt, nextAt, frameAt, put, nextBytes, frameBytes}
+use Rattle.layout.specs.Layout.{putRegisters, putNext, putFrame}
 use Rattle.layout.proofs.Laws.{whole-put}
 use Rattle.layout.proofs.write_device.Statement.{statement}
 use Rattle.layout.proofs.write_device.Tie as tie
@@ -19,8 +19,8 @@ returns c =
     let a = b .before .before .before .before .before .before in
     let sixteen : length (a .args .whole .registers .bytes) ≡ 16 = search (needs, a .good .1 .0 .1 .1 .1) in
     s .write-start .ensures
-    ∙ ap (λ (l : List ℕ). put frameAt (frameBytes (a .args .whole .frame)) (put nextAt (nextBytes (a .args .whole .next)) l))
-    (r .write-registers .ensures ∙ ap (put registersAt (a .args .whole .registers .bytes)) (b .write-bus .ensures))
+    ∙ ap (λ (l : List ℕ). putFrame (a .args .whole .frame) (putNext (a .args .whole .next) l))
+    (r .write-registers .ensures ∙ ap (putRegisters (a .args .whole .registers)) (b .write-bus .ensures))
     ∙ whole-put (a .args .whole) (now (a .args .device)) (a .pre) sixteen
 
 pub write-device-spec : {M : Type 1} → statement M
