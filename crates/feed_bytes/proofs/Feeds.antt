@@ -4,49 +4,30 @@ use Prim.Native.Nat.{ℕ, suc, _+_, _*_, _%_, _≤_, _<_}
 use mathlib.Core.Path.{_≡_, refl, sym, ap, ap₂, _∙_}
 use mathlib.Core.Bool.{Bool, cond}
 use mathlib.Core.List.{List, [], _∷_}
-use native.Mathlib.Decide.{decLt}
 use native.Mathlib.Omega.{arith}
 use borrow.Author.Tests.{le-ltb}
 use lib.Dec.{ltb}
-use lib.ListN.{length, getD, length-take, List·getD-eq-default}
+use lib.ListN.{length, getD}
 use lib.Seq.{sets}
-use Rattle.facts.proofs.Parts.{getD-part}
 use Rattle.refusals.specs.declared.Refusal.{Refusal}
 use Rattle.refusals.specs.Refusals.{Reply, refused, Verdict, passed, failed}
-use Rattle.bus.specs.declared.Event.{Event}
 use Rattle.bus.specs.Bus.{eventOf}
-use Rattle.bus.proofs.Laws.{value-byte}
+use Rattle.font_file.specs.Checked.{Bytes}
 use Rattle.device.specs.Device.{hearEvent}
 use Rattle.capture.specs.declared.Feed.{Feed}
 use Rattle.capture.specs.Capture.{badKind, outputOf, wouldComplete, takenReply}
 use Rattle.capture.specs.Places.{kindAt, Rest, rest, from}
 use Rattle.capture.proofs.Laws.{from-event, rest-whole}
-use Rattle.layout.specs.Layout.{registersAt, registersLength, recordLength, part, deviceIn}
+use Rattle.layout.specs.Layout.{recordLength, deviceIn}
 use Rattle.interface.specs.Interface.{answerOf, BusDone, heardOn, busOn, chunkMax, ChipBytes, busCalls, FeedDone, notFedOn, chunkFedOn, fedOnBy, verdictOn, feedOn}
 use Rattle.layout.specs.FeedLayout.{feedLength, feedBytes, feedIn}
+use Rattle.interface.proofs.Claims.{crossing}
 use Rattle.interface.proofs.Laws.{refusal-zero, bus-is, feed-is}
 use Rattle.feed_bytes.specs.Turns.{outputIn, Took, eventsOn, lent}
 
 -- ---- an answer's two bytes
 
-abbrev pub Bytes : List ℕ → Type 0
-Bytes xs = (i : ℕ) → getD xs i 0 < 256
-
--- a part of bytes is bytes
-part-bytes : (xs : List ℕ) (at n : ℕ) → Bytes xs → Bytes (part at n xs)
-part-bytes xs at n h i = by (decLt i n)
-  where
-    by : Dec (i < n) → getD (part at n xs) i 0 < 256
-    by (yes l) = rw (getD-part xs at n i 0 l) (h (at + i))
-    by (no l) = rw (List·getD-eq-default (part at n xs) 0 {n = i} (simp length-take (omega arith))) (omega arith)
-
--- so an event's value is a byte
-heard-byte : (xs ram : List ℕ) (e : Event) → Bytes xs → Bytes ram → hearEvent (deviceIn xs) ram e .reply .value < 256
-unfolding hearEvent
-heard-byte xs ram e h k =
-    value-byte (deviceIn xs .bus) (deviceIn xs .registers) ram e (part-bytes xs registersAt registersLength h) k
-
--- and the number of an answer holds its two bytes
+-- where the value is a byte, the number of an answer holds both
 output-is : (r : Reply) (answer : ℕ) → r .value < 256 → answer ≡ answerOf r → outputIn answer ≡ outputOf r
 output-is r answer h e =
     let byte : answer % 256 ≡ r .value = omega arith in
@@ -74,7 +55,7 @@ unfolding heardOn hearEvent
 from-heard xs ram chunk held i out n {o} {out′} {kind} l h k m p b q u j v =
     let x : ℕ = getD chunk i 0 in
     let two : outputIn (o .answer) ≡ outputOf (hearEvent (deviceIn xs) ram (eventOf kind x) .reply) =
-    output-is _ _ (heard-byte xs ram (eventOf kind x) h k) (ap (λ (r : BusDone). r .answer) (q ∙ sym (bus-is xs ram kind x l b)))
+    output-is _ _ (crossing .value-bus xs ram kind x h k) (ap (λ (r : BusDone). r .answer) (q ∙ sym (bus-is xs ram kind x l b)))
     in
     let written = u ∙ ap (sets out n) two in
     (λ z. from busCalls (lent (o .device) (o .ram)) chunk held (j z) (written z) (v z))

@@ -1,25 +1,29 @@
 -- What the bytes hold after a call is read as the record that the device's function leaves.
 -- Assumes nothing.
-use Prim.Native.Nat.{ℕ, _%_, _≤_}
+use Prim.Native.Nat.{ℕ, _+_, _%_, _≤_, _<_}
 use mathlib.Core.Path.{_≡_, refl, sym, ap, ap₂, subst, _∙_}
-use mathlib.Core.Bool.{Bool, true, false, not, cond, _&&_}
+use mathlib.Core.Bool.{Bool, true, false, not, cond, _&&_, _||_}
 use mathlib.Core.List.{List, [], _∷_, _++_}
-use native.Mathlib.Decide.{ℕ-discrete}
+use native.Mathlib.Decide.{ℕ-discrete, decLt}
 use native.Mathlib.Omega.{arith}
-use borrow.Author.Tests.{eq-eqb, le-ltb, eqb-true, eqb-false, ltb-false}
-use lib.Dec.{T, eqb, ltb}
-use lib.ListN.{length, drop, set, length-append, length-set, length-take, length-drop}
+use borrow.Author.Tests.{eq-eqb, le-ltb, eqb-true, eqb-false, ltb-false, leb-false}
+use lib.Dec.{T, eqb, leb, ltb}
+use lib.ListN.{length, getD, drop, set, length-append, length-set, length-take, length-drop, List·getD-eq-default}
 use Rattle.facts.proofs.Choice.{either}
+use Rattle.facts.proofs.Parts.{getD-part}
+use Rattle.limits.specs.Limits.{ramLength, fontLength, noFrame, lineCells}
 use Rattle.runs.specs.Runs.{end, AsMade}
 use Rattle.runs.proofs.Laws.{kept-by-each, end-read, log-read}
-use Rattle.cells.specs.Reading.{value}
-use Rattle.refusals.specs.Refusals.{numberOf, refused, Verdict, passed, failed}
+use Rattle.cells.specs.Reading.{value, among}
+use Rattle.refusals.specs.Refusals.{numberOf, Reply, refused, Verdict, passed, failed, refuseIf}
 use Rattle.refusals.specs.declared.Unheard.{Unheard}
 use Rattle.refusals.specs.declared.Unheard.the-variants as unheard
 use Rattle.refusals.specs.declared.Refusal.{Refusal}
-use Rattle.refusals.specs.declared.Refusal.the-variants.{NotAcknowledged}
+use Rattle.refusals.specs.declared.Refusal.the-variants.{NotAcknowledged, PixelRange}
 use Rattle.refusals.proofs.Laws.{not-zero, at-least-five}
-use Rattle.font_file.proofs.Outcomes.{write-silent, read-silent, write-length, read-length}
+use Rattle.font_file.specs.Checked.{Bytes}
+use Rattle.font_file.specs.FontFile.{blockCount, WriteOutcome, ReadOutcome}
+use Rattle.font_file.proofs.Outcomes.{write-cases, read-cases, write-silent, read-silent, write-length, read-length}
 use Rattle.registers.specs.declared.Registers.{Registers}
 use Rattle.registers.specs.Registers.{settingsOf}
 use Rattle.bus.specs.declared.BusState.{BusState}
@@ -31,16 +35,20 @@ use Rattle.bus.specs.Unheard.{Applies, unknown-slave, byte-deaf, fetch-deaf, de
 use Rattle.bus.specs.Bus.{eventOf, BusOutcome, busEvent}
 use Rattle.bus.proofs.Claims.{reasons}
 use Rattle.bus.proofs.Unheard.{bus}
-use Rattle.bus.proofs.Laws.{busEvent-refused, busEvent-length, busEvent-sixteen}
+use Rattle.bus.proofs.Laws.{busEvent-refused, busEvent-length, busEvent-sixteen, value-byte}
+use Rattle.raster.specs.Raster.{widthOf}
+use Rattle.line.proofs.Claims.{most-cells, line-pixels}
 use Rattle.line.proofs.Laws.{paint-length}
 use Rattle.device.specs.declared.Device.{Device}
-use Rattle.device.specs.Device.{freshDevice, EventOutcome, hearEvent, StartOutcome, inFrame, startFrame, DrawOutcome, notDrawn, nextScan, pixelsOf, lineOn, lineWidth, lineDrawn, drawLine}
+use Rattle.device.specs.Device.{freshDevice, EventOutcome, hearEvent, StartOutcome, inFrame, startFrame, DrawOutcome, notDrawn, nextScan, pixelsOf, lineOn, lineWidth, lineDrawn, drawVerdict, drawBy, drawLine, cellsLeft, askCell}
 use Rattle.device.proofs.Laws.{by-start, by-draw}
 use Rattle.capture.specs.declared.Feed.{Feed}
 use Rattle.capture.specs.declared.Feed.the-variants.{Open, Half, Shut}
 use Rattle.capture.specs.Capture.{Logged, freshFeed, badKind, finished, feedAfter, outputs, outputFrom, Chip, chip, busEvents, takenReply, FeedOutcome, chunkFed, feedBy, feedChunk}
 use Rattle.capture.proofs.Laws.{held-one, output-room, by-verdict, taken-value}
-use Rattle.pixel.specs.Ask.{askPixel}
+use Rattle.pixel.specs.Pixel.{pixelAt}
+use Rattle.pixel.specs.Ask.{pixelVerdict, pixelBy, askPixel}
+use Rattle.pixel.proofs.Lines as pixel
 use Rattle.layout.specs.Layout.{busAt, registersAt, registersLength, recordLength, part, stateNumber, registersIn, putBus, putRegisters, putNext, deviceIn}
 use Rattle.layout.specs.FeedLayout.{feedLength, feedIn}
 use Rattle.layout.proofs.Laws.{putBus-length, putRegisters-length, putNext-length, putFrame-length, withBus, withRegisters, read-back, event-back, deaf-back, draw-back, start-back, feed-back}
@@ -154,14 +162,14 @@ line-length d ram font line h =
 draw-cases : (xs ram font line : List ℕ) → length xs ≡ recordLength
     → let o : DrawOutcome = drawLine (deviceIn xs) ram font line in
     (deviceIn (drawnOn xs o .device) ≡ o .device)
-    × ((o .reply .refusal ≡ 0 → ⊥) → drawnOn xs o .device ≡ xs)
+    × ((o .reply .refusal ≡ 0 → ⊥) → (drawnOn xs o .device ≡ xs) × (o .line ≡ line))
     × (length (o .line) ≡ length line)
 unfolding drawnOn
 draw-cases xs ram font line h =
     by-draw d ram font line
     (λ (o : DrawOutcome).
     (deviceIn (drawnOn xs o .device) ≡ o .device)
-    × ((o .reply .refusal ≡ 0 → ⊥) → drawnOn xs o .device ≡ xs)
+    × ((o .reply .refusal ≡ 0 → ⊥) → (drawnOn xs o .device ≡ xs) × (o .line ≡ line))
     × (length (o .line) ≡ length line))
     (λ r. not-written r)
     (unfold lineDrawn lineOn in λ ready. (
@@ -175,9 +183,9 @@ draw-cases xs ram font line h =
 
     not-written : (r : Refusal)
         → (deviceIn (drawnOn xs (notDrawn d line r) .device) ≡ d)
-        × ((numberOf r ≡ 0 → ⊥) → drawnOn xs (notDrawn d line r) .device ≡ xs)
+        × ((numberOf r ≡ 0 → ⊥) → (drawnOn xs (notDrawn d line r) .device ≡ xs) × (line ≡ line))
         × (length line ≡ length line)
-    not-written r = rw (not-zero r) (refl, λ n. refl, refl)
+    not-written r = rw (not-zero r) (refl, λ n. (refl, refl), refl)
 
 -- ---- a refused event
 
@@ -192,28 +200,34 @@ unheard-still xs unheard.Reading a p u = refl
 unheard-still xs unheard.Writing a p u = refl
 
 silence : (xs ram : List ℕ) (kind byte : ℕ) → (kind ≡ 1 → deviceIn xs .bus .state ≡ Slave → length ram ≡ 1024 → ⊥)
-    → (hearEvent (deviceIn xs) ram (eventOf kind byte) .reply .refusal ≡ 0 → ⊥) → busOn xs ram kind byte .device ≡ xs
+    → (hearEvent (deviceIn xs) ram (eventOf kind byte) .reply .refusal ≡ 0 → ⊥) → (busOn xs ram kind byte .device ≡ xs) × (busOn xs ram kind byte .ram ≡ ram)
 unfolding busOn heardOn hearEvent
-silence xs ram kind byte u n =
-    if-taken (λ (d : BusDone). d .device ≡ xs) (isRecord xs && not (ltb 3 kind)) _ _ (λ t. by (ℕ-discrete (length ram) 1024)) refl
+silence xs ram kind byte u n = if-taken Still (isRecord xs && not (ltb 3 kind)) _ _ (λ t. by (ℕ-discrete (length ram) 1024)) (refl, refl)
   where
+    Still : BusDone → Type 0
+    Still d = (d .device ≡ xs) × (d .ram ≡ ram)
+
     e : Event
     e = eventOf kind byte
 
-    by : Dec (length ram ≡ 1024) → heardOn xs (outcome xs ram e) .device ≡ xs
+    by : Dec (length ram ≡ 1024) → Still (heardOn xs (outcome xs ram e))
     by (yes l) =
         let w = reasons .some (itsBus xs ram e) (itsRegisters xs ram e) ram e l n in
-        ap (λ (d : BusDone). d .device) (unheard-on xs ram e l (w .1)) ∙ unheard-still xs (w .0) (w .1) refl (λ c d. u (byte-kind kind byte c) d l)
-    by (no m) = rw (sym (busEvent-refused (itsBus xs ram e) (itsRegisters xs ram e) ram e m)) (ignored-same xs)
+        let o = unheard-on xs ram e l (w .1) in (
+          ap (λ (d : BusDone). d .device) o ∙ unheard-still xs (w .0) (w .1) refl (λ c d. u (byte-kind kind byte c) d l),
+          ap (λ (d : BusDone). d .ram) o,
+        )
+    by (no m) = rw (sym (busEvent-refused (itsBus xs ram e) (itsRegisters xs ram e) ram e m)) (ignored-same xs, refl)
 
 start-silence : (xs : List ℕ) (lines : ℕ) → (startFrame (deviceIn xs) lines .reply .refusal ≡ 0 → ⊥) → startOn xs lines .device ≡ xs
 unfolding startOn
 start-silence xs lines n = if-taken (λ (r : Done). r .device ≡ xs) (isRecord xs) _ _ (λ e. start-cases xs lines (eqb-true _ _ e) .1 n) refl
 
-draw-silence : (xs ram font line : List ℕ) → (drawLine (deviceIn xs) ram font line .reply .refusal ≡ 0 → ⊥) → drawOn xs ram font line .device ≡ xs
-unfolding drawOn
+draw-silence : (xs ram font line : List ℕ) → (drawLine (deviceIn xs) ram font line .reply .refusal ≡ 0 → ⊥)
+    → (drawOn xs ram font line .device ≡ xs) × (drawOn xs ram font line .line ≡ line)
+unfolding drawOn drawnOn
 draw-silence xs ram font line n =
-    if-taken (λ (r : DrawDone). r .device ≡ xs) (isRecord xs) _ _ (λ e. draw-cases xs ram font line (eqb-true _ _ e) .1 n) refl
+    if-taken (λ (r : DrawDone). (r .device ≡ xs) × (r .line ≡ line)) (isRecord xs) _ _ (λ e. draw-cases xs ram font line (eqb-true _ _ e) .1 n) (refl, refl)
 
 deafness : (xs ram : List ℕ) (byte : ℕ) → length xs ≡ recordLength → length ram ≡ 1024 → deviceIn xs .bus .state ≡ Slave → (byte ≡ 0xBA → ⊥) → (byte ≡ 0xBB → ⊥)
     → busOn xs ram 1 byte ≡ record { device = set xs busAt 1; ram = ram; answer = answerOf (refused (NotAcknowledged unheard.NotAddressed)) }
@@ -436,6 +450,56 @@ module _ (xs fs ram chunk out : List ℕ) where
         held-one (feedIn fs),
       ))
 
+-- ---- values
+
+-- a part of bytes is bytes, so an event's value is a byte
+part-bytes : (xs : List ℕ) (at n : ℕ) → Bytes xs → Bytes (part at n xs)
+part-bytes xs at n h i = by (decLt i n)
+  where
+    by : Dec (i < n) → getD (part at n xs) i 0 < 256
+    by (yes l) = rw (getD-part xs at n i 0 l) (h (at + i))
+    by (no l) = rw (List·getD-eq-default (part at n xs) 0 {n = i} (simp length-take (omega arith))) (omega arith)
+
+bus-value : (xs ram : List ℕ) (kind byte : ℕ) → Bytes xs → Bytes ram → hearEvent (deviceIn xs) ram (eventOf kind byte) .reply .value < 256
+unfolding hearEvent
+bus-value xs ram kind byte h k =
+    value-byte (deviceIn xs .bus) (deviceIn xs .registers) ram (eventOf kind byte) (part-bytes xs registersAt registersLength h) k
+
+draw-value : (d : Device) (ram font line : List ℕ) → drawLine d ram font line .reply .value ≤ lineCells
+unfolding drawLine drawVerdict drawBy lineDrawn
+draw-value d ram font line =
+    let P : Verdict → Type 0 = λ v. drawBy v d ram font line .reply .value ≤ lineCells in
+    either P (not (eqb (length ram) ramLength)) _ _ (omega arith)
+    (either P (not (eqb (length font) fontLength)) _ _ (omega arith)
+    (either P (eqb (d .frame .left) 0) _ _ (omega arith)
+    (either P (ltb (length line) (lineWidth d)) _ _ (omega arith) (most-cells (d .registers) (d .frame .walk) ram .most))))
+
+cell-value : (d : Device) (ram : List ℕ) (c : ℕ) → askCell d ram c .value ≤ 1
+unfolding askCell
+cell-value d ram c =
+    let P : Reply → Type 0 = λ r. r .value ≤ 1 in
+    either P (not (eqb (length ram) ramLength)) _ _ (omega arith)
+    (either P (leb ramLength c) _ _ (omega arith) (either (λ (n : ℕ). n ≤ 1) (among c (cellsLeft d ram)) _ _ (omega arith) (omega arith)))
+
+pixel-value : (r : Registers) (ram font : List ℕ) (lines frame x y : ℕ) → askPixel r ram font lines frame x y .value < 16
+unfolding askPixel pixelVerdict pixelBy
+pixel-value r ram font lines frame x y =
+    either P (not (eqb (length ram) ramLength)) _ _ (omega arith)
+    (either P (not (eqb (length font) fontLength)) _ _ (omega arith)
+    (either P (noFrame lines) _ _ (omega arith) (by (leb width x) refl)))
+  where
+    width : ℕ
+    width = widthOf (settingsOf r .ld)
+
+    P : Verdict → Type 0
+    P v = pixelBy v (pixelAt r ram font (frame % 64) x y) .value < 16
+
+    by : (t : Bool) → leb width x ≡ t → P (refuseIf (t || leb lines y) PixelRange passed)
+    by true e = omega arith
+    by false e =
+        either P (leb lines y) _ _ (omega arith)
+        (subst (λ (n : ℕ). n < 16) (pixel.pixel-is r ram font (frame % 64) x y (leb-false _ _ e)) (line-pixels r font (frame % 64) _ .below x))
+
 -- ---- one pixel
 
 pixel-by-registers : (xs ys ram font : List ℕ) (lines frame x y : ℕ) → length xs ≡ length ys
@@ -481,7 +545,14 @@ crossing =
       length-feed = feed-kept;
       length-font-write = write-length;
       length-font-read = read-length;
+      value-bus = bus-value;
+      value-start = λ xs lines. by-start (λ (o : StartOutcome). o .reply .value ≡ 0) (deviceIn xs) lines refl refl;
+      value-draw = λ xs. draw-value (deviceIn xs);
+      value-cell = λ xs. cell-value (deviceIn xs);
+      value-pixel = λ xs. pixel-value (deviceIn xs .registers);
       value-feed = value-most;
+      value-font-write = λ font file. write-cases (λ (o : WriteOutcome). o .reply .value ≡ 0) font file (λ f l. refl) refl;
+      value-font-read = λ file font. read-cases (λ (o : ReadOutcome). o .reply .value < blockCount) file font (λ f l g. omega arith) (λ r h. omega arith);
       silent-start = start-silence;
       silent-draw = draw-silence;
       silent-bus = silence;

@@ -7,14 +7,15 @@ use mathlib.Core.Bool.{Bool, true, not, cond, _&&_}
 use mathlib.Core.List.{List, [], _++_}
 use lib.Dec.{eqb, ltb}
 use lib.ListN.{length, set, drop}
-use Rattle.limits.specs.Limits.{ramLength}
+use Rattle.limits.specs.Limits.{ramLength, lineCells}
 use Rattle.runs.specs.Runs.{Machine, end}
 use Rattle.refusals.specs.declared.Unheard.{Unheard}
 use Rattle.refusals.specs.declared.Unheard.the-variants as unheard
 use Rattle.refusals.specs.declared.Refusal.{Refusal}
 use Rattle.refusals.specs.declared.Refusal.the-variants.{NotAcknowledged}
 use Rattle.refusals.specs.Refusals.{numberOf, Reply, refused, Verdict, passed, failed}
-use Rattle.font_file.specs.FontFile.{WriteOutcome, writeFont, ReadOutcome, readFont}
+use Rattle.font_file.specs.Checked.{Bytes}
+use Rattle.font_file.specs.FontFile.{blockCount, WriteOutcome, writeFont, ReadOutcome, readFont}
 use Rattle.bus.specs.declared.BusState.{BusState}
 use Rattle.bus.specs.declared.BusState.the-variants.{Slave}
 use Rattle.bus.specs.Bus.{eventOf, BusOutcome}
@@ -283,13 +284,25 @@ pub record Crossing : Type 0 where
       × (length (feedOn xs fs ram chunk out .ram) ≡ length ram) × (length (feedOn xs fs ram chunk out .out) ≡ length out)
   pub length-font-write : (font file : List ℕ) → length (fontWriteOn font file .file) ≡ length file
   pub length-font-read : (file font : List ℕ) → length (fontReadOn file font .font) ≡ length font
-  -- a feed's value fits 16 bits, so that OSD_REFUSAL and OSD_VALUE take its answer apart
+  -- every value fits 16 bits, so that OSD_REFUSAL and OSD_VALUE take an answer apart: the byte on the bus, where the lent bytes are bytes
+  pub value-bus : (xs ram : List ℕ) (kind byte : ℕ) → Bytes xs → Bytes ram → hearEvent (deviceIn xs) ram (eventOf kind byte) .reply .value < 256
+  pub value-start : (xs : List ℕ) (lines : ℕ) → startFrame (deviceIn xs) lines .reply .value ≡ 0
+  -- the cells that a line read
+  pub value-draw : (xs ram font line : List ℕ) → drawLine (deviceIn xs) ram font line .reply .value ≤ lineCells
+  pub value-cell : (xs ram : List ℕ) (c : ℕ) → askCell (deviceIn xs) ram c .value ≤ 1
+  pub value-pixel : (xs ram font : List ℕ) (lines frame x y : ℕ) → askPixel (deviceIn xs .registers) ram font lines frame x y .value < 16
+  -- the output bytes written
   pub value-feed : (xs fs ram chunk out : List ℕ) → length chunk ≤ chunkMax → feedChunk (chip (deviceIn xs) ram) (feedIn fs) chunk out .reply .value ≤ chunkMax
-  -- a frame start, a draw or a bus call that the device's function refuses writes no byte of the record ..
+  -- a block's place
+  pub value-font-write : (font file : List ℕ) → writeFont font file .reply .value ≡ 0
+  pub value-font-read : (file font : List ℕ) → readFont file font .reply .value < blockCount
+  -- a frame start, a draw or a bus call that the device's function refuses writes no byte of any buffer ..
   pub silent-start : (xs : List ℕ) (lines : ℕ) → (startFrame (deviceIn xs) lines .reply .refusal ≡ 0 → ⊥) → startOn xs lines .device ≡ xs
-  pub silent-draw : (xs ram font line : List ℕ) → (drawLine (deviceIn xs) ram font line .reply .refusal ≡ 0 → ⊥) → drawOn xs ram font line .device ≡ xs
+  pub silent-draw : (xs ram font line : List ℕ) → (drawLine (deviceIn xs) ram font line .reply .refusal ≡ 0 → ⊥)
+      → (drawOn xs ram font line .device ≡ xs) × (drawOn xs ram font line .line ≡ line)
   pub silent-bus : (xs ram : List ℕ) (kind byte : ℕ) → (kind ≡ 1 → deviceIn xs .bus .state ≡ Slave → length ram ≡ ramLength → ⊥)
-      → (hearEvent (deviceIn xs) ram (eventOf kind byte) .reply .refusal ≡ 0 → ⊥) → busOn xs ram kind byte .device ≡ xs
+      → (hearEvent (deviceIn xs) ram (eventOf kind byte) .reply .refusal ≡ 0 → ⊥)
+      → (busOn xs ram kind byte .device ≡ xs) × (busOn xs ram kind byte .ram ≡ ram)
   -- .. except deaf after an unknown slave address: byte 0 alone
   pub deaf : (xs ram : List ℕ) (byte : ℕ) → length xs ≡ recordLength → length ram ≡ ramLength → deviceIn xs .bus .state ≡ Slave → (byte ≡ 0xBA → ⊥) → (byte ≡ 0xBB → ⊥)
       → busOn xs ram 1 byte ≡ record { device = set xs busAt 1; ram = ram; answer = answerOf (refused (NotAcknowledged unheard.NotAddressed)) }

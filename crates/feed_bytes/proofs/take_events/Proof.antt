@@ -11,11 +11,12 @@ use denote.Ref.{now}
 use lib.ListN.{length}
 use Rattle.capture.specs.declared.Feed.{Feed}
 use Rattle.capture.specs.Capture.{badKind}
+use Rattle.font_file.specs.Checked.{Bytes}
 use Rattle.capture.specs.Places.{from}
 use Rattle.capture.proofs.Laws.{from-bad, from-end, from-first, held-one}
 use Rattle.interface.specs.Interface.{busCalls}
 use Rattle.feed_bytes.specs.Turns.{lent, Place}
-use Rattle.feed_bytes.proofs.Feeds.{Bytes, from-heard, events-taken}
+use Rattle.feed_bytes.proofs.Feeds.{from-heard, events-taken}
 use Rattle.feed_bytes.proofs.Runs.{next-place, goes-on, both-run, two-more}
 use Rattle.feed_bytes.proofs.take_events.Statement.{statement}
 use Rattle.feed_bytes.proofs.take_events.Tie as tie
