@@ -24,12 +24,12 @@ use Rattle.bus.specs.declared.Effect.the-variants.{Acknowledge, Ignore, Store, 
 use Rattle.bus.specs.Bus.{eventOf, goes, step, isRegister, registersWith, ramWith, answerTo, taken, busEvent, byteIn}
 use Rattle.bus.proofs.Unheard.{Asks, asks}
 use Rattle.device.specs.declared.Device.{Device}
-use Rattle.layout.specs.Layout.{busAt, registersAt, registersLength, recordLength, busBytes, putBus, putRegisters, deviceIn}
+use Rattle.layout.specs.Layout.{busAt, registersAt, registersLength, recordLength, stateNumber, isDeaf, busBytes, putBus, stateByte, putRegisters, deviceIn}
 use Rattle.facts.proofs.Parts.{sets-comm, sets-part, set-part}
-use Rattle.layout.proofs.Laws.{bus-put}
+use Rattle.layout.proofs.Laws.{state-byte, bus-put}
 use Rattle.interface.specs.Interface as face
 use Rattle.interface.specs.Interface.{answerOf, ignoredOn, heardOn, busOn}
-use Rattle.interface.proofs.Laws.{state-byte, ignored-same, bus-is}
+use Rattle.interface.proofs.Laws.{ignored-same, bus-is}
 use Rattle.bus_bytes.specs.Steps.{InSpace, stepOn, eventOn, storedOn}
 
 -- ---- the registers in their place
@@ -106,7 +106,7 @@ module _ (xs ram ys : List ℕ) (s : Step) (e : ys ≡ putBus (s .bus) xs) where
       let z : byte ≡ 0 + byteIn a (deviceIn xs .registers) ram = omega (arith, p) in
       rw q (λ i. record { device = stay i; ram = ram; answer = z i })
 
-pub applied-ignore : (xs ram ys : List ℕ) (s : Step) (why : Unheard) (a : ℕ) → s .effect ≡ Ignore why → ys ≡ ignoredOn (s .bus .state) xs
+pub applied-ignore : (xs ram ys : List ℕ) (s : Step) (why : Unheard) (a : ℕ) → s .effect ≡ Ignore why → ys ≡ ignoredOn (isDeaf (s .bus .state)) xs
     → a ≡ answerOf (refused (NotAcknowledged why))
     → _≡_ {A = face.BusDone} (record { device = ys; ram = ram; answer = a }) (stepOn xs ram s)
 unfolding heardOn taken registersWith ramWith answerTo
@@ -131,22 +131,22 @@ abbrev pub up : BusState → ℕ → Bus
 up s n = record { state = s; counter = (n % 0x4000 + 1) % 0x4000 }
 
 module _ (xs ram ys : List ℕ) (n : ℕ) (p : n ≡ deviceIn xs .bus .counter) where
-  pub written-next : (x : ℕ) (zs ram′ : List ℕ) → getD xs busAt 0 ≡ 5 → ys ≡ putBus (up Write n) xs → zs ≡ storedOn (n % 0x4000) x ys
+  pub written-next : (x : ℕ) (zs ram′ : List ℕ) → stateByte xs ≡ stateNumber Write → ys ≡ putBus (up Write n) xs → zs ≡ storedOn (n % 0x4000) x ys
       → ram′ ≡ ramWith (Store (n % 0x4000) x) ram → _≡_ {A = face.BusDone} (record { device = zs; ram = ram′; answer = 0 }) (eventOn xs ram (Byte x))
   unfolding step
-  written-next x zs ram′ five e q r =
+  written-next x zs ram′ writing e q r =
       applied-store xs ram ys (record { bus = up Write n; effect = Store (n % 0x4000) x }) e (n % 0x4000) x zs ram′ refl q r
       ∙ ap (λ (m : ℕ). stepOn xs ram (record { bus = up Write m; effect = Store (m % 0x4000) x })) p
       ∙ ap (stepOn xs ram) (sym by)
     where
       by : step (deviceIn xs .bus) (Byte x) ≡ record { bus = up Write (deviceIn xs .bus .counter); effect = Store (deviceIn xs .bus .counter % 0x4000) x }
-      by = rw (state-byte xs, five)
+      by = rw (state-byte xs, writing)
 
-  pub fetched-next : (byte : ℕ) → length xs ≡ recordLength → getD xs busAt 0 ≡ 6 → ys ≡ putBus (up Read n) xs
+  pub fetched-next : (byte : ℕ) → length xs ≡ recordLength → stateByte xs ≡ stateNumber Read → ys ≡ putBus (up Read n) xs
       → byte ≡ byteIn (n % 0x4000) (deviceIn ys .registers) ram
       → _≡_ {A = face.BusDone} (record { device = ys; ram = ram; answer = byte }) (eventOn xs ram Fetch)
   unfolding step
-  fetched-next byte h six e q =
+  fetched-next byte h reading e q =
       applied-load xs ram ys (record { bus = up Read n; effect = Load (n % 0x4000) }) e (n % 0x4000) byte refl
       (q ∙ ap (λ (d : Device). byteIn (n % 0x4000) (d .registers) ram)
       (ap deviceIn e ∙ bus-put (up Read n) xs h))
@@ -154,7 +154,7 @@ module _ (xs ram ys : List ℕ) (n : ℕ) (p : n ≡ deviceIn xs .bus .counter) 
       ∙ ap (stepOn xs ram) (sym by)
     where
       by : step (deviceIn xs .bus) Fetch ≡ record { bus = up Read (deviceIn xs .bus .counter); effect = Load (deviceIn xs .bus .counter % 0x4000) }
-      by = rw (state-byte xs, six)
+      by = rw (state-byte xs, reading)
 
 -- ---- bus event
 

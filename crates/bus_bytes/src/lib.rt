@@ -1,13 +1,14 @@
 // Bus events on the device record's lent bytes, in place: of the record only the bus part and at most one register are read and written.
 ghost use mathlib.Core.Path.{_≡_};
 ghost use Prim.Native.Nat.{_+_, _*_, _≤_, _<_};
-ghost use lib.ListN.{length, getD};
+ghost use lib.ListN.{length};
 ghost use Rattle.limits.specs.Limits.{ramLength};
 ghost use Rattle.refusals.specs.Refusals.{refused};
+ghost use Rattle.bus.specs.declared.BusState.the-variants.{Write, Read};
 ghost use Rattle.bus.specs.declared.Event.the-variants.{Byte, Fetch};
 ghost use Rattle.bus.specs.declared.Effect.the-variants.{Store};
 ghost use Rattle.bus.specs.Bus.{ramWith, byteIn};
-ghost use Rattle.layout.specs.Layout.{busAt, recordLength, putBus, deviceIn};
+ghost use Rattle.layout.specs.Layout.{recordLength, stateNumber, isDeaf, putBus, stateByte, deviceIn};
 ghost use Rattle.interface.specs.Interface.{answerOf, ignoredOn, busOn};
 ghost use Rattle.bus_bytes.specs.Steps.{InSpace, stepOn, eventOn, storedOn};
 use bus::Bus;
@@ -26,13 +27,6 @@ pub const HOST_BYTE: u8 = 1;
 pub const FETCH: u8 = 2;
 
 pub const STOP: u8 = 3;
-
-// Bus states by their numbers.
-const DEAF: u8 = 1;
-
-pub const WRITING: u8 = 5;
-
-pub const READING: u8 = 6;
 
 // The refusal's number in the high half, the value in the low half.
 pub fn answer(refusal: u8, value: u16) -> u32
@@ -81,10 +75,10 @@ pub fn load(device: &[u8], ram: &[u8], address: u16) -> u8
 // An event that is not acknowledged writes no byte, unless the device turns deaf.
 fn ignore(device: &mut [u8], state: BusState)
     requires { ⌜ length (now device) ≡ recordLength ⌝ }
-    ensures { λ _. ⌜ now (device .exit) ≡ ignoredOn state (now (device .entry)) ⌝ }
+    ensures { λ _. ⌜ now (device .exit) ≡ ignoredOn (isDeaf state) (now (device .entry)) ⌝ }
 {
-    if layout::state_number(state) == DEAF {
-        device[layout::BUS_AT] = DEAF;
+    if layout::state_number(state) == layout::DEAF {
+        device[layout::BUS_AT] = layout::DEAF;
     }
 }
 
@@ -120,7 +114,7 @@ fn apply(device: &mut [u8], ram: &mut [u8], step: Step) -> u32
 
 // A data byte: stored at the counter, which goes up.
 pub fn write_next(device: &mut [u8], ram: &mut [u8], x: u8) -> u32
-    requires { ⌜ (length (now device) ≡ recordLength) × (length (now ram) ≡ ramLength) × (getD (now device) busAt 0 ≡ 5) ⌝ }
+    requires { ⌜ (length (now device) ≡ recordLength) × (length (now ram) ≡ ramLength) × (stateByte (now device) ≡ stateNumber Write) ⌝ }
     ensures { λ r. ⌜ record { device = now (device .exit); ram = now (ram .exit); answer = r } ≡ eventOn (now (device .entry)) (now (ram .entry)) (Byte x) ⌝ }
 {
     let address = layout::counter_of(device) % 0x4000;
@@ -135,7 +129,7 @@ pub fn write_next(device: &mut [u8], ram: &mut [u8], x: u8) -> u32
 
 // A fetch: the byte at the counter, which goes up.
 pub fn read_next(device: &mut [u8], ram: &mut [u8]) -> u32
-    requires { ⌜ (length (now device) ≡ recordLength) × (length (now ram) ≡ ramLength) × (getD (now device) busAt 0 ≡ 6) ⌝ }
+    requires { ⌜ (length (now device) ≡ recordLength) × (length (now ram) ≡ ramLength) × (stateByte (now device) ≡ stateNumber Read) ⌝ }
     ensures { λ r. ⌜ record { device = now (device .exit); ram = now (ram .exit); answer = r } ≡ eventOn (now (device .entry)) (now (ram .entry)) Fetch ⌝ }
 {
     let address = layout::counter_of(device) % 0x4000;

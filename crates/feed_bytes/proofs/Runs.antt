@@ -17,10 +17,9 @@ use Rattle.bus.specs.Bus.{eventOf, step, ramWith, byteIn, answerTo, taken, busE
 use Rattle.device.specs.declared.Device.{Device}
 use Rattle.device.specs.Device.{hearEvent}
 use Rattle.capture.specs.Places.{kindAt, Rest, from}
-use Rattle.layout.specs.Layout.{busAt, recordLength, stateNumber, putBus, deviceIn}
-use Rattle.layout.proofs.Laws.{putBus-length, bus-put, in-front, put-over}
+use Rattle.layout.specs.Layout.{recordLength, stateNumber, putBus, stateByte, deviceIn}
+use Rattle.layout.proofs.Laws.{putBus-length, state-byte, state-put, bus-put, put-over}
 use Rattle.interface.specs.Interface.{busOn, ChipBytes, busCalls}
-use Rattle.interface.proofs.Laws.{state-byte}
 use Rattle.bus_bytes.specs.Steps.{storedOn}
 use Rattle.feed_bytes.specs.Turns.{lent, Place, Ran}
 use Rattle.bus_bytes.proofs.Events.{stored-in-place, up, written-next, fetched-next, bus-heard}
@@ -39,11 +38,11 @@ module _ (xs ys ram : List ℕ) (a x : ℕ) (h : length xs ≡ recordLength) (r 
   c = deviceIn xs .bus .counter
 
   -- a data byte
-  stored : getD xs busAt 0 ≡ 5 → busOn xs ram 1 x
+  stored : stateByte xs ≡ stateNumber Write → busOn xs ram 1 x
       ≡ record { device = putBus (at Write ((a + 1) % 0x4000)) (storedOn a x ys); ram = ramWith (Store a x) ram; answer = 0 }
-  stored five =
+  stored writing =
       sym (bus-heard xs ram 1 x h (omega arith) (Byte x) _ r refl
-      (written-next xs ram (putBus (up Write c) xs) c refl x _ _ five refl refl refl))
+      (written-next xs ram (putBus (up Write c) xs) c refl x _ _ writing refl refl refl))
       ∙ λ i. record { device = placed i; ram = ramWith (Store (n i) x) ram; answer = 0 }
     where
       placed : storedOn (c % 0x4000) x (putBus (up Write c) xs) ≡ putBus (at Write ((a + 1) % 0x4000)) (storedOn a x ys)
@@ -52,15 +51,15 @@ module _ (xs ys ram : List ℕ) (a x : ℕ) (h : length xs ≡ recordLength) (r 
           ∙ ap (storedOn a x) (over (at Write ((a + 1) % 0x4000)))
           ∙ stored-in-place a x (at Write ((a + 1) % 0x4000)) ys
 
-  stored-reply : getD xs busAt 0 ≡ 5 → hearEvent (deviceIn xs) ram (eventOf 1 x) .reply ≡ accepted 0
+  stored-reply : stateByte xs ≡ stateNumber Write → hearEvent (deviceIn xs) ram (eventOf 1 x) .reply ≡ accepted 0
   unfolding hearEvent busEvent taken step answerTo
-  stored-reply five = rw (eq-eqb _ _ r, state-byte xs, five)
+  stored-reply writing = rw (eq-eqb _ _ r, state-byte xs, writing)
 
   -- a fetch
-  fetched : getD xs busAt 0 ≡ 6 → deviceIn ys .registers ≡ deviceIn xs .registers
+  fetched : stateByte xs ≡ stateNumber Read → deviceIn ys .registers ≡ deviceIn xs .registers
       → busOn xs ram 2 x ≡ record { device = putBus (at Read ((a + 1) % 0x4000)) ys; ram = ram; answer = byteIn a (deviceIn ys .registers) ram }
-  fetched six g =
-      sym (bus-heard xs ram 2 x h (omega arith) Fetch _ r refl (fetched-next xs ram (putBus (up Read c) xs) c refl _ h six refl refl))
+  fetched reading g =
+      sym (bus-heard xs ram 2 x h (omega arith) Fetch _ r refl (fetched-next xs ram (putBus (up Read c) xs) c refl _ h reading refl refl))
       ∙ λ i. record { device = placed i; ram = ram; answer = byte i }
     where
       placed : putBus (up Read c) xs ≡ putBus (at Read ((a + 1) % 0x4000)) ys
@@ -71,12 +70,12 @@ module _ (xs ys ram : List ℕ) (a x : ℕ) (h : length xs ≡ recordLength) (r 
           ap (λ (d : Device). byteIn (c % 0x4000) (d .registers) ram) (bus-put (up Read c) xs h)
           ∙ λ i. byteIn (n i) (sym g i) ram
 
-  fetched-reply : getD xs busAt 0 ≡ 6 → deviceIn ys .registers ≡ deviceIn xs .registers
+  fetched-reply : stateByte xs ≡ stateNumber Read → deviceIn ys .registers ≡ deviceIn xs .registers
       → hearEvent (deviceIn xs) ram (eventOf 2 x) .reply ≡ accepted (byteIn a (deviceIn ys .registers) ram)
-  fetched-reply six g = said ∙ λ i. accepted (byteIn (n i) (sym g i) ram)
+  fetched-reply reading g = said ∙ λ i. accepted (byteIn (n i) (sym g i) ram)
     where
       said : hearEvent (deviceIn xs) ram (eventOf 2 x) .reply ≡ accepted (byteIn (c % 0x4000) (deviceIn xs .registers) ram)
-      said = unfold hearEvent busEvent taken step answerTo in rw (eq-eqb _ _ r, state-byte xs, six)
+      said = unfold hearEvent busEvent taken step answerTo in rw (eq-eqb _ _ r, state-byte xs, reading)
 
 -- ---- a run, with the bus part lagging behind in ys: the counter is at a
 
@@ -97,8 +96,8 @@ module _ (ys ram chunk : List ℕ) (held j : ℕ) (out : List ℕ) (n a : ℕ) (
     over : (b : Bus) → putBus b xs ≡ putBus b ys
     over b = put-over b (at s a) ys h
 
-    state : getD xs busAt 0 ≡ stateNumber s
-    state = ap (λ (l : List ℕ). getD l busAt 0) (in-front (at s a) ys h)
+    state : stateByte xs ≡ stateNumber s
+    state = state-put (at s a) ys h
 
     same : deviceIn ys .registers ≡ deviceIn xs .registers
     same = sym (ap (λ (d : Device). d .registers) (bus-put (at s a) ys h))
@@ -122,19 +121,19 @@ module _ (ys ram chunk : List ℕ) (held j : ℕ) (out : List ℕ) (n a : ℕ) (
         (fetched-reply (xs Read) ys ram a (getD chunk j 0) (long Read) r (counted Read) (over Read) (state Read) (same Read))
 
     -- the run begins: the bus part may be put first, where an event of the run follows
-    pub stored-first : deviceIn ys .bus .counter % 0x4000 ≡ a → getD ys busAt 0 ≡ 5 → kindAt chunk held j ≡ 1
+    pub stored-first : deviceIn ys .bus .counter % 0x4000 ≡ a → stateByte ys ≡ stateNumber Write → kindAt chunk held j ≡ 1
         → behind Write ≡ from busCalls (lent ys ram) chunk held j out n
-    stored-first c five k =
+    stored-first c writing k =
         let x : ℕ = getD chunk j 0 in
         stored-turn k
-        ∙ sym (turn ys ram chunk held j out n 1 l k (omega arith) (stored ys ys ram a x h r c (λ b. refl) five) (stored-reply ys ys ram a x h r c (λ b. refl) five))
+        ∙ sym (turn ys ram chunk held j out n 1 l k (omega arith) (stored ys ys ram a x h r c (λ b. refl) writing) (stored-reply ys ys ram a x h r c (λ b. refl) writing))
 
-    pub fetched-first : deviceIn ys .bus .counter % 0x4000 ≡ a → getD ys busAt 0 ≡ 6 → kindAt chunk held j ≡ 2
+    pub fetched-first : deviceIn ys .bus .counter % 0x4000 ≡ a → stateByte ys ≡ stateNumber Read → kindAt chunk held j ≡ 2
         → behind Read ≡ from busCalls (lent ys ram) chunk held j out n
-    fetched-first c six k =
+    fetched-first c reading k =
         let x : ℕ = getD chunk j 0 in
         fetched-turn k
-        ∙ sym (turn ys ram chunk held j out n 2 l k (omega arith) (fetched ys ys ram a x h r c (λ b. refl) six refl) (fetched-reply ys ys ram a x h r c (λ b. refl) six refl))
+        ∙ sym (turn ys ram chunk held j out n 2 l k (omega arith) (fetched ys ys ram a x h r c (λ b. refl) reading refl) (fetched-reply ys ys ram a x h r c (λ b. refl) reading refl))
 
     -- and goes on
     pub stored-on : {ys′ ram′ out′ : List ℕ} {j′ n′ : ℕ} → kindAt chunk held j ≡ 1

@@ -58,7 +58,7 @@ fn write_run(
     requires { ⌜ Place (now chunk) (now out) first i ⌝ }
     ensures { λ r. ⌜ Ran (now (chunk .entry)) first (lent (now (device .entry)) (now (ram .entry))) (now (out .entry)) i (lent (now (device .exit)) (now (ram .exit))) (now (out .exit)) r ⌝ }
 {
-    if device[layout::BUS_AT] != bus_bytes::WRITING {
+    if device[layout::BUS_AT] != layout::WRITING {
         return i;
     }
     if i >= chunk.len() {
@@ -97,7 +97,7 @@ fn read_run(
     requires { ⌜ Place (now chunk) (now out) first i ⌝ }
     ensures { λ r. ⌜ Ran (now (chunk .entry)) first (lent (now (device .entry)) (now (ram .entry))) (now (out .entry)) i (lent (now (device .exit)) (now (ram .exit))) (now (out .exit)) r ⌝ }
 {
-    if device[layout::BUS_AT] != bus_bytes::READING {
+    if device[layout::BUS_AT] != layout::READING {
         return i;
     }
     if i >= chunk.len() {

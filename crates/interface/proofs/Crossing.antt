@@ -8,7 +8,7 @@ use native.Mathlib.Decide.{ℕ-discrete, decLt}
 use native.Mathlib.Omega.{arith}
 use borrow.Author.Tests.{eq-eqb, le-ltb, eqb-true, eqb-false, ltb-false, leb-false}
 use lib.Dec.{T, eqb, leb, ltb}
-use lib.ListN.{length, getD, drop, set, length-append, length-set, length-take, length-drop, List·getD-eq-default}
+use lib.ListN.{length, getD, drop, length-append, length-set, length-take, length-drop, List·getD-eq-default}
 use Rattle.facts.proofs.Choice.{either}
 use Rattle.facts.proofs.Parts.{getD-part}
 use Rattle.limits.specs.Limits.{ramLength, fontLength, noFrame, lineCells}
@@ -49,10 +49,10 @@ use Rattle.capture.proofs.Laws.{held-one, output-room, by-verdict, taken-value}
 use Rattle.pixel.specs.Pixel.{pixelAt}
 use Rattle.pixel.specs.Ask.{pixelVerdict, pixelBy, askPixel}
 use Rattle.pixel.proofs.Lines as pixel
-use Rattle.layout.specs.Layout.{busAt, registersAt, registersLength, recordLength, part, stateNumber, registersIn, putBus, putRegisters, putNext, deviceIn}
+use Rattle.layout.specs.Layout.{busAt, registersAt, registersLength, recordLength, part, isDeaf, registersIn, putBus, putRegisters, putNext, deviceIn}
 use Rattle.layout.specs.FeedLayout.{feedLength, feedIn}
 use Rattle.layout.proofs.Laws.{putBus-length, putRegisters-length, putNext-length, putFrame-length, withBus, withRegisters, read-back, event-back, deaf-back, draw-back, start-back, feed-back}
-use Rattle.interface.specs.Interface.{answerOf, notTaken, isRecord, Done, freshOn, BusDone, ignoredOn, heardOn, recordAfter, busOn, startedOn, startOn, DrawDone, drawnOn, drawOn, pixelOn, isFeed, chunkMax, FeedMade, feedFreshOn, ChipBytes, busCalls, FeedDone, chunkFedOn, fedOnBy, verdictOn, rightLengths, feedOn, notFedOn, fontWriteOn, fontReadOn, Crossing}
+use Rattle.interface.specs.Interface.{answerOf, notTaken, isRecord, Done, freshOn, BusDone, ignoredOn, heardOn, busOn, startedOn, startOn, DrawDone, drawnOn, drawOn, pixelOn, isFeed, chunkMax, FeedMade, feedFreshOn, ChipBytes, busCalls, FeedDone, notFedOn, chunkFedOn, fedOnBy, verdictOn, rightLengths, feedOn, fontWriteOn, fontReadOn, Crossing}
 use Rattle.interface.proofs.Laws.{if-taken, ignored-same, fresh-not, bus-is, bus-not-record, bus-not-kind, start-not, draw-not, cell-not, pixel-not, feed-fresh-not, feed-not, cell-is, pixel-is, feed-tests, feed-is}
 
 -- ---- an event that is not acknowledged
@@ -90,17 +90,17 @@ module _ (xs : List ℕ) where
   abbrev state : BusState
   state = deviceIn xs .bus .state
 
-  ignored-is : (why : Unheard) → ignoredOn (stateAfter why state) xs ≡ recordAfter why xs
+  ignored-is : (why : Unheard) → ignoredOn (isDeaf (stateAfter why state)) xs ≡ ignoredOn (deafens why) xs
   ignored-is why = by (deafens why)
     where
-      by : (t : Bool) → ignoredOn (cond t Deaf state) xs ≡ cond t (set xs busAt 1) xs
+      by : (t : Bool) → ignoredOn (isDeaf (cond t Deaf state)) xs ≡ ignoredOn t xs
       by true = refl
       by false = ignored-same xs
 
-  unheard-back : (why : Unheard) → length xs ≡ recordLength → deviceIn (recordAfter why xs) ≡ withBus (bus (stateAfter why state) (deviceIn xs .bus .counter)) (deviceIn xs)
+  unheard-back : (why : Unheard) → length xs ≡ recordLength → deviceIn (ignoredOn (deafens why) xs) ≡ withBus (bus (stateAfter why state) (deviceIn xs .bus .counter)) (deviceIn xs)
   unheard-back why h = by (deafens why)
     where
-      by : (t : Bool) → deviceIn (cond t (set xs busAt 1) xs) ≡ withBus (bus (cond t Deaf state) (deviceIn xs .bus .counter)) (deviceIn xs)
+      by : (t : Bool) → deviceIn (ignoredOn t xs) ≡ withBus (bus (cond t Deaf state) (deviceIn xs .bus .counter)) (deviceIn xs)
       by true = deaf-back xs h
       by false = refl
 
@@ -115,7 +115,7 @@ module _ (xs ram : List ℕ) (e : Event) where
   outcome = busEvent itsBus itsRegisters ram e
 
   unheard-on : {why : Unheard} → length ram ≡ 1024 → Applies why (itsBus .state) e
-      → heardOn xs outcome ≡ record { device = recordAfter why xs; ram = ram; answer = answerOf (refused (NotAcknowledged why)) }
+      → heardOn xs outcome ≡ record { device = ignoredOn (deafens why) xs; ram = ram; answer = answerOf (refused (NotAcknowledged why)) }
   unfolding heardOn
   unheard-on {why} l a = ap (heardOn xs) (reasons .answered why itsBus itsRegisters ram e l a) ∙ rw (not-zero (NotAcknowledged why), ignored-is xs why)
 
@@ -124,7 +124,7 @@ module _ (xs ram : List ℕ) (e : Event) where
   heard-back h = by (eqb (outcome .reply .refusal) 0) refl (ℕ-discrete (length ram) 1024)
     where
       by : (t : Bool) → eqb (outcome .reply .refusal) 0 ≡ t → Dec (length ram ≡ 1024)
-          → deviceIn (cond t (putBus (outcome .bus) (putRegisters (outcome .registers) xs)) (ignoredOn (outcome .bus .state) xs)) ≡ After xs (outcome .bus) (outcome .registers)
+          → deviceIn (cond t (putBus (outcome .bus) (putRegisters (outcome .registers) xs)) (ignoredOn (isDeaf (outcome .bus .state)) xs)) ≡ After xs (outcome .bus) (outcome .registers)
       by true p l = event-back (outcome .bus) (outcome .registers) xs (heard-sixteen xs ram e h) h
       by false p (no m) = rw (sym (busEvent-refused itsBus itsRegisters ram e m)) (ap deviceIn (ignored-same xs))
       by false p (yes l) =
@@ -191,11 +191,11 @@ draw-cases xs ram font line h =
 
 -- for whatever reason but an unknown slave address no byte changes
 unheard-still : (xs : List ℕ) (why : Unheard) {s : BusState} {e : Event} → Applies why s e → deviceIn xs .bus .state ≡ s → (T (isByte e) → s ≡ Slave → ⊥)
-    → recordAfter why xs ≡ xs
+    → ignoredOn (deafens why) xs ≡ xs
 unheard-still xs unheard.Idle a p u = refl
 unheard-still xs unheard.NotAddressed (unknown-slave x m n) p u = absurd (u tt refl)
-unheard-still xs unheard.NotAddressed (byte-deaf x) p u = ap (λ (s : BusState). ignoredOn s xs) (sym p) ∙ ignored-same xs
-unheard-still xs unheard.NotAddressed fetch-deaf p u = ap (λ (s : BusState). ignoredOn s xs) (sym p) ∙ ignored-same xs
+unheard-still xs unheard.NotAddressed (byte-deaf x) p u = ap (λ (s : BusState). ignoredOn (isDeaf s) xs) (sym p) ∙ ignored-same xs
+unheard-still xs unheard.NotAddressed fetch-deaf p u = ap (λ (s : BusState). ignoredOn (isDeaf s) xs) (sym p) ∙ ignored-same xs
 unheard-still xs unheard.Reading a p u = refl
 unheard-still xs unheard.Writing a p u = refl
 
@@ -229,22 +229,16 @@ unfolding drawOn drawnOn
 draw-silence xs ram font line n =
     if-taken (λ (r : DrawDone). (r .device ≡ xs) × (r .line ≡ line)) (isRecord xs) _ _ (λ e. draw-cases xs ram font line (eqb-true _ _ e) .1 n) (refl, refl)
 
-deafness : (xs ram : List ℕ) (byte : ℕ) → length xs ≡ recordLength → length ram ≡ 1024 → deviceIn xs .bus .state ≡ Slave → (byte ≡ 0xBA → ⊥) → (byte ≡ 0xBB → ⊥)
-    → busOn xs ram 1 byte ≡ record { device = set xs busAt 1; ram = ram; answer = answerOf (refused (NotAcknowledged unheard.NotAddressed)) }
-deafness xs ram byte h k s a b =
-    sym (bus-is xs ram 1 byte h (omega arith))
-    ∙ unheard-on xs ram (Byte byte) k (subst (λ (t : BusState). Applies unheard.NotAddressed t (Byte byte)) (sym s) (unknown-slave byte a b))
-
 unheard-by : (xs ram : List ℕ) (kind byte : ℕ) (why : Unheard) → length xs ≡ recordLength → kind ≤ 3
     → hearEvent (deviceIn xs) ram (eventOf kind byte) .reply .refusal ≡ numberOf (NotAcknowledged why)
-    → busOn xs ram kind byte ≡ record { device = recordAfter why xs; ram = ram; answer = answerOf (refused (NotAcknowledged why)) }
+    → busOn xs ram kind byte ≡ record { device = ignoredOn (deafens why) xs; ram = ram; answer = answerOf (refused (NotAcknowledged why)) }
 unfolding hearEvent
 unheard-by xs ram kind byte why h k p = sym (bus-is xs ram kind byte h k) ∙ by (ℕ-discrete (length ram) 1024)
   where
     e : Event
     e = eventOf kind byte
 
-    by : Dec (length ram ≡ 1024) → heardOn xs (outcome xs ram e) ≡ record { device = recordAfter why xs; ram = ram; answer = answerOf (refused (NotAcknowledged why)) }
+    by : Dec (length ram ≡ 1024) → heardOn xs (outcome xs ram e) ≡ record { device = ignoredOn (deafens why) xs; ram = ram; answer = answerOf (refused (NotAcknowledged why)) }
     by (yes l) = unheard-on xs ram e l (reasons .only why (itsBus xs ram e) (itsRegisters xs ram e) ram e p)
     by (no m) = absurd (omega (arith, at-least-five why, ap (λ (x : BusOutcome). x .reply .refusal) (busEvent-refused (itsBus xs ram e) (itsRegisters xs ram e) ram e m), p))
 
@@ -265,7 +259,7 @@ bus-length xs ram kind byte =
     let o : BusOutcome = busEvent (deviceIn xs .bus) (deviceIn xs .registers) ram (eventOf kind byte) in
     either (λ (r : BusDone). Long xs (r .device) × Long ram (r .ram)) (isRecord xs && not (ltb 3 kind)) _ _ (
       either (Long xs) (eqb (o .reply .refusal) 0) _ _ (putBus-length (o .bus) (putRegisters (o .registers) xs) ∙ putRegisters-length (o .registers) xs)
-          (either (Long xs) (eqb (stateNumber (o .bus .state)) 1) _ _ (length-set xs busAt 1) refl),
+          (either (Long xs) (isDeaf (o .bus .state)) _ _ (length-set xs busAt _) refl),
       busEvent-length (deviceIn xs .bus) (deviceIn xs .registers) ram (eventOf kind byte),
     )
     (refl, refl)
@@ -557,7 +551,6 @@ crossing =
       silent-draw = draw-silence;
       silent-bus = silence;
       silent-feed = feed-silence;
-      deaf = deafness;
       unheard = unheard-by;
       silent-font-write = write-silent;
       silent-font-read = read-silent;

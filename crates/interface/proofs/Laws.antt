@@ -1,4 +1,4 @@
--- The cases of the interface's own tests, what an answer's number says, and the state's byte.
+-- The cases of the interface's own tests, and what an answer's number says.
 -- Assumes nothing.
 use Prim.Native.Nat.{ℕ, _≤_, _<_}
 use mathlib.Core.Path.{_≡_, refl, sym, ap, _∙_}
@@ -8,16 +8,15 @@ use native.Mathlib.Decide.{ℕ-discrete}
 use native.Mathlib.Omega.{arith}
 use borrow.Author.Tests.{eq-eqb, ne-eqb, lt-ltb, le-ltb, eqb-true, ltb-false, not-true}
 use lib.Dec.{eqb, ltb}
-use lib.ListN.{length, getD, set}
+use lib.ListN.{length, set}
 use lib.Seq.{set-getD}
-use Rattle.facts.proofs.Parts.{getD-part}
 use Rattle.refusals.specs.Refusals.{Reply}
 use Rattle.bus.specs.Bus.{eventOf, busEvent}
 use Rattle.device.specs.Device.{hearEvent, startFrame, drawLine, askCell}
 use Rattle.pixel.specs.Ask.{askPixel}
-use Rattle.layout.specs.Layout.{busAt, busLength, recordLength, part, stateNumber, deviceIn}
+use Rattle.layout.specs.Layout.{busAt, recordLength, isDeaf, stateByte, deviceIn}
 use Rattle.layout.specs.FeedLayout.{feedLength}
-use Rattle.layout.proofs.Laws.{numbered}
+use Rattle.layout.proofs.Laws.{numbered, state-byte}
 use Rattle.interface.specs.Interface as face
 use Rattle.interface.specs.Interface.{answerOf, notTaken, isRecord, freshOn, ignoredOn, heardOn, busOn, startedOn, startOn, drawnOn, drawOn, cellOn, pixelOn, isFeed, chunkMax, feedFreshOn, notFedOn, fedOnBy, verdictOn, rightLengths, feedOn}
 
@@ -85,17 +84,13 @@ feed-not xs fs ram chunk out h =
 
 -- ---- an event that is not acknowledged
 
--- the state's byte
-pub state-byte : (xs : List ℕ) → getD (part busAt busLength xs) 0 0 ≡ getD xs busAt 0
-state-byte xs = getD-part xs busAt busLength 0 0 (omega arith)
-
 -- where the state stays, no byte changes
-pub ignored-same : (xs : List ℕ) → ignoredOn (deviceIn xs .bus .state) xs ≡ xs
-ignored-same xs = by (eqb (stateNumber (deviceIn xs .bus .state)) 1) refl
+pub ignored-same : (xs : List ℕ) → ignoredOn (isDeaf (deviceIn xs .bus .state)) xs ≡ xs
+ignored-same xs = by (isDeaf (deviceIn xs .bus .state)) refl
   where
-    by : (t : Bool) → eqb (stateNumber (deviceIn xs .bus .state)) 1 ≡ t → cond t (set xs busAt 1) xs ≡ xs
+    by : (t : Bool) → isDeaf (deviceIn xs .bus .state) ≡ t → ignoredOn t xs ≡ xs
     by true p =
-        let one : getD xs busAt 0 ≡ 1 = sym (state-byte xs) ∙ numbered _ _ 1 (eqb-true _ _ p) (omega arith) in
+        let one : stateByte xs ≡ 1 = sym (state-byte xs) ∙ numbered _ _ 1 (eqb-true _ _ p) (omega arith) in
         ap (set xs busAt) (sym one) ∙ set-getD xs busAt 0
     by false p = refl
 

@@ -10,21 +10,20 @@ use lib.ListN.{length, set, drop}
 use Rattle.limits.specs.Limits.{ramLength, lineCells}
 use Rattle.runs.specs.Runs.{Machine, end}
 use Rattle.refusals.specs.declared.Unheard.{Unheard}
-use Rattle.refusals.specs.declared.Unheard.the-variants as unheard
 use Rattle.refusals.specs.declared.Refusal.{Refusal}
 use Rattle.refusals.specs.declared.Refusal.the-variants.{NotAcknowledged}
 use Rattle.refusals.specs.Refusals.{numberOf, Reply, refused, Verdict, passed, failed}
 use Rattle.font_file.specs.Checked.{Bytes}
 use Rattle.font_file.specs.FontFile.{blockCount, WriteOutcome, writeFont, ReadOutcome, readFont}
 use Rattle.bus.specs.declared.BusState.{BusState}
-use Rattle.bus.specs.declared.BusState.the-variants.{Slave}
+use Rattle.bus.specs.declared.BusState.the-variants.{Deaf, Slave}
 use Rattle.bus.specs.Bus.{eventOf, BusOutcome}
 use Rattle.bus.specs.Unheard.{deafens}
 use Rattle.device.specs.Device.{freshDevice, EventOutcome, hearEvent, StartOutcome, startFrame, DrawOutcome, drawLine, askCell}
 use Rattle.pixel.specs.Ask.{askPixel}
 use Rattle.capture.specs.declared.Feed.{Feed}
 use Rattle.capture.specs.Capture.{Logged, freshFeed, finished, feedAfter, outputFrom, chip, feedVerdict, takenReply, eventsBy, FeedOutcome, feedChunk}
-use Rattle.layout.specs.Layout.{busAt, registersAt, registersLength, recordLength, part, stateNumber, putBus, putRegisters, putNext, putFrame, deviceBytes, deviceIn}
+use Rattle.layout.specs.Layout.{registersAt, registersLength, recordLength, part, isDeaf, putBus, putState, putRegisters, putNext, putFrame, deviceBytes, deviceIn}
 use Rattle.layout.specs.FeedLayout.{feedLength, feedBytes, feedIn}
 
 -- ---- answers: refusal × 65,536 + value
@@ -61,15 +60,15 @@ pub record BusDone : Type 0 where
   pub ram : List ℕ
   pub answer : ℕ
 
--- refused: no byte is written, except deaf after an unknown slave address
-abbrev pub ignoredOn : BusState → List ℕ → List ℕ
-ignoredOn s xs = cond (eqb (stateNumber s) 1) (set xs busAt 1) xs
+-- not acknowledged: no byte is written, unless the device is deaf thereafter; then its state's byte is
+abbrev pub ignoredOn : (deaf : Bool) → List ℕ → List ℕ
+ignoredOn deaf xs = cond deaf (putState Deaf xs) xs
 
 -- an acknowledged event puts the bus part and the registers; a refused one only that the device has turned deaf
 unfoldable pub heardOn : List ℕ → BusOutcome → BusDone
 heardOn xs o =
     record {
-      device = unlessRefused (o .reply) (putBus (o .bus) (putRegisters (o .registers) xs)) (ignoredOn (o .bus .state) xs);
+      device = unlessRefused (o .reply) (putBus (o .bus) (putRegisters (o .registers) xs)) (ignoredOn (isDeaf (o .bus .state)) xs);
       ram = o .ram;
       answer = answerOf (o .reply);
     }
@@ -221,12 +220,6 @@ pub record ReadDone : Type 0 where
 unfoldable pub fontReadOn : (file font : List ℕ) → ReadDone
 fontReadOn file font = let o : ReadOutcome = readFont file font in record { font = o .font; answer = answerOf (o .reply) }
 
--- ---- the record after an event that is not acknowledged (document 02, K6)
-
--- by the reason: byte 0 is 1, deaf, after 12; else every byte stays
-abbrev pub recordAfter : Unheard → List ℕ → List ℕ
-recordAfter why xs = cond (deafens why) (set xs busAt 1) xs
-
 -- ---- the claim: each function does on the bytes exactly what the device's function does on the record that they are read as
 
 pub record Crossing : Type 0 where
@@ -303,13 +296,11 @@ pub record Crossing : Type 0 where
   pub silent-bus : (xs ram : List ℕ) (kind byte : ℕ) → (kind ≡ 1 → deviceIn xs .bus .state ≡ Slave → length ram ≡ ramLength → ⊥)
       → (hearEvent (deviceIn xs) ram (eventOf kind byte) .reply .refusal ≡ 0 → ⊥)
       → (busOn xs ram kind byte .device ≡ xs) × (busOn xs ram kind byte .ram ≡ ram)
-  -- .. except deaf after an unknown slave address: byte 0 alone
-  pub deaf : (xs ram : List ℕ) (byte : ℕ) → length xs ≡ recordLength → length ram ≡ ramLength → deviceIn xs .bus .state ≡ Slave → (byte ≡ 0xBA → ⊥) → (byte ≡ 0xBB → ⊥)
-      → busOn xs ram 1 byte ≡ record { device = set xs busAt 1; ram = ram; answer = answerOf (refused (NotAcknowledged unheard.NotAddressed)) }
-  -- by the refusal's number: 5, 13 and 14 write no byte; 12 sets byte 0 to 1, and no other (in a deaf device it is 1 already: silent-bus)
+  -- .. except deaf after an unknown slave address. By the refusal's number (document 02, K6): 5, 13 and 14 write no byte; 12 sets byte 0 to 1,
+  -- and no other (in a deaf device it is 1 already: silent-bus). To which events each is answered: crate bus's specs/Unheard.antt
   pub unheard : (xs ram : List ℕ) (kind byte : ℕ) (why : Unheard) → length xs ≡ recordLength → kind ≤ 3
       → hearEvent (deviceIn xs) ram (eventOf kind byte) .reply .refusal ≡ numberOf (NotAcknowledged why)
-      → busOn xs ram kind byte ≡ record { device = recordAfter why xs; ram = ram; answer = answerOf (refused (NotAcknowledged why)) }
+      → busOn xs ram kind byte ≡ record { device = ignoredOn (deafens why) xs; ram = ram; answer = answerOf (refused (NotAcknowledged why)) }
   -- a feed that its tests refuse, before any event, writes no byte of any buffer
   pub silent-feed : (xs fs ram chunk out : List ℕ) (r : Refusal) → length xs ≡ recordLength → length fs ≡ feedLength → length chunk ≤ chunkMax
       → verdictOn fs ram chunk out ≡ failed r → feedOn xs fs ram chunk out ≡ notFedOn xs fs ram out (answerOf (refused r))

@@ -7,7 +7,7 @@ use mathlib.Core.List.{List, _++_, append-assoc}
 use native.Mathlib.Omega.{arith}
 use borrow.Author.Tests.{eqb-true}
 use lib.Dec.{T, eqb}
-use lib.ListN.{length, take, drop, set, length-append, length-set}
+use lib.ListN.{length, getD, take, drop, set, length-append, length-set}
 use lib.Seq.{length-take-le, take-at, drop-at, drop-drop, getD-set-same, getD-set-other, sets, sets-eq, length-sets}
 use Rattle.buffers.proofs.Laws.{word-read}
 use Rattle.registers.specs.declared.Registers.{Registers}
@@ -19,14 +19,17 @@ use Rattle.walk.specs.declared.Strip.the-variants.{Spacing, Characters}
 use Rattle.device.specs.declared.Frame.{Frame}
 use Rattle.device.specs.declared.Device.{Device}
 use Rattle.capture.specs.declared.Feed.the-variants.{Open, Half, Shut}
-use Rattle.layout.specs.Layout.{busAt, busLength, registersAt, registersLength, nextAt, nextLength, frameAt, frameLength, recordLength, part, put, PutInPlace, stateNumber, heldHigh, busBytes, stateOf, busIn, registersIn, nextBytes, nextIn, packed, stripIn, frameBytes, frameIn, putBus, putRegisters, putNext, putFrame, deviceBytes, deviceIn, ReadBack}
+use Rattle.layout.specs.Layout.{busAt, busLength, registersAt, registersLength, nextAt, nextLength, frameAt, frameLength, recordLength, part, put, PutInPlace, stateNumber, heldHigh, busBytes, stateOf, busIn, registersIn, nextBytes, nextIn, packed, stripIn, frameBytes, frameIn, putBus, putState, stateByte, putRegisters, putNext, putFrame, deviceBytes, deviceIn, ReadBack}
 use Rattle.layout.specs.FeedLayout.{FeedReadBack}
-use Rattle.facts.proofs.Parts.{fit, part-put, sets-append, sets-all, set-part}
+use Rattle.facts.proofs.Parts.{fit, getD-part, part-put, sets-append, sets-all, set-part}
 
 -- ---- a part put in its place
 
 pub put-in-place : PutInPlace
 put-in-place at bytes xs h = sets-eq bytes xs at h ∙ append-assoc (take at xs) bytes (drop (at + length bytes) xs)
+
+in-front : (b : Bus) (xs : List ℕ) → length xs ≡ recordLength → putBus b xs ≡ busBytes b ++ drop busLength xs
+in-front b xs h = sets-eq (busBytes b) xs busAt (omega arith)
 
 -- the record keeps its length
 pub putBus-length : (b : Bus) (xs : List ℕ) → length (putBus b xs) ≡ length xs
@@ -80,6 +83,15 @@ numbered n held k = by (eqb n 1) (eqb n 2) (eqb n 3) (eqb n 4) (eqb n 5) (eqb n 
     by false false false false true f p q r s t u z h = eqb-true _ _ t ∙ z
     by false false false false false true p q r s t u z h = eqb-true _ _ u ∙ z
     by false false false false false false p q r s t u z h = absurd (omega arith)
+
+-- ---- the bus's state, seen by its number
+
+pub state-byte : (xs : List ℕ) → getD (part busAt busLength xs) 0 0 ≡ stateByte xs
+state-byte xs = getD-part xs busAt busLength 0 0 (omega arith)
+
+-- in a bus that was put
+pub state-put : (b : Bus) (xs : List ℕ) → length xs ≡ recordLength → stateByte (putBus b xs) ≡ stateNumber (b .state)
+state-put b xs h = ap stateByte (in-front b xs h)
 
 -- ---- the record with a part put in its place
 
@@ -158,9 +170,6 @@ bus-put b xs h =
     ∙ ap (λ (c : Bus). withBus c (deviceIn xs)) (bus-back b)
 
 -- put over another
-pub in-front : (b : Bus) (xs : List ℕ) → length xs ≡ recordLength → putBus b xs ≡ busBytes b ++ drop busLength xs
-in-front b xs h = sets-eq (busBytes b) xs busAt (omega arith)
-
 pub put-over : (b c : Bus) (xs : List ℕ) → length xs ≡ recordLength → putBus b (putBus c xs) ≡ putBus b xs
 put-over b c xs h =
     in-front b (putBus c xs) (putBus-length c xs ∙ h)
@@ -176,7 +185,7 @@ event-back b r xs l h =
 
 -- one that turns the device deaf: the state alone
 pub deaf-back : (xs : List ℕ) → length xs ≡ recordLength
-    → deviceIn (set xs busAt 1) ≡ withBus (record { state = Deaf; counter = deviceIn xs .bus .counter }) (deviceIn xs)
+    → deviceIn (putState Deaf xs) ≡ withBus (record { state = Deaf; counter = deviceIn xs .bus .counter }) (deviceIn xs)
 deaf-back xs h =
     let p : List ℕ = part busAt busLength xs in
     let four : length p ≡ busLength = length-take-le busLength xs (omega arith) in

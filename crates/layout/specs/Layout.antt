@@ -20,10 +20,10 @@
 -- Assumes nothing.
 use Prim.Native.Nat.{ℕ, _+_, _/_, _%_, _≤_}
 use mathlib.Core.Path.{_≡_}
-use mathlib.Core.Bool.{cond}
+use mathlib.Core.Bool.{Bool, cond}
 use mathlib.Core.List.{List, [], _∷_, _++_}
 use lib.Dec.{eqb}
-use lib.ListN.{length, getD, take, drop}
+use lib.ListN.{length, getD, set, take, drop}
 use lib.Seq.{sets}
 use Rattle.buffers.specs.Buffers.{word, wordBytes}
 use Rattle.registers.specs.declared.Registers.{Registers}
@@ -94,6 +94,10 @@ stateNumber (Low high) = 4
 stateNumber Write = 5
 stateNumber Read = 6
 
+-- deaf, by the number
+abbrev pub isDeaf : BusState → Bool
+isDeaf s = eqb (stateNumber s) (stateNumber Deaf)
+
 abbrev pub heldHigh : BusState → ℕ
 heldHigh Idle = 0
 heldHigh Deaf = 0
@@ -162,6 +166,13 @@ frameIn bytes =
 -- the record with another bus
 abbrev pub putBus : Bus → List ℕ → List ℕ
 putBus b xs = put busAt (busBytes b) xs
+
+-- with another number for its state, and no other byte; and the number that stands there
+abbrev pub putState : BusState → List ℕ → List ℕ
+putState s xs = set xs busAt (stateNumber s)
+
+abbrev pub stateByte : List ℕ → ℕ
+stateByte xs = getD xs busAt 0
 
 -- with other registers
 abbrev pub putRegisters : Registers → List ℕ → List ℕ

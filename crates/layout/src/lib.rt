@@ -44,6 +44,13 @@ pub struct Packed {
 
 // ---- the bus
 
+// States by their numbers, for code that looks at the byte alone.
+pub const DEAF: u8 = 1;
+
+pub const WRITING: u8 = 5;
+
+pub const READING: u8 = 6;
+
 fn state_of(number: u8, held: u8) -> BusState
     ensures { λ r. ⌜ r ≡ stateOf number held ⌝ }
 {
@@ -63,12 +70,12 @@ pub fn state_number(state: BusState) -> u8
 {
     match state {
         BusState::Idle => 0,
-        BusState::Deaf => 1,
+        BusState::Deaf => DEAF,
         BusState::Slave => 2,
         BusState::High => 3,
         BusState::Low(_) => 4,
-        BusState::Write => 5,
-        BusState::Read => 6,
+        BusState::Write => WRITING,
+        BusState::Read => READING,
     }
 }
 

@@ -61,12 +61,12 @@ pub extern "C" fn osd_bus(device: &mut [u8], ram: &mut [u8], kind: u8, byte: u8)
     }
     let state = device[layout::BUS_AT];
     if kind == bus_bytes::FETCH {
-        if state == bus_bytes::READING {
+        if state == layout::READING {
             return bus_bytes::read_next(device, ram);
         }
     }
     if kind == bus_bytes::HOST_BYTE {
-        if state == bus_bytes::WRITING {
+        if state == layout::WRITING {
             return bus_bytes::write_next(device, ram, byte);
         }
     }
