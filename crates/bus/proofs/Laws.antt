@@ -8,6 +8,7 @@ use native.Mathlib.Omega.{arith}
 use lib.Dec.{eqb}
 use borrow.Author.Tests.{eq-eqb, ne-eqb}
 use lib.ListN.{length, getD, length-set}
+use Rattle.limits.specs.Limits.{firstRegister}
 use Rattle.facts.proofs.Choice.{either}
 use Rattle.refusals.specs.declared.Refusal.the-variants.{RamLength}
 use Rattle.refusals.specs.Refusals.{refused}
@@ -57,7 +58,7 @@ answer-byte Acknowledge r ram h k = omega arith
 answer-byte (Ignore why) r ram h k = omega arith
 answer-byte (Store a x) r ram h k = omega arith
 answer-byte (Load a) r ram h k =
-    either (λ (n : ℕ). n < 256) (isRam a) _ _ (k a) (either (λ (n : ℕ). n < 256) (isRegister a) _ _ (h ((a - 0x3FF0) % 16)) (omega arith))
+    either (λ (n : ℕ). n < 256) (isRam a) _ _ (k a) (either (λ (n : ℕ). n < 256) (isRegister a) _ _ (h ((a - firstRegister) % 16)) (omega arith))
 
 pub value-byte : (b : Bus) (r : Registers) (ram : List ℕ) (e : Event) → ((i : ℕ) → getD (r .bytes) i 0 < 256) → ((i : ℕ) → getD ram i 0 < 256)
     → busEvent b r ram e .reply .value < 256

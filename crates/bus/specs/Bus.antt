@@ -5,7 +5,7 @@ use mathlib.Core.Bool.{Bool, not, cond}
 use mathlib.Core.List.{List}
 use lib.Dec.{eqb, leb, ltb}
 use lib.ListN.{length, getD, set, replicate}
-use Rattle.limits.specs.Limits.{ramLength}
+use Rattle.limits.specs.Limits.{ramLength, addressSpace, firstRegister}
 use Rattle.refusals.specs.declared.Unheard.{Unheard}
 use Rattle.refusals.specs.declared.Unheard.the-variants as unheard
 use Rattle.refusals.specs.declared.Refusal.the-variants.{RamLength, NotAcknowledged}
@@ -36,19 +36,31 @@ freshRam = replicate ramLength 0
 abbrev pub eventOf : ℕ → ℕ → Event
 eventOf kind byte = cond (eqb kind 0) Start (cond (eqb kind 1) (Byte byte) (cond (eqb kind 2) Fetch Stop))
 
+-- the last of these numbers, a stop's
+abbrev pub lastKind : ℕ
+lastKind = 3
+
+-- a number that is no event's
+abbrev pub badKind : ℕ → Bool
+badKind kind = ltb lastKind kind
+
 -- ---- the state and the counter
 
 -- the address that the counter holds, 0000 to 3FFF
 abbrev pub address : Bus → ℕ
-address b = b .counter % 0x4000
+address b = b .counter % addressSpace
+
+-- the address after another: after 3FFF comes 0000 (H)
+abbrev pub nextAddress : ℕ → ℕ
+nextAddress a = (a + 1) % addressSpace
 
 -- the bus waits for something else, and the event is answered so; the counter stays
 abbrev pub goes : Bus → BusState → Effect → Step
 goes b s e = record { bus = record { state = s; counter = b .counter }; effect = e }
 
--- the counter goes up by 1, after 3FFF to 0000 (H); the state stays
+-- the counter goes up by 1; the state stays
 abbrev pub steps : Bus → Effect → Step
-steps b e = record { bus = record { state = b .state; counter = (address b + 1) % 0x4000 }; effect = e }
+steps b e = record { bus = record { state = b .state; counter = nextAddress (address b) }; effect = e }
 
 -- only the low byte sets the address counter, to high mod 64 times 256 plus low
 abbrev pub setsCounter : ℕ → ℕ → Step
@@ -98,7 +110,7 @@ abbrev pub isRam : ℕ → Bool
 isRam a = ltb a ramLength
 
 abbrev pub isRegister : ℕ → Bool
-isRegister a = leb 0x3FF0 a
+isRegister a = leb firstRegister a
 
 -- elsewhere (H) a store is acknowledged and dropped
 unfoldable pub ramWith : Effect → List ℕ → List ℕ
@@ -110,12 +122,12 @@ ramWith (Load a) ram = ram
 unfoldable pub registersWith : Effect → Registers → Registers
 registersWith Acknowledge r = r
 registersWith (Ignore why) r = r
-registersWith (Store a x) r = cond (isRegister a) (stored r (a - 0x3FF0) x) r
+registersWith (Store a x) r = cond (isRegister a) (stored r (a - firstRegister) x) r
 registersWith (Load a) r = r
 
 -- elsewhere (H) a fetch answers 0
 abbrev pub byteIn : ℕ → Registers → List ℕ → ℕ
-byteIn a r ram = cond (isRam a) (getD ram a 0) (cond (isRegister a) (fetched r (a - 0x3FF0)) 0)
+byteIn a r ram = cond (isRam a) (getD ram a 0) (cond (isRegister a) (fetched r (a - firstRegister)) 0)
 
 -- the byte given with every acknowledged event but a fetch is 0
 unfoldable pub answerTo : Effect → Registers → List ℕ → BusAnswer

@@ -7,6 +7,15 @@ use refusals::Refusal;
 use refusals::Unheard;
 use registers::Registers;
 
+// Kinds of events by their numbers. Above the last there is none.
+pub const START: u8 = 0;
+
+pub const HOST_BYTE: u8 = 1;
+
+pub const FETCH: u8 = 2;
+
+pub const STOP: u8 = 3;
+
 pub enum Event {
     Start,
     Byte(u8),
@@ -134,7 +143,7 @@ impl Bus {
         Step {
             bus: Bus {
                 state: state,
-                counter: (self.counter % 0x4000 + 1) % 0x4000,
+                counter: (self.counter % limits::ADDRESS_SPACE + 1) % limits::ADDRESS_SPACE,
             },
             effect: effect,
         }
@@ -156,7 +165,10 @@ impl Bus {
                 },
                 effect: Effect::Acknowledge,
             },
-            BusState::Write => self.steps_on(Effect::Store(self.counter % 0x4000, x)),
+            BusState::Write => self.steps_on(Effect::Store(
+                self.counter % limits::ADDRESS_SPACE,
+                x,
+            )),
             BusState::Read => self.ignores(Unheard::Reading),
         }
     }
@@ -184,7 +196,7 @@ impl Bus {
             BusState::High => self.ignores(Unheard::Writing),
             BusState::Low(_) => self.ignores(Unheard::Writing),
             BusState::Write => self.ignores(Unheard::Writing),
-            BusState::Read => self.steps_on(Effect::Load(self.counter % 0x4000)),
+            BusState::Read => self.steps_on(Effect::Load(self.counter % limits::ADDRESS_SPACE)),
         }
     }
 }
@@ -239,12 +251,12 @@ fn store(registers: Registers, ram: &mut [u8], address: u16, x: u8) -> Registers
     ensures registers { λ r. ⌜ r ≡ registersWith (Effect.Store address x) registers ⌝ }
     ensures ram { λ _. ⌜ now (ram .exit) ≡ ramWith (Effect.Store address x) (now (ram .entry)) ⌝ }
 {
-    if address < 0x400 {
+    if address < limits::RAM_END {
         ram[address as usize] = x;
         return registers;
     }
-    if address >= 0x3FF0 {
-        return registers.store((address - 0x3FF0) as usize, x);
+    if address >= limits::FIRST_REGISTER {
+        return registers.store((address - limits::FIRST_REGISTER) as usize, x);
     }
     registers
 }
@@ -254,11 +266,11 @@ fn load(registers: Registers, ram: &[u8], address: u16) -> u8
     requires { ⌜ length (now ram) ≡ ramLength ⌝ }
     ensures { λ r. ⌜ r ≡ byteIn address registers (now (ram .entry)) ⌝ }
 {
-    if address < 0x400 {
+    if address < limits::RAM_END {
         return ram[address as usize];
     }
-    if address >= 0x3FF0 {
-        return registers.fetch((address - 0x3FF0) as usize);
+    if address >= limits::FIRST_REGISTER {
+        return registers.fetch((address - limits::FIRST_REGISTER) as usize);
     }
     0
 }

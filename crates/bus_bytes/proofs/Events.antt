@@ -8,6 +8,7 @@ use native.Mathlib.Omega.{arith}
 use borrow.Author.Tests.{eq-eqb, ne-eqb, le-leb, lt-leb}
 use lib.Bits.{bitAnd}
 use lib.ListN.{length, getD, set}
+use Rattle.limits.specs.Limits.{addressSpace, firstRegister}
 use Rattle.refusals.specs.declared.Unheard.{Unheard}
 use Rattle.refusals.specs.declared.Refusal.the-variants.{RamLength, NotAcknowledged}
 use Rattle.refusals.specs.Refusals.{refused}
@@ -21,7 +22,7 @@ use Rattle.bus.specs.declared.Event.{Event}
 use Rattle.bus.specs.declared.Event.the-variants.{Start, Byte, Fetch, Stop}
 use Rattle.bus.specs.declared.Effect.{Effect}
 use Rattle.bus.specs.declared.Effect.the-variants.{Acknowledge, Ignore, Store, Load}
-use Rattle.bus.specs.Bus.{eventOf, goes, step, isRegister, registersWith, ramWith, answerTo, taken, busEvent, byteIn}
+use Rattle.bus.specs.Bus.{eventOf, goes, step, isRegister, registersWith, ramWith, answerTo, taken, busEvent, byteIn, lastKind, nextAddress}
 use Rattle.bus.proofs.Unheard.{Asks, asks}
 use Rattle.device.specs.declared.Device.{Device}
 use Rattle.layout.specs.Layout.{busAt, registersAt, registersLength, recordLength, stateNumber, isDeaf, busBytes, putBus, stateByte, putRegisters, deviceIn}
@@ -37,7 +38,7 @@ use Rattle.bus_bytes.specs.Steps.{InSpace, stepOn, eventOn, storedOn}
 -- a store to one of them, or to none
 module _ (a x : ℕ) where
   abbrev place : ℕ
-  place = (a - 0x3FF0) % 16
+  place = (a - firstRegister) % 16
 
   abbrev setOn : List ℕ → List ℕ
   setOn xs = cond (isRegister a) (set xs (registersAt + place) (bitAnd x (getD kept place 0))) xs
@@ -48,14 +49,14 @@ module _ (a x : ℕ) where
     where
       by : (t : Bool)
           → cond t (set xs (registersAt + place) (bitAnd x (getD kept place 0))) xs
-          ≡ putRegisters (cond t (stored (deviceIn xs .registers) (a - 0x3FF0) x) (deviceIn xs .registers)) xs
+          ≡ putRegisters (cond t (stored (deviceIn xs .registers) (a - firstRegister) x) (deviceIn xs .registers)) xs
       by true = set-part registersAt registersLength place xs _ (omega arith)
       by false = sym (sets-part registersAt registersLength xs)
 
-  pub set-register : (xs : List ℕ) → 0x3FF0 ≤ a → a < 0x4000 → set xs (registersAt + (a - 0x3FF0)) (bitAnd x (getD kept (a - 0x3FF0) 0)) ≡ storedOn a x xs
-  set-register xs h k = let few : place ≡ a - 0x3FF0 = omega arith in rw (le-leb _ _ h, few) at set-is xs
+  pub set-register : (xs : List ℕ) → firstRegister ≤ a → a < addressSpace → set xs (registersAt + (a - firstRegister)) (bitAnd x (getD kept (a - firstRegister) 0)) ≡ storedOn a x xs
+  set-register xs h k = let few : place ≡ a - firstRegister = omega arith in rw (le-leb _ _ h, few) at set-is xs
 
-  pub set-none : (xs : List ℕ) → a < 0x3FF0 → xs ≡ storedOn a x xs
+  pub set-none : (xs : List ℕ) → a < firstRegister → xs ≡ storedOn a x xs
   set-none xs h = rw (lt-leb _ _ h) at set-is xs
 
   -- before the bus's bytes are put, or after
@@ -128,37 +129,37 @@ module _ (xs ram ys : List ℕ) where
 
 -- the bus with its counter gone up
 abbrev pub up : BusState → ℕ → Bus
-up s n = record { state = s; counter = (n % 0x4000 + 1) % 0x4000 }
+up s n = record { state = s; counter = nextAddress (n % addressSpace) }
 
 module _ (xs ram ys : List ℕ) (n : ℕ) (p : n ≡ deviceIn xs .bus .counter) where
-  pub written-next : (x : ℕ) (zs ram′ : List ℕ) → stateByte xs ≡ stateNumber Write → ys ≡ putBus (up Write n) xs → zs ≡ storedOn (n % 0x4000) x ys
-      → ram′ ≡ ramWith (Store (n % 0x4000) x) ram → _≡_ {A = face.BusDone} (record { device = zs; ram = ram′; answer = 0 }) (eventOn xs ram (Byte x))
+  pub written-next : (x : ℕ) (zs ram′ : List ℕ) → stateByte xs ≡ stateNumber Write → ys ≡ putBus (up Write n) xs → zs ≡ storedOn (n % addressSpace) x ys
+      → ram′ ≡ ramWith (Store (n % addressSpace) x) ram → _≡_ {A = face.BusDone} (record { device = zs; ram = ram′; answer = 0 }) (eventOn xs ram (Byte x))
   unfolding step
   written-next x zs ram′ writing e q r =
-      applied-store xs ram ys (record { bus = up Write n; effect = Store (n % 0x4000) x }) e (n % 0x4000) x zs ram′ refl q r
-      ∙ ap (λ (m : ℕ). stepOn xs ram (record { bus = up Write m; effect = Store (m % 0x4000) x })) p
+      applied-store xs ram ys (record { bus = up Write n; effect = Store (n % addressSpace) x }) e (n % addressSpace) x zs ram′ refl q r
+      ∙ ap (λ (m : ℕ). stepOn xs ram (record { bus = up Write m; effect = Store (m % addressSpace) x })) p
       ∙ ap (stepOn xs ram) (sym by)
     where
-      by : step (deviceIn xs .bus) (Byte x) ≡ record { bus = up Write (deviceIn xs .bus .counter); effect = Store (deviceIn xs .bus .counter % 0x4000) x }
+      by : step (deviceIn xs .bus) (Byte x) ≡ record { bus = up Write (deviceIn xs .bus .counter); effect = Store (deviceIn xs .bus .counter % addressSpace) x }
       by = rw (state-byte xs, writing)
 
   pub fetched-next : (byte : ℕ) → length xs ≡ recordLength → stateByte xs ≡ stateNumber Read → ys ≡ putBus (up Read n) xs
-      → byte ≡ byteIn (n % 0x4000) (deviceIn ys .registers) ram
+      → byte ≡ byteIn (n % addressSpace) (deviceIn ys .registers) ram
       → _≡_ {A = face.BusDone} (record { device = ys; ram = ram; answer = byte }) (eventOn xs ram Fetch)
   unfolding step
   fetched-next byte h reading e q =
-      applied-load xs ram ys (record { bus = up Read n; effect = Load (n % 0x4000) }) e (n % 0x4000) byte refl
-      (q ∙ ap (λ (d : Device). byteIn (n % 0x4000) (d .registers) ram)
+      applied-load xs ram ys (record { bus = up Read n; effect = Load (n % addressSpace) }) e (n % addressSpace) byte refl
+      (q ∙ ap (λ (d : Device). byteIn (n % addressSpace) (d .registers) ram)
       (ap deviceIn e ∙ bus-put (up Read n) xs h))
-      ∙ ap (λ (m : ℕ). stepOn xs ram (record { bus = up Read m; effect = Load (m % 0x4000) })) p
+      ∙ ap (λ (m : ℕ). stepOn xs ram (record { bus = up Read m; effect = Load (m % addressSpace) })) p
       ∙ ap (stepOn xs ram) (sym by)
     where
-      by : step (deviceIn xs .bus) Fetch ≡ record { bus = up Read (deviceIn xs .bus .counter); effect = Load (deviceIn xs .bus .counter % 0x4000) }
+      by : step (deviceIn xs .bus) Fetch ≡ record { bus = up Read (deviceIn xs .bus .counter); effect = Load (deviceIn xs .bus .counter % addressSpace) }
       by = rw (state-byte xs, reading)
 
 -- ---- bus event
 
-module _ (xs ram : List ℕ) (kind byte : ℕ) (h : length xs ≡ recordLength) (k : kind ≤ 3) where
+module _ (xs ram : List ℕ) (kind byte : ℕ) (h : length xs ≡ recordLength) (k : kind ≤ lastKind) where
   -- refused for the RAM's length
   pub bus-refused : (a : ℕ) → (length ram ≡ 1024 → ⊥) → a ≡ answerOf (refused RamLength)
       → _≡_ {A = face.BusDone} (record { device = xs; ram = ram; answer = a }) (busOn xs ram kind byte)

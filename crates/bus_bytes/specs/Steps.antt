@@ -3,6 +3,7 @@
 -- Assumes nothing.
 use Prim.Native.Nat.{ℕ, _<_}
 use mathlib.Core.List.{List}
+use Rattle.limits.specs.Limits.{addressSpace}
 use Rattle.bus.specs.declared.Event.{Event}
 use Rattle.bus.specs.declared.Step.{Step}
 use Rattle.bus.specs.declared.Effect.{Effect}
@@ -15,8 +16,8 @@ use Rattle.interface.specs.Interface.{BusDone, heardOn}
 abbrev pub InSpace : Effect → Type 0
 InSpace Acknowledge = Unit
 InSpace (Ignore why) = Unit
-InSpace (Store a x) = a < 0x4000
-InSpace (Load a) = a < 0x4000
+InSpace (Store a x) = a < addressSpace
+InSpace (Load a) = a < addressSpace
 
 -- a step of the bus, and an event to a record and RAM of the right lengths
 abbrev pub stepOn : List ℕ → List ℕ → Step → BusDone

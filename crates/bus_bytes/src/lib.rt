@@ -2,12 +2,12 @@
 ghost use mathlib.Core.Path.{_≡_};
 ghost use Prim.Native.Nat.{_+_, _*_, _≤_, _<_};
 ghost use lib.ListN.{length};
-ghost use Rattle.limits.specs.Limits.{ramLength};
+ghost use Rattle.limits.specs.Limits.{ramLength, addressSpace};
 ghost use Rattle.refusals.specs.Refusals.{refused};
 ghost use Rattle.bus.specs.declared.BusState.the-variants.{Write, Read};
 ghost use Rattle.bus.specs.declared.Event.the-variants.{Byte, Fetch};
 ghost use Rattle.bus.specs.declared.Effect.the-variants.{Store};
-ghost use Rattle.bus.specs.Bus.{ramWith, byteIn};
+ghost use Rattle.bus.specs.Bus.{ramWith, byteIn, lastKind};
 ghost use Rattle.layout.specs.Layout.{recordLength, stateNumber, isDeaf, putBus, stateByte, deviceIn};
 ghost use Rattle.interface.specs.Interface.{answerOf, ignoredOn, busOn};
 ghost use Rattle.bus_bytes.specs.Steps.{InSpace, stepOn, eventOn, storedOn};
@@ -18,15 +18,6 @@ use bus::Event;
 use bus::Step;
 use refusals::Refusal;
 use registers::Registers;
-
-// Kinds of events by their numbers.
-const START: u8 = 0;
-
-pub const HOST_BYTE: u8 = 1;
-
-pub const FETCH: u8 = 2;
-
-pub const STOP: u8 = 3;
 
 // The refusal's number in the high half, the value in the low half.
 pub fn answer(refusal: u8, value: u16) -> u32
@@ -43,30 +34,30 @@ pub fn refuse(refusal: Refusal) -> u32
 
 // A byte to an address: a RAM cell, a register in its place, or nothing.
 pub fn store(device: &mut [u8], ram: &mut [u8], address: u16, x: u8)
-    requires { ⌜ (length (now device) ≡ recordLength) × (length (now ram) ≡ ramLength) × (address < 0x4000) ⌝ }
+    requires { ⌜ (length (now device) ≡ recordLength) × (length (now ram) ≡ ramLength) × (address < addressSpace) ⌝ }
     ensures registers { λ _. ⌜ now (device .exit) ≡ storedOn address x (now (device .entry)) ⌝ }
     ensures cells { λ _. ⌜ now (ram .exit) ≡ ramWith (Store address x) (now (ram .entry)) ⌝ }
 {
-    if address < 0x400 {
+    if address < limits::RAM_END {
         ram[address as usize] = x;
         return;
     }
-    if address >= 0x3FF0 {
-        let i = (address - 0x3FF0) as usize;
+    if address >= limits::FIRST_REGISTER {
+        let i = (address - limits::FIRST_REGISTER) as usize;
         device[layout::REGISTERS_AT + i] = x & Registers::KEPT[i];
     }
 }
 
 // The byte at an address: a RAM cell's, a register's, or 0.
 pub fn load(device: &[u8], ram: &[u8], address: u16) -> u8
-    requires { ⌜ (length (now device) ≡ recordLength) × (length (now ram) ≡ ramLength) × (address < 0x4000) ⌝ }
+    requires { ⌜ (length (now device) ≡ recordLength) × (length (now ram) ≡ ramLength) × (address < addressSpace) ⌝ }
     ensures { λ r. ⌜ r ≡ byteIn address (deviceIn (now (device .entry)) .registers) (now (ram .entry)) ⌝ }
 {
-    if address < 0x400 {
+    if address < limits::RAM_END {
         return ram[address as usize];
     }
-    if address >= 0x3FF0 {
-        let i = (address - 0x3FF0) as usize;
+    if address >= limits::FIRST_REGISTER {
+        let i = (address - limits::FIRST_REGISTER) as usize;
         return device[layout::REGISTERS_AT + i];
     }
     0
@@ -117,10 +108,10 @@ pub fn write_next(device: &mut [u8], ram: &mut [u8], x: u8) -> u32
     requires { ⌜ (length (now device) ≡ recordLength) × (length (now ram) ≡ ramLength) × (stateByte (now device) ≡ stateNumber Write) ⌝ }
     ensures { λ r. ⌜ record { device = now (device .exit); ram = now (ram .exit); answer = r } ≡ eventOn (now (device .entry)) (now (ram .entry)) (Byte x) ⌝ }
 {
-    let address = layout::counter_of(device) % 0x4000;
+    let address = layout::counter_of(device) % limits::ADDRESS_SPACE;
     let next = Bus {
         state: BusState::Write,
-        counter: (address + 1) % 0x4000,
+        counter: (address + 1) % limits::ADDRESS_SPACE,
     };
     layout::write_bus(device, next);
     store(device, ram, address, x);
@@ -132,10 +123,10 @@ pub fn read_next(device: &mut [u8], ram: &mut [u8]) -> u32
     requires { ⌜ (length (now device) ≡ recordLength) × (length (now ram) ≡ ramLength) × (stateByte (now device) ≡ stateNumber Read) ⌝ }
     ensures { λ r. ⌜ record { device = now (device .exit); ram = now (ram .exit); answer = r } ≡ eventOn (now (device .entry)) (now (ram .entry)) Fetch ⌝ }
 {
-    let address = layout::counter_of(device) % 0x4000;
+    let address = layout::counter_of(device) % limits::ADDRESS_SPACE;
     let next = Bus {
         state: BusState::Read,
-        counter: (address + 1) % 0x4000,
+        counter: (address + 1) % limits::ADDRESS_SPACE,
     };
     layout::write_bus(device, next);
     load(device, ram, address) as u32
@@ -158,14 +149,14 @@ fn go(device: &mut [u8], state: BusState)
 
 // Any event. A start and a stop leave the counter and are written at once; the others go by the step of the bus.
 pub fn hear(device: &mut [u8], ram: &mut [u8], kind: u8, byte: u8) -> u32
-    requires { ⌜ (length (now device) ≡ recordLength) × (length (now ram) ≡ ramLength) × (kind ≤ 3) ⌝ }
+    requires { ⌜ (length (now device) ≡ recordLength) × (length (now ram) ≡ ramLength) × (kind ≤ lastKind) ⌝ }
     ensures { λ r. ⌜ record { device = now (device .exit); ram = now (ram .exit); answer = r } ≡ busOn (now (device .entry)) (now (ram .entry)) kind byte ⌝ }
 {
-    if kind == START {
+    if kind == bus::START {
         go(device, BusState::Slave);
         return 0;
     }
-    if kind == STOP {
+    if kind == bus::STOP {
         go(device, BusState::Idle);
         return 0;
     }

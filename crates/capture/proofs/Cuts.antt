@@ -10,9 +10,10 @@ use Rattle.runs.specs.Runs.{Machine, Entry, log, end, AsMade}
 use Rattle.runs.proofs.Laws.{end-append, log-append}
 use Rattle.refusals.specs.declared.Refusal.the-variants.{FeedShut}
 use Rattle.refusals.specs.Refusals.{Reply, Verdict}
+use Rattle.bus.specs.Bus.{badKind}
 use Rattle.capture.specs.declared.Feed.{Feed}
 use Rattle.capture.specs.declared.Feed.the-variants.{Open, Half, Shut}
-use Rattle.capture.specs.Capture.{Logged, badKind, finished, feedAfter, outputOf, outputs, outputFrom, busEvents, isShut, takenReply, FeedOutcome, notFed, chunkFed, feedBy, feedChunk}
+use Rattle.capture.specs.Capture.{Logged, finished, feedAfter, outputOf, outputs, outputFrom, busEvents, isShut, takenReply, FeedOutcome, notFed, chunkFed, feedBy, feedChunk}
 use Rattle.capture.specs.Cuts.{Chunk, ChunkAnswer, Feeding, feeds, writtenIn, joined, whole, Fits, SameCut, SameCuts, AnyCut}
 use Rattle.capture.proofs.Laws.{by-verdict, taken-value}
 

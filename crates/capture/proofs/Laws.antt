@@ -17,11 +17,11 @@ use Rattle.runs.specs.Runs.{Machine, log, end}
 use Rattle.facts.proofs.Choice.{either}
 use Rattle.refusals.specs.declared.Refusal.the-variants.{RamLength, FeedShut, OutputRoom}
 use Rattle.refusals.specs.Refusals.{Reply, accepted, Verdict, passed, failed, refuseIf}
-use Rattle.bus.specs.Bus.{eventOf}
+use Rattle.bus.specs.Bus.{eventOf, badKind}
 use Rattle.device.specs.Device.{EventOutcome, hearEvent}
 use Rattle.capture.specs.declared.Feed.{Feed}
 use Rattle.capture.specs.declared.Feed.the-variants.{Open, Half, Shut}
-use Rattle.capture.specs.Capture.{Logged, badKind, finished, feedAfter, outputOf, outputs, outputFrom, Chip, chip, busEvents, isShut, heldBytes, heldKind, wouldComplete, feedVerdict, takenReply, FeedOutcome, chunkFed}
+use Rattle.capture.specs.Capture.{Logged, finished, feedAfter, outputOf, outputs, outputFrom, Chip, chip, busEvents, isShut, heldBytes, heldKind, wouldComplete, feedVerdict, takenReply, FeedOutcome, chunkFed}
 use Rattle.capture.specs.Places.{kindAt, feedAt, Rest, rest, from}
 
 module _ {S : Type 0} (m : Machine S Logged Reply) where

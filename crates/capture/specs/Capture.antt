@@ -11,7 +11,7 @@ use Rattle.runs.specs.Runs.{Machine, Entry, log, end}
 use Rattle.refusals.specs.declared.Refusal.{Refusal}
 use Rattle.refusals.specs.declared.Refusal.the-variants.{RamLength, FeedShut, OutputRoom}
 use Rattle.refusals.specs.Refusals.{Reply, accepted, refused, refusedWith, Verdict, passed, failed, refuseIf}
-use Rattle.bus.specs.Bus.{eventOf}
+use Rattle.bus.specs.Bus.{eventOf, badKind}
 use Rattle.device.specs.declared.Device.{Device}
 use Rattle.device.specs.Device.{hearEvent}
 use Rattle.capture.specs.declared.Feed.{Feed}
@@ -30,9 +30,6 @@ pub record Logged : Type 0 where
 -- a feed made anew
 abbrev pub freshFeed : Feed
 freshFeed = Open
-
-abbrev pub badKind : ℕ → Bool
-badKind kind = ltb 3 kind
 
 -- the events that a chunk finishes, in turn. A held half event is not an event yet. A bad kind is noticed when its event is complete;
 -- the rest of the chunk is dropped

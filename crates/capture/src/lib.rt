@@ -36,9 +36,6 @@ pub struct FeedDone {
     pub answer: FeedAnswer,
 }
 
-// The last kind of an event.
-pub const LAST_KIND: u8 = 3;
-
 impl Feed {
     // Made anew.
     pub fn fresh() -> Feed
@@ -117,7 +114,7 @@ impl Feed {
         let mut i = first;
         while i < chunk.len() {
             let kind = kind_at(chunk, held, i);
-            if kind > LAST_KIND {
+            if kind > bus::STOP {
                 return FeedDone {
                     device: next,
                     feed: Feed::Shut,

@@ -11,11 +11,11 @@ use lib.ListN.{length, getD}
 use lib.Seq.{sets}
 use Rattle.refusals.specs.declared.Refusal.{Refusal}
 use Rattle.refusals.specs.Refusals.{Reply, refused, Verdict, passed, failed}
-use Rattle.bus.specs.Bus.{eventOf}
+use Rattle.bus.specs.Bus.{eventOf, badKind, lastKind}
 use Rattle.font_file.specs.Checked.{Bytes}
 use Rattle.device.specs.Device.{hearEvent}
 use Rattle.capture.specs.declared.Feed.{Feed}
-use Rattle.capture.specs.Capture.{badKind, outputOf, wouldComplete, takenReply}
+use Rattle.capture.specs.Capture.{outputOf, wouldComplete, takenReply}
 use Rattle.capture.specs.Places.{kindAt, Rest, rest, from}
 use Rattle.capture.proofs.Laws.{from-event, rest-whole}
 use Rattle.layout.specs.Layout.{recordLength, deviceIn}
@@ -36,19 +36,19 @@ output-is r answer h e =
 -- ---- a turn
 
 -- the byte at a place completes an event that is heard so
-pub turn : (xs ram chunk : List ℕ) (held j : ℕ) (out : List ℕ) (n kind : ℕ) → j < length chunk → kindAt chunk held j ≡ kind → kind ≤ 3 → {o : BusDone} {w : Reply}
+pub turn : (xs ram chunk : List ℕ) (held j : ℕ) (out : List ℕ) (n kind : ℕ) → j < length chunk → kindAt chunk held j ≡ kind → kind ≤ lastKind → {o : BusDone} {w : Reply}
     → busOn xs ram kind (getD chunk j 0) ≡ o → hearEvent (deviceIn xs) ram (eventOf kind (getD chunk j 0)) .reply ≡ w
     → from busCalls (lent xs ram) chunk held j out n ≡ from busCalls (lent (o .device) (o .ram)) chunk held (suc (suc j)) (sets out n (outputOf w)) (suc (suc n))
 turn xs ram chunk held j out n kind l k few p q =
     let x : ℕ = getD chunk j 0 in
     let o = ap (λ (z : ℕ). busOn xs ram z x) k ∙ p in
     let w = ap (λ (z : ℕ). hearEvent (deviceIn xs) ram (eventOf z x) .reply) k ∙ q in
-    from-event busCalls (lent xs ram) chunk held j out n l (ap badKind k ∙ le-ltb 3 kind few)
+    from-event busCalls (lent xs ram) chunk held j out n l (ap badKind k ∙ le-ltb _ _ few)
     ∙ λ i. from busCalls (lent (o i .device) (o i .ram)) chunk held (suc (suc j)) (sets out n (outputOf (w i))) (suc (suc n))
 
 -- an event that was heard: what is left from the next place on is what was left
 pub from-heard : (xs ram chunk : List ℕ) (held i : ℕ) (out : List ℕ) (n : ℕ) {o : BusDone} {out′ : List ℕ} {kind i′ n′ : ℕ}
-    → length xs ≡ recordLength → Bytes xs → Bytes ram → i < length chunk → kind ≡ kindAt chunk held i → kind ≤ 3
+    → length xs ≡ recordLength → Bytes xs → Bytes ram → i < length chunk → kind ≡ kindAt chunk held i → kind ≤ lastKind
     → o ≡ busOn xs ram kind (getD chunk i 0) → out′ ≡ sets out n (outputIn (o .answer)) → i′ ≡ suc (suc i) → n′ ≡ suc (suc n)
     → from busCalls (lent (o .device) (o .ram)) chunk held i′ out′ n′ ≡ from busCalls (lent xs ram) chunk held i out n
 unfolding heardOn hearEvent

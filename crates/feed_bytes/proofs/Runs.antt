@@ -7,13 +7,14 @@ use native.Mathlib.Omega.{arith}
 use borrow.Author.Tests.{eq-eqb, ne-eqb}
 use lib.ListN.{length, getD, set, length-set}
 use lib.Seq.{sets}
+use Rattle.limits.specs.Limits.{addressSpace}
 use Rattle.refusals.specs.Refusals.{accepted}
 use Rattle.bus.specs.declared.BusState.{BusState}
 use Rattle.bus.specs.declared.BusState.the-variants.{Write, Read}
 use Rattle.bus.specs.declared.Bus.{Bus}
 use Rattle.bus.specs.declared.Event.the-variants.{Byte, Fetch}
 use Rattle.bus.specs.declared.Effect.the-variants.{Store}
-use Rattle.bus.specs.Bus.{eventOf, step, ramWith, byteIn, answerTo, taken, busEvent}
+use Rattle.bus.specs.Bus.{eventOf, step, ramWith, byteIn, answerTo, taken, busEvent, nextAddress}
 use Rattle.device.specs.declared.Device.{Device}
 use Rattle.device.specs.Device.{hearEvent}
 use Rattle.capture.specs.Places.{kindAt, Rest, from}
@@ -32,24 +33,24 @@ at s a = record { state = s; counter = a }
 -- ---- an event of a run
 
 -- bytes xs that differ from ys in the bus part alone
-module _ (xs ys ram : List ℕ) (a x : ℕ) (h : length xs ≡ recordLength) (r : length ram ≡ 1024) (n : deviceIn xs .bus .counter % 0x4000 ≡ a)
+module _ (xs ys ram : List ℕ) (a x : ℕ) (h : length xs ≡ recordLength) (r : length ram ≡ 1024) (n : deviceIn xs .bus .counter % addressSpace ≡ a)
     (over : (b : Bus) → putBus b xs ≡ putBus b ys) where
   abbrev c : ℕ
   c = deviceIn xs .bus .counter
 
   -- a data byte
   stored : stateByte xs ≡ stateNumber Write → busOn xs ram 1 x
-      ≡ record { device = putBus (at Write ((a + 1) % 0x4000)) (storedOn a x ys); ram = ramWith (Store a x) ram; answer = 0 }
+      ≡ record { device = putBus (at Write (nextAddress a)) (storedOn a x ys); ram = ramWith (Store a x) ram; answer = 0 }
   stored writing =
       sym (bus-heard xs ram 1 x h (omega arith) (Byte x) _ r refl
       (written-next xs ram (putBus (up Write c) xs) c refl x _ _ writing refl refl refl))
       ∙ λ i. record { device = placed i; ram = ramWith (Store (n i) x) ram; answer = 0 }
     where
-      placed : storedOn (c % 0x4000) x (putBus (up Write c) xs) ≡ putBus (at Write ((a + 1) % 0x4000)) (storedOn a x ys)
+      placed : storedOn (c % addressSpace) x (putBus (up Write c) xs) ≡ putBus (at Write (nextAddress a)) (storedOn a x ys)
       placed =
-          (λ i. storedOn (n i) x (putBus (at Write ((n i + 1) % 0x4000)) xs))
-          ∙ ap (storedOn a x) (over (at Write ((a + 1) % 0x4000)))
-          ∙ stored-in-place a x (at Write ((a + 1) % 0x4000)) ys
+          (λ i. storedOn (n i) x (putBus (at Write (nextAddress (n i))) xs))
+          ∙ ap (storedOn a x) (over (at Write (nextAddress a)))
+          ∙ stored-in-place a x (at Write (nextAddress a)) ys
 
   stored-reply : stateByte xs ≡ stateNumber Write → hearEvent (deviceIn xs) ram (eventOf 1 x) .reply ≡ accepted 0
   unfolding hearEvent busEvent taken step answerTo
@@ -57,29 +58,29 @@ module _ (xs ys ram : List ℕ) (a x : ℕ) (h : length xs ≡ recordLength) (r 
 
   -- a fetch
   fetched : stateByte xs ≡ stateNumber Read → deviceIn ys .registers ≡ deviceIn xs .registers
-      → busOn xs ram 2 x ≡ record { device = putBus (at Read ((a + 1) % 0x4000)) ys; ram = ram; answer = byteIn a (deviceIn ys .registers) ram }
+      → busOn xs ram 2 x ≡ record { device = putBus (at Read (nextAddress a)) ys; ram = ram; answer = byteIn a (deviceIn ys .registers) ram }
   fetched reading g =
       sym (bus-heard xs ram 2 x h (omega arith) Fetch _ r refl (fetched-next xs ram (putBus (up Read c) xs) c refl _ h reading refl refl))
       ∙ λ i. record { device = placed i; ram = ram; answer = byte i }
     where
-      placed : putBus (up Read c) xs ≡ putBus (at Read ((a + 1) % 0x4000)) ys
-      placed = (λ i. putBus (at Read ((n i + 1) % 0x4000)) xs) ∙ over (at Read ((a + 1) % 0x4000))
+      placed : putBus (up Read c) xs ≡ putBus (at Read (nextAddress a)) ys
+      placed = (λ i. putBus (at Read (nextAddress (n i))) xs) ∙ over (at Read (nextAddress a))
 
-      byte : byteIn (c % 0x4000) (deviceIn (putBus (up Read c) xs) .registers) ram ≡ byteIn a (deviceIn ys .registers) ram
+      byte : byteIn (c % addressSpace) (deviceIn (putBus (up Read c) xs) .registers) ram ≡ byteIn a (deviceIn ys .registers) ram
       byte =
-          ap (λ (d : Device). byteIn (c % 0x4000) (d .registers) ram) (bus-put (up Read c) xs h)
+          ap (λ (d : Device). byteIn (c % addressSpace) (d .registers) ram) (bus-put (up Read c) xs h)
           ∙ λ i. byteIn (n i) (sym g i) ram
 
   fetched-reply : stateByte xs ≡ stateNumber Read → deviceIn ys .registers ≡ deviceIn xs .registers
       → hearEvent (deviceIn xs) ram (eventOf 2 x) .reply ≡ accepted (byteIn a (deviceIn ys .registers) ram)
   fetched-reply reading g = said ∙ λ i. accepted (byteIn (n i) (sym g i) ram)
     where
-      said : hearEvent (deviceIn xs) ram (eventOf 2 x) .reply ≡ accepted (byteIn (c % 0x4000) (deviceIn xs .registers) ram)
+      said : hearEvent (deviceIn xs) ram (eventOf 2 x) .reply ≡ accepted (byteIn (c % addressSpace) (deviceIn xs .registers) ram)
       said = unfold hearEvent busEvent taken step answerTo in rw (eq-eqb _ _ r, state-byte xs, reading)
 
 -- ---- a run, with the bus part lagging behind in ys: the counter is at a
 
-module _ (ys ram chunk : List ℕ) (held j : ℕ) (out : List ℕ) (n a : ℕ) (h : length ys ≡ recordLength) (r : length ram ≡ 1024) (few : a < 0x4000) where
+module _ (ys ram chunk : List ℕ) (held j : ℕ) (out : List ℕ) (n a : ℕ) (h : length ys ≡ recordLength) (r : length ram ≡ 1024) (few : a < addressSpace) where
   abbrev pub behind : BusState → Rest ChipBytes
   behind s = from busCalls (lent (putBus (at s a) ys) ram) chunk held j out n
 
@@ -90,8 +91,8 @@ module _ (ys ram chunk : List ℕ) (held j : ℕ) (out : List ℕ) (n a : ℕ) (
     long : length xs ≡ recordLength
     long = putBus-length (at s a) ys ∙ h
 
-    counted : deviceIn xs .bus .counter % 0x4000 ≡ a
-    counted = ap (λ (d : Device). d .bus .counter % 0x4000) (bus-put (at s a) ys h) ∙ omega arith
+    counted : deviceIn xs .bus .counter % addressSpace ≡ a
+    counted = ap (λ (d : Device). d .bus .counter % addressSpace) (bus-put (at s a) ys h) ∙ omega arith
 
     over : (b : Bus) → putBus b xs ≡ putBus b ys
     over b = put-over b (at s a) ys h
@@ -105,7 +106,7 @@ module _ (ys ram chunk : List ℕ) (held j : ℕ) (out : List ℕ) (n a : ℕ) (
   -- an event of the run, wherever the bus part stands
   module _ (l : j < length chunk) where
     stored-turn : kindAt chunk held j ≡ 1 → behind Write
-        ≡ from busCalls (lent (putBus (at Write ((a + 1) % 0x4000)) (storedOn a (getD chunk j 0) ys)) (ramWith (Store a (getD chunk j 0)) ram))
+        ≡ from busCalls (lent (putBus (at Write (nextAddress a)) (storedOn a (getD chunk j 0) ys)) (ramWith (Store a (getD chunk j 0)) ram))
         chunk held (suc (suc j)) (sets out n (1 ∷ 0 ∷ [])) (suc (suc n))
     stored-turn k =
         turn (xs Write) ram chunk held j out n 1 l k (omega arith)
@@ -113,7 +114,7 @@ module _ (ys ram chunk : List ℕ) (held j : ℕ) (out : List ℕ) (n a : ℕ) (
         (stored-reply (xs Write) ys ram a (getD chunk j 0) (long Write) r (counted Write) (over Write) (state Write))
 
     fetched-turn : kindAt chunk held j ≡ 2 → behind Read
-        ≡ from busCalls (lent (putBus (at Read ((a + 1) % 0x4000)) ys) ram)
+        ≡ from busCalls (lent (putBus (at Read (nextAddress a)) ys) ram)
         chunk held (suc (suc j)) (sets out n (1 ∷ byteIn a (deviceIn ys .registers) ram ∷ [])) (suc (suc n))
     fetched-turn k =
         turn (xs Read) ram chunk held j out n 2 l k (omega arith)
@@ -121,14 +122,14 @@ module _ (ys ram chunk : List ℕ) (held j : ℕ) (out : List ℕ) (n a : ℕ) (
         (fetched-reply (xs Read) ys ram a (getD chunk j 0) (long Read) r (counted Read) (over Read) (state Read) (same Read))
 
     -- the run begins: the bus part may be put first, where an event of the run follows
-    pub stored-first : deviceIn ys .bus .counter % 0x4000 ≡ a → stateByte ys ≡ stateNumber Write → kindAt chunk held j ≡ 1
+    pub stored-first : deviceIn ys .bus .counter % addressSpace ≡ a → stateByte ys ≡ stateNumber Write → kindAt chunk held j ≡ 1
         → behind Write ≡ from busCalls (lent ys ram) chunk held j out n
     stored-first c writing k =
         let x : ℕ = getD chunk j 0 in
         stored-turn k
         ∙ sym (turn ys ram chunk held j out n 1 l k (omega arith) (stored ys ys ram a x h r c (λ b. refl) writing) (stored-reply ys ys ram a x h r c (λ b. refl) writing))
 
-    pub fetched-first : deviceIn ys .bus .counter % 0x4000 ≡ a → stateByte ys ≡ stateNumber Read → kindAt chunk held j ≡ 2
+    pub fetched-first : deviceIn ys .bus .counter % addressSpace ≡ a → stateByte ys ≡ stateNumber Read → kindAt chunk held j ≡ 2
         → behind Read ≡ from busCalls (lent ys ram) chunk held j out n
     fetched-first c reading k =
         let x : ℕ = getD chunk j 0 in
@@ -138,15 +139,15 @@ module _ (ys ram chunk : List ℕ) (held j : ℕ) (out : List ℕ) (n a : ℕ) (
     -- and goes on
     pub stored-on : {ys′ ram′ out′ : List ℕ} {j′ n′ : ℕ} → kindAt chunk held j ≡ 1
         → ys′ ≡ storedOn a (getD chunk j 0) ys → ram′ ≡ ramWith (Store a (getD chunk j 0)) ram → out′ ≡ sets out n (1 ∷ 0 ∷ []) → j′ ≡ suc (suc j) → n′ ≡ suc (suc n)
-        → from busCalls (lent (putBus (at Write ((a + 1) % 0x4000)) ys′) ram′) chunk held j′ out′ n′ ≡ behind Write
+        → from busCalls (lent (putBus (at Write (nextAddress a)) ys′) ram′) chunk held j′ out′ n′ ≡ behind Write
     stored-on k p q u v w =
-        (λ i. from busCalls (lent (putBus (at Write ((a + 1) % 0x4000)) (p i)) (q i)) chunk held (v i) (u i) (w i)) ∙ sym (stored-turn k)
+        (λ i. from busCalls (lent (putBus (at Write (nextAddress a)) (p i)) (q i)) chunk held (v i) (u i) (w i)) ∙ sym (stored-turn k)
 
     pub fetched-on : {out′ : List ℕ} {j′ n′ : ℕ} → kindAt chunk held j ≡ 2
         → out′ ≡ sets out n (1 ∷ byteIn a (deviceIn ys .registers) ram ∷ []) → j′ ≡ suc (suc j) → n′ ≡ suc (suc n)
-        → from busCalls (lent (putBus (at Read ((a + 1) % 0x4000)) ys) ram) chunk held j′ out′ n′ ≡ behind Read
+        → from busCalls (lent (putBus (at Read (nextAddress a)) ys) ram) chunk held j′ out′ n′ ≡ behind Read
     fetched-on k u v w =
-        (λ i. from busCalls (lent (putBus (at Read ((a + 1) % 0x4000)) ys) ram) chunk held (v i) (u i) (w i)) ∙ sym (fetched-turn k)
+        (λ i. from busCalls (lent (putBus (at Read (nextAddress a)) ys) ram) chunk held (v i) (u i) (w i)) ∙ sym (fetched-turn k)
 
 -- ---- the places of a run
 

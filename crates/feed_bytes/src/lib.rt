@@ -64,20 +64,20 @@ fn write_run(
     if i >= chunk.len() {
         return i;
     }
-    if chunk[i - 1] != bus_bytes::HOST_BYTE {
+    if chunk[i - 1] != bus::HOST_BYTE {
         return i;
     }
-    let mut address = layout::counter_of(device) % 0x4000;
+    let mut address = layout::counter_of(device) % limits::ADDRESS_SPACE;
     let mut j = i;
     while j - 1 < chunk.len() - 1 {
-        if chunk[j - 1] != bus_bytes::HOST_BYTE {
+        if chunk[j - 1] != bus::HOST_BYTE {
             end_run(device, BusState::Write, address);
             return j;
         }
         bus_bytes::store(device, ram, address, chunk[j]);
         out[j - first] = 1;
         out[j - first + 1] = 0;
-        address = (address + 1) % 0x4000;
+        address = (address + 1) % limits::ADDRESS_SPACE;
         j += 2;
     }
     end_run(device, BusState::Write, address);
@@ -103,20 +103,20 @@ fn read_run(
     if i >= chunk.len() {
         return i;
     }
-    if chunk[i - 1] != bus_bytes::FETCH {
+    if chunk[i - 1] != bus::FETCH {
         return i;
     }
-    let mut address = layout::counter_of(device) % 0x4000;
+    let mut address = layout::counter_of(device) % limits::ADDRESS_SPACE;
     let mut j = i;
     while j - 1 < chunk.len() - 1 {
-        if chunk[j - 1] != bus_bytes::FETCH {
+        if chunk[j - 1] != bus::FETCH {
             end_run(device, BusState::Read, address);
             return j;
         }
         let byte = bus_bytes::load(device, ram, address);
         out[j - first] = 1;
         out[j - first + 1] = byte;
-        address = (address + 1) % 0x4000;
+        address = (address + 1) % limits::ADDRESS_SPACE;
         j += 2;
     }
     end_run(device, BusState::Read, address);
@@ -141,7 +141,7 @@ pub fn take_events(
     let mut i = first;
     while i < chunk.len() {
         let kind = capture::kind_at(chunk, held, i);
-        if kind > capture::LAST_KIND {
+        if kind > bus::STOP {
             return Taken {
                 feed: Feed::Shut,
                 written: (i - first) as u16,

@@ -32,7 +32,7 @@ use Rattle.bus.specs.declared.Bus.{Bus}
 use Rattle.bus.specs.declared.Event.{Event}
 use Rattle.bus.specs.declared.Event.the-variants.{Start, Byte, Fetch, Stop}
 use Rattle.bus.specs.Unheard.{Applies, unknown-slave, byte-deaf, fetch-deaf, deafens, stateAfter}
-use Rattle.bus.specs.Bus.{eventOf, BusOutcome, busEvent}
+use Rattle.bus.specs.Bus.{eventOf, BusOutcome, busEvent, badKind, lastKind}
 use Rattle.bus.proofs.Claims.{reasons}
 use Rattle.bus.proofs.Unheard.{bus}
 use Rattle.bus.proofs.Laws.{busEvent-refused, busEvent-length, busEvent-sixteen, value-byte}
@@ -44,7 +44,7 @@ use Rattle.device.specs.Device.{freshDevice, EventOutcome, hearEvent, StartOutc
 use Rattle.device.proofs.Laws.{by-start, by-draw}
 use Rattle.capture.specs.declared.Feed.{Feed}
 use Rattle.capture.specs.declared.Feed.the-variants.{Open, Half, Shut}
-use Rattle.capture.specs.Capture.{Logged, freshFeed, badKind, finished, feedAfter, outputs, outputFrom, Chip, chip, busEvents, takenReply, FeedOutcome, chunkFed, feedBy, feedChunk}
+use Rattle.capture.specs.Capture.{Logged, freshFeed, finished, feedAfter, outputs, outputFrom, Chip, chip, busEvents, takenReply, FeedOutcome, chunkFed, feedBy, feedChunk}
 use Rattle.capture.proofs.Laws.{held-one, output-room, by-verdict, taken-value}
 use Rattle.pixel.specs.Pixel.{pixelAt}
 use Rattle.pixel.specs.Ask.{pixelVerdict, pixelBy, askPixel}
@@ -131,7 +131,7 @@ module _ (xs ram : List ℕ) (e : Event) where
           let w = reasons .some itsBus itsRegisters ram e l (eqb-false _ _ p) in
           rw (reasons .answered (w .0) itsBus itsRegisters ram e l (w .1)) (ap deviceIn (ignored-is xs (w .0)) ∙ unheard-back xs (w .0) h)
 
-cross-bus : (xs ram : List ℕ) (kind byte : ℕ) → length xs ≡ recordLength → kind ≤ 3
+cross-bus : (xs ram : List ℕ) (kind byte : ℕ) → length xs ≡ recordLength → kind ≤ lastKind
     → deviceIn (busOn xs ram kind byte .device) ≡ hearEvent (deviceIn xs) ram (eventOf kind byte) .device
 unfolding hearEvent
 cross-bus xs ram kind byte h k = ap (λ (r : BusDone). deviceIn (r .device)) (sym (bus-is xs ram kind byte h k)) ∙ heard-back xs ram (eventOf kind byte) h
@@ -202,7 +202,7 @@ unheard-still xs unheard.Writing a p u = refl
 silence : (xs ram : List ℕ) (kind byte : ℕ) → (kind ≡ 1 → deviceIn xs .bus .state ≡ Slave → length ram ≡ 1024 → ⊥)
     → (hearEvent (deviceIn xs) ram (eventOf kind byte) .reply .refusal ≡ 0 → ⊥) → (busOn xs ram kind byte .device ≡ xs) × (busOn xs ram kind byte .ram ≡ ram)
 unfolding busOn heardOn hearEvent
-silence xs ram kind byte u n = if-taken Still (isRecord xs && not (ltb 3 kind)) _ _ (λ t. by (ℕ-discrete (length ram) 1024)) (refl, refl)
+silence xs ram kind byte u n = if-taken Still (isRecord xs && not (badKind kind)) _ _ (λ t. by (ℕ-discrete (length ram) 1024)) (refl, refl)
   where
     Still : BusDone → Type 0
     Still d = (d .device ≡ xs) × (d .ram ≡ ram)
@@ -229,7 +229,7 @@ unfolding drawOn drawnOn
 draw-silence xs ram font line n =
     if-taken (λ (r : DrawDone). (r .device ≡ xs) × (r .line ≡ line)) (isRecord xs) _ _ (λ e. draw-cases xs ram font line (eqb-true _ _ e) .1 n) (refl, refl)
 
-unheard-by : (xs ram : List ℕ) (kind byte : ℕ) (why : Unheard) → length xs ≡ recordLength → kind ≤ 3
+unheard-by : (xs ram : List ℕ) (kind byte : ℕ) (why : Unheard) → length xs ≡ recordLength → kind ≤ lastKind
     → hearEvent (deviceIn xs) ram (eventOf kind byte) .reply .refusal ≡ numberOf (NotAcknowledged why)
     → busOn xs ram kind byte ≡ record { device = ignoredOn (deafens why) xs; ram = ram; answer = answerOf (refused (NotAcknowledged why)) }
 unfolding hearEvent
@@ -257,7 +257,7 @@ bus-length : (xs ram : List ℕ) (kind byte : ℕ)
 unfolding busOn heardOn hearEvent
 bus-length xs ram kind byte =
     let o : BusOutcome = busEvent (deviceIn xs .bus) (deviceIn xs .registers) ram (eventOf kind byte) in
-    either (λ (r : BusDone). Long xs (r .device) × Long ram (r .ram)) (isRecord xs && not (ltb 3 kind)) _ _ (
+    either (λ (r : BusDone). Long xs (r .device) × Long ram (r .ram)) (isRecord xs && not (badKind kind)) _ _ (
       either (Long xs) (eqb (o .reply .refusal) 0) _ _ (putBus-length (o .bus) (putRegisters (o .registers) xs) ∙ putRegisters-length (o .registers) xs)
           (either (Long xs) (isDeaf (o .bus .state)) _ _ (length-set xs busAt _) refl),
       busEvent-length (deviceIn xs .bus) (deviceIn xs .registers) ram (eventOf kind byte),
@@ -283,7 +283,7 @@ draw-length xs ram font line =
 
 -- ---- the answers, and the other buffers
 
-bus-rest : (xs ram : List ℕ) (kind byte : ℕ) → length xs ≡ recordLength → kind ≤ 3
+bus-rest : (xs ram : List ℕ) (kind byte : ℕ) → length xs ≡ recordLength → kind ≤ lastKind
     → let o : EventOutcome = hearEvent (deviceIn xs) ram (eventOf kind byte) in
     let r : BusDone = busOn xs ram kind byte in (r .ram ≡ o .ram) × (r .answer ≡ answerOf (o .reply))
 unfolding busOn heardOn
@@ -321,7 +321,7 @@ readLent l = chip (deviceIn (l .device)) (l .ram)
 
 -- a fed event that a bus call takes
 abbrev pub Taken : ChipBytes → Logged → Type 0
-Taken l x = (length (l .device) ≡ recordLength) × (x .kind ≤ 3)
+Taken l x = (length (l .device) ≡ recordLength) × (x .kind ≤ lastKind)
 
 -- it leaves what the device's event leaves
 pub taken-back : (l : ChipBytes) (x : Logged) → Taken l x → readLent (busCalls .after l x) ≡ busEvents .after (readLent l) x

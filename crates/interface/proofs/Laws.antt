@@ -11,7 +11,7 @@ use lib.Dec.{eqb, ltb}
 use lib.ListN.{length, set}
 use lib.Seq.{set-getD}
 use Rattle.refusals.specs.Refusals.{Reply}
-use Rattle.bus.specs.Bus.{eventOf, busEvent}
+use Rattle.bus.specs.Bus.{eventOf, busEvent, lastKind}
 use Rattle.device.specs.Device.{hearEvent, startFrame, drawLine, askCell}
 use Rattle.pixel.specs.Ask.{askPixel}
 use Rattle.layout.specs.Layout.{busAt, recordLength, isDeaf, stateByte, deviceIn}
@@ -101,12 +101,12 @@ pub bus-not-record : (xs ram : List ℕ) (kind byte : ℕ) → (length xs ≡ re
 unfolding busOn
 bus-not-record xs ram kind byte h = rw (ne-eqb _ _ h)
 
-pub bus-not-kind : (xs ram : List ℕ) (kind byte : ℕ) → 3 < kind
+pub bus-not-kind : (xs ram : List ℕ) (kind byte : ℕ) → lastKind < kind
     → _≡_ {A = face.BusDone} (record { device = xs; ram = ram; answer = notTaken }) (busOn xs ram kind byte)
 unfolding busOn
 bus-not-kind xs ram kind byte k = rw (lt-ltb _ _ k, and-false (isRecord xs))
 
-module _ (xs ram : List ℕ) (kind byte : ℕ) (h : length xs ≡ recordLength) (k : kind ≤ 3) where
+module _ (xs ram : List ℕ) (kind byte : ℕ) (h : length xs ≡ recordLength) (k : kind ≤ lastKind) where
   pub bus-is : heardOn xs (busEvent (deviceIn xs .bus) (deviceIn xs .registers) ram (eventOf kind byte)) ≡ busOn xs ram kind byte
   unfolding busOn hearEvent
   bus-is = rw (eq-eqb _ _ h, le-ltb _ _ k)

@@ -17,7 +17,7 @@ use Rattle.font_file.specs.Checked.{Bytes}
 use Rattle.font_file.specs.FontFile.{blockCount, WriteOutcome, writeFont, ReadOutcome, readFont}
 use Rattle.bus.specs.declared.BusState.{BusState}
 use Rattle.bus.specs.declared.BusState.the-variants.{Deaf, Slave}
-use Rattle.bus.specs.Bus.{eventOf, BusOutcome}
+use Rattle.bus.specs.Bus.{eventOf, lastKind, badKind, BusOutcome}
 use Rattle.bus.specs.Unheard.{deafens}
 use Rattle.device.specs.Device.{freshDevice, EventOutcome, hearEvent, StartOutcome, startFrame, DrawOutcome, drawLine, askCell}
 use Rattle.pixel.specs.Ask.{askPixel}
@@ -80,7 +80,7 @@ touched o = record { bus = o .device .bus; registers = o .device .registers; ram
 -- kind: 0 start, 1 host byte, 2 fetch, 3 stop; the byte is ignored unless the kind is 1
 unfoldable pub busOn : List ℕ → List ℕ → ℕ → ℕ → BusDone
 busOn xs ram kind byte =
-    cond (isRecord xs && not (ltb 3 kind))
+    cond (isRecord xs && not (badKind kind))
     (heardOn xs (touched (hearEvent (deviceIn xs) ram (eventOf kind byte))))
     (record { device = xs; ram = ram; answer = notTaken })
 
@@ -225,7 +225,7 @@ fontReadOn file font = let o : ReadOutcome = readFont file font in record { font
 pub record Crossing : Type 0 where
   -- reset has the same definition: a device's reset leaves a fresh device
   pub fresh : (xs : List ℕ) → length xs ≡ recordLength → (deviceIn (freshOn xs .device) ≡ freshDevice) × (freshOn xs .answer ≡ 0)
-  pub bus : (xs ram : List ℕ) (kind byte : ℕ) → length xs ≡ recordLength → kind ≤ 3
+  pub bus : (xs ram : List ℕ) (kind byte : ℕ) → length xs ≡ recordLength → kind ≤ lastKind
       → let o : EventOutcome = hearEvent (deviceIn xs) ram (eventOf kind byte) in
       let r : BusDone = busOn xs ram kind byte in (deviceIn (r .device) ≡ o .device) × (r .ram ≡ o .ram) × (r .answer ≡ answerOf (o .reply))
   pub start : (xs : List ℕ) (lines : ℕ) → length xs ≡ recordLength
@@ -263,7 +263,7 @@ pub record Crossing : Type 0 where
   pub feed-not-taken : (xs fs ram chunk out : List ℕ) → (length xs ≡ recordLength → length fs ≡ feedLength → length chunk ≤ chunkMax → ⊥)
       → feedOn xs fs ram chunk out ≡ notFedOn xs fs ram out notTaken
   pub feed-not-made : (fs : List ℕ) → (length fs ≡ feedLength → ⊥) → feedFreshOn fs ≡ record { feed = fs; answer = notTaken }
-  pub no-kind : (xs ram : List ℕ) (kind byte : ℕ) → 3 < kind → busOn xs ram kind byte ≡ record { device = xs; ram = ram; answer = notTaken }
+  pub no-kind : (xs ram : List ℕ) (kind byte : ℕ) → lastKind < kind → busOn xs ram kind byte ≡ record { device = xs; ram = ram; answer = notTaken }
   -- every buffer keeps its length, whatever it is
   pub length-fresh : (xs : List ℕ) → length (freshOn xs .device) ≡ length xs
   pub length-bus : (xs ram : List ℕ) (kind byte : ℕ)
@@ -298,7 +298,7 @@ pub record Crossing : Type 0 where
       → (busOn xs ram kind byte .device ≡ xs) × (busOn xs ram kind byte .ram ≡ ram)
   -- .. except deaf after an unknown slave address. By the refusal's number (document 02, K6): 5, 13 and 14 write no byte; 12 sets byte 0 to 1,
   -- and no other (in a deaf device it is 1 already: silent-bus). To which events each is answered: crate bus's specs/Unheard.antt
-  pub unheard : (xs ram : List ℕ) (kind byte : ℕ) (why : Unheard) → length xs ≡ recordLength → kind ≤ 3
+  pub unheard : (xs ram : List ℕ) (kind byte : ℕ) (why : Unheard) → length xs ≡ recordLength → kind ≤ lastKind
       → hearEvent (deviceIn xs) ram (eventOf kind byte) .reply .refusal ≡ numberOf (NotAcknowledged why)
       → busOn xs ram kind byte ≡ record { device = ignoredOn (deafens why) xs; ram = ram; answer = answerOf (refused (NotAcknowledged why)) }
   -- a feed that its tests refuse, before any event, writes no byte of any buffer

@@ -41,3 +41,11 @@ badLineCount lines = eqb lines 0 || ltb frameLines lines
 -- a line reads at most 246 cells
 abbrev pub lineCells : ℕ
 lineCells = 246
+
+-- addresses on the bus are 0000 to 3FFF
+abbrev pub addressSpace : ℕ
+addressSpace = 0x4000
+
+-- the registers have the last of them, from 3FF0 on
+abbrev pub firstRegister : ℕ
+firstRegister = 0x3FF0

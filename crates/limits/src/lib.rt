@@ -22,6 +22,13 @@ pub const USER_CELLS: u16 = 988;
 // Lines of a frame at the most.
 pub const FRAME_LINES: u32 = 2048;
 
+// Addresses on the bus: those that there are, the first behind the RAM, and the first register's.
+pub const ADDRESS_SPACE: u16 = 0x4000;
+
+pub const RAM_END: u16 = 0x400;
+
+pub const FIRST_REGISTER: u16 = 0x3FF0;
+
 // No frame has this many lines: 0, or above the most.
 pub fn bad_line_count(lines: u32) -> bool
     ensures { λ r. ⌜ r ≡ badLineCount lines ⌝ }

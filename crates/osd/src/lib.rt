@@ -53,19 +53,19 @@ pub extern "C" fn osd_bus(device: &mut [u8], ram: &mut [u8], kind: u8, byte: u8)
     if device.len() != DEVICE_LENGTH {
         return NOT_TAKEN;
     }
-    if kind > bus_bytes::STOP {
+    if kind > bus::STOP {
         return NOT_TAKEN;
     }
     if ram.len() != limits::RAM_LENGTH {
         return bus_bytes::refuse(Refusal::RamLength);
     }
     let state = device[layout::BUS_AT];
-    if kind == bus_bytes::FETCH {
+    if kind == bus::FETCH {
         if state == layout::READING {
             return bus_bytes::read_next(device, ram);
         }
     }
-    if kind == bus_bytes::HOST_BYTE {
+    if kind == bus::HOST_BYTE {
         if state == layout::WRITING {
             return bus_bytes::write_next(device, ram, byte);
         }

@@ -2,6 +2,7 @@
 -- Assumes nothing.
 use native.Mathlib.Omega.{arith}
 use borrow.Author.Tests.{lt-ltb, le-ltb, le-leb, lt-leb}
+use Rattle.limits.specs.Limits.{firstRegister}
 use Rattle.bus.specs.Bus.{registersWith, ramWith}
 use borrow.Author.Needs.{needs}
 use Rattle.bus.proofs.store.Statement.{statement}
@@ -9,7 +10,7 @@ use Rattle.bus.proofs.store.Tie as tie
 
 returns : tie.Need-returns
 unfolding registersWith ramWith
-returns c = (rw (lt-leb 0x3FF0 (c .before .before .args .address) (omega arith)), rw (lt-ltb _ _ (c .if1 .taken)))
+returns c = (rw (lt-leb firstRegister (c .before .before .args .address) (omega arith)), rw (lt-ltb _ _ (c .if1 .taken)))
 
 returns-2 : tie.Need-returns-2
 unfolding registersWith ramWith

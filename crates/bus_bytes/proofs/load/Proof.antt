@@ -6,6 +6,7 @@ use native.Mathlib.Omega.{arith}
 use denote.Ref.{now}
 use borrow.Author.Tests.{lt-ltb, le-ltb, le-leb, lt-leb}
 use borrow.Author.Needs.{needs}
+use Rattle.limits.specs.Limits.{firstRegister}
 use Rattle.layout.specs.Layout.{registersAt, registersLength}
 use Rattle.facts.proofs.Parts.{getD-part}
 use Rattle.bus_bytes.proofs.load.Statement.{statement}
@@ -17,7 +18,7 @@ returns c = rw (lt-ltb _ _ (c .before .if1 .taken))
 returns-2 : tie.Need-returns-2
 returns-2 c =
     let a = c .before .before .before in
-    let i = a .args .address - 0x3FF0 in
+    let i = a .args .address - firstRegister in
     let few : i % 16 ≡ i = omega (arith, a .pre .2) in
     rw (le-ltb _ _ (c .before .before .if1 .left), le-leb _ _ (c .before .if2 .taken), few) (sym (getD-part (now (a .args .device)) registersAt registersLength i 0 (omega (arith, a .pre .2))))
 

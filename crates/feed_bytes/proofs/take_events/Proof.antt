@@ -9,8 +9,8 @@ use borrow.Author.Needs.{needs}
 use borrow.Author.Tests.{lt-ltb}
 use denote.Ref.{now}
 use lib.ListN.{length}
+use Rattle.bus.specs.Bus.{badKind}
 use Rattle.capture.specs.declared.Feed.{Feed}
-use Rattle.capture.specs.Capture.{badKind}
 use Rattle.font_file.specs.Checked.{Bytes}
 use Rattle.capture.specs.Places.{from}
 use Rattle.capture.proofs.Laws.{from-bad, from-end, from-first, held-one}

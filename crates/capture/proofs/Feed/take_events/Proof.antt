@@ -7,9 +7,9 @@ use borrow.Author.Needs.{needs}
 use borrow.Author.Tests.{lt-ltb, le-ltb}
 use denote.Ref.{now}
 use lib.ListN.{length, getD}
-use Rattle.bus.specs.Bus.{eventOf}
+use Rattle.bus.specs.Bus.{eventOf, badKind}
 use Rattle.device.specs.Device.{eventOutcome, hearEvent}
-use Rattle.capture.specs.Capture.{chip, busEvents, badKind}
+use Rattle.capture.specs.Capture.{chip, busEvents}
 use Rattle.capture.specs.Places.{from}
 use Rattle.capture.proofs.Laws.{from-bad, from-end, from-first, held-one, from-heard, taken-reply, chunk-fed}
 use Rattle.capture.proofs.Feed.take_events.Statement.{statement}
