@@ -1,15 +1,14 @@
 // Bus events on the device record's lent bytes, in place: of the record only the bus part and at most one register are read and written.
 ghost use mathlib.Core.Path.{_≡_};
-ghost use Prim.Native.Nat.{_+_, _*_, _≤_, _<_};
+ghost use Prim.Native.Nat.{_≤_, _<_};
 ghost use lib.ListN.{length};
 ghost use Rattle.limits.specs.Limits.{ramLength, addressSpace};
-ghost use Rattle.refusals.specs.Refusals.{refused};
 ghost use Rattle.bus.specs.declared.BusState.the-variants.{Write, Read};
 ghost use Rattle.bus.specs.declared.Event.the-variants.{Byte, Fetch};
 ghost use Rattle.bus.specs.declared.Effect.the-variants.{Store};
 ghost use Rattle.bus.specs.Bus.{ramWith, byteIn, lastKind};
 ghost use Rattle.layout.specs.Layout.{recordLength, stateNumber, isDeaf, putBus, stateByte, deviceIn};
-ghost use Rattle.interface.specs.Interface.{answerOf, ignoredOn, busOn};
+ghost use Rattle.interface.specs.Interface.{ignoredOn, busOn};
 ghost use Rattle.bus_bytes.specs.Steps.{InSpace, stepOn, eventOn, storedOn};
 use bus::Bus;
 use bus::BusState;
@@ -18,19 +17,6 @@ use bus::Event;
 use bus::Step;
 use refusals::Refusal;
 use registers::Registers;
-
-// The refusal's number in the high half, the value in the low half.
-pub fn answer(refusal: u8, value: u16) -> u32
-    ensures { λ r. ⌜ r ≡ refusal * 65536 + value ⌝ }
-{
-    refusal as u32 * 65536 + value as u32
-}
-
-pub fn refuse(refusal: Refusal) -> u32
-    ensures { λ r. ⌜ r ≡ answerOf (refused refusal) ⌝ }
-{
-    answer(refusal.number(), refusal.value() as u16)
-}
 
 // A byte to an address: a RAM cell, a register in its place, or nothing.
 pub fn store(device: &mut [u8], ram: &mut [u8], address: u16, x: u8)
@@ -88,7 +74,7 @@ fn apply(device: &mut [u8], ram: &mut [u8], step: Step) -> u32
         Effect::Ignore(why) => {
             let state = next.state;
             ignore(device, state);
-            refuse(Refusal::NotAcknowledged(why))
+            interface::refuse(Refusal::NotAcknowledged(why))
         }
         Effect::Store(address, x) => {
             layout::write_bus(device, next);

@@ -6,7 +6,6 @@ use mathlib.Core.Bool.{Bool, cond}
 use mathlib.Core.List.{List, [], _∷_}
 use native.Mathlib.Omega.{arith}
 use borrow.Author.Tests.{le-ltb}
-use lib.Dec.{ltb}
 use lib.ListN.{length, getD}
 use lib.Seq.{sets}
 use Rattle.refusals.specs.declared.Refusal.{Refusal}
@@ -19,7 +18,7 @@ use Rattle.capture.specs.Capture.{outputOf, wouldComplete, takenReply}
 use Rattle.capture.specs.Places.{kindAt, Rest, rest, from}
 use Rattle.capture.proofs.Laws.{from-event, rest-whole}
 use Rattle.layout.specs.Layout.{recordLength, deviceIn}
-use Rattle.interface.specs.Interface.{answerOf, BusDone, heardOn, busOn, chunkMax, ChipBytes, busCalls, FeedDone, notFedOn, chunkFedOn, fedOnBy, verdictOn, feedOn}
+use Rattle.interface.specs.Interface.{answerOf, isAccepted, BusDone, heardOn, busOn, chunkMax, ChipBytes, busCalls, FeedDone, notFedOn, chunkFedOn, fedOnBy, verdictOn, feedOn}
 use Rattle.layout.specs.FeedLayout.{feedLength, feedBytes, feedIn}
 use Rattle.interface.proofs.Claims.{crossing}
 use Rattle.interface.proofs.Laws.{refusal-zero, bus-is, feed-is}
@@ -31,7 +30,7 @@ use Rattle.feed_bytes.specs.Turns.{outputIn, Took, eventsOn, lent}
 output-is : (r : Reply) (answer : ℕ) → r .value < 256 → answer ≡ answerOf r → outputIn answer ≡ outputOf r
 output-is r answer h e =
     let byte : answer % 256 ≡ r .value = omega arith in
-    ap₂ (λ (t : Bool) (v : ℕ). cond t 1 0 ∷ v ∷ []) (ap (λ (n : ℕ). ltb n 65536) e ∙ refusal-zero r (λ z. omega arith)) byte
+    ap₂ (λ (t : Bool) (v : ℕ). cond t 1 0 ∷ v ∷ []) (ap isAccepted e ∙ refusal-zero r (λ z. omega arith)) byte
 
 -- ---- a turn
 

@@ -4,18 +4,17 @@ use Prim.Native.Nat.{ℕ, _+_, _-_, _*_, _/_, _%_, _≤_, _<_}
 use mathlib.Core.Path.{_≡_}
 use mathlib.Core.Bool.{cond}
 use mathlib.Core.List.{List, [], _∷_, _++_}
-use lib.Dec.{ltb}
 use lib.ListN.{length, drop}
 use Rattle.runs.specs.Runs.{end}
 use Rattle.capture.specs.declared.Feed.{Feed}
 use Rattle.capture.specs.Capture.{Logged, finished, feedAfter, outputFrom}
 use Rattle.capture.specs.Places.{from}
-use Rattle.interface.specs.Interface.{ChipBytes, busCalls}
+use Rattle.interface.specs.Interface.{isAccepted, ChipBytes, busCalls}
 use Rattle.feed_bytes.specs.declared.Taken.{Taken}
 
 -- an answer's two bytes in the output: 1 or 0 for acknowledged, then the byte
 abbrev pub outputIn : ℕ → List ℕ
-outputIn answer = cond (ltb answer 65536) 1 0 ∷ answer % 256 ∷ []
+outputIn answer = cond (isAccepted answer) 1 0 ∷ answer % 256 ∷ []
 
 -- what the events of a chunk leave, the feed after it, and how many output bytes they wrote
 pub record Took : Type 0 where

@@ -25,7 +25,11 @@ fn put_output(out: &mut [u8], n: usize, answer: u32)
     requires { ⌜ n + 1 < length (now out) ⌝ }
     ensures { λ _. ⌜ now (out .exit) ≡ sets (now (out .entry)) n (outputIn answer) ⌝ }
 {
-    out[n] = if answer < 65536 { 1 } else { 0 };
+    out[n] = if answer < interface::VALUE_BOUND {
+        1
+    } else {
+        0
+    };
     out[n + 1] = (answer % 256) as u8;
 }
 
@@ -162,8 +166,8 @@ pub fn fed(feed: Feed, written: u16) -> u32
     ensures { λ r. ⌜ r ≡ answerOf (takenReply feed written) ⌝ }
 {
     match feed {
-        Feed::Open => bus_bytes::answer(0, written),
-        Feed::Half(_) => bus_bytes::answer(0, written),
-        Feed::Shut => bus_bytes::answer(Refusal::FeedShut.number(), written),
+        Feed::Open => interface::answer(0, written),
+        Feed::Half(_) => interface::answer(0, written),
+        Feed::Shut => interface::answer(Refusal::FeedShut.number(), written),
     }
 }

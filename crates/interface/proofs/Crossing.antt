@@ -52,7 +52,7 @@ use Rattle.pixel.proofs.Lines as pixel
 use Rattle.layout.specs.Layout.{busAt, registersAt, registersLength, recordLength, part, isDeaf, registersIn, putBus, putRegisters, putNext, deviceIn}
 use Rattle.layout.specs.FeedLayout.{feedLength, feedIn}
 use Rattle.layout.proofs.Laws.{putBus-length, putRegisters-length, putNext-length, putFrame-length, withBus, withRegisters, read-back, event-back, deaf-back, draw-back, start-back, feed-back}
-use Rattle.interface.specs.Interface.{answerOf, notTaken, isRecord, Done, freshOn, BusDone, ignoredOn, heardOn, busOn, startedOn, startOn, DrawDone, drawnOn, drawOn, pixelOn, isFeed, chunkMax, FeedMade, feedFreshOn, ChipBytes, busCalls, FeedDone, notFedOn, chunkFedOn, fedOnBy, verdictOn, rightLengths, feedOn, fontWriteOn, fontReadOn, Crossing}
+use Rattle.interface.specs.Interface.{answerOf, replyIn, notTaken, isRecord, Done, freshOn, BusDone, ignoredOn, heardOn, busOn, startedOn, startOn, DrawDone, drawnOn, drawOn, pixelOn, isFeed, chunkMax, FeedMade, feedFreshOn, ChipBytes, busCalls, FeedDone, notFedOn, chunkFedOn, fedOnBy, verdictOn, rightLengths, feedOn, fontWriteOn, fontReadOn, Crossing}
 use Rattle.interface.proofs.Laws.{if-taken, ignored-same, fresh-not, bus-is, bus-not-record, bus-not-kind, start-not, draw-not, cell-not, pixel-not, feed-fresh-not, feed-not, cell-is, pixel-is, feed-tests, feed-is}
 
 -- ---- an event that is not acknowledged
@@ -355,7 +355,7 @@ module _ (l : ChipBytes) (f : Feed) (chunk : List ℕ) (h : length chunk ≤ chu
   written-most : length written ≤ chunkMax
   written-most = omega (arith, output-room busCalls l f chunk, held-one f)
 
-  pub written-value : answerOf (takenReply (feedAfter f chunk) (length written)) % 65536 ≡ length written
+  pub written-value : replyIn (answerOf (takenReply (feedAfter f chunk) (length written))) .value ≡ length written
   written-value = omega (arith, written-most, taken-value (feedAfter f chunk) (length written))
 
 module _ (xs fs ram chunk out : List ℕ) where
@@ -539,6 +539,7 @@ crossing =
       length-feed = feed-kept;
       length-font-write = write-length;
       length-font-read = read-length;
+      apart = λ r h. let a : replyIn (answerOf r) .refusal ≡ r .refusal = omega arith in let b : replyIn (answerOf r) .value ≡ r .value = omega arith in λ i. record { refusal = a i; value = b i };
       value-bus = bus-value;
       value-start = λ xs lines. by-start (λ (o : StartOutcome). o .reply .value ≡ 0) (deviceIn xs) lines refl refl;
       value-draw = λ xs. draw-value (deviceIn xs);

@@ -18,8 +18,8 @@ use Rattle.capture.proofs.Laws.{by-verdict}
 use Rattle.capture.proofs.Cuts.{shut-is, shut-finishes, shut-stays, after-append, end-both, output-both, same-cut, two-cuts}
 use Rattle.layout.specs.FeedLayout.{feedBytes, feedIn}
 use Rattle.layout.proofs.Laws.{feed-back}
-use Rattle.interface.specs.Interface.{answerOf, ChipBytes, busCalls, FeedDone, notFedOn, chunkFedOn, fedOnBy, rightLengths, feedOn}
-use Rattle.interface.specs.Cuts.{replyIn, feedsOn, FitsBytes, AnyCutBytes, TwoCutsBytes}
+use Rattle.interface.specs.Interface.{answerOf, replyIn, ChipBytes, busCalls, FeedDone, notFedOn, chunkFedOn, fedOnBy, rightLengths, feedOn}
+use Rattle.interface.specs.Cuts.{feedsOn, FitsBytes, AnyCutBytes, TwoCutsBytes}
 use Rattle.interface.specs.OnePage.{State, lentIn}
 use Rattle.interface.proofs.Laws.{if-taken, feed-tests}
 use Rattle.interface.proofs.Crossing.{written-value}
@@ -84,7 +84,7 @@ written-both s xs ys =
 
 record Fitted (s : State) (c : Chunk) (r : FeedDone) : Type 0 where
   leaves : _≡_ {A = State} (record { device = r .device; feed = r .feed; ram = r .ram }) (next s (c .bytes))
-  writes : take (r .answer % 65536) (r .out) ≡ written s (c .bytes)
+  writes : take (replyIn (r .answer) .value) (r .out) ≡ written s (c .bytes)
 
 shut-fitted : (s : State) (c : Chunk) → isShut (feedIn (s .feed)) ≡ true
     → Fitted s c (notFedOn (s .device) (s .feed) (s .ram) (c .out) (answerOf (refused FeedShut)))

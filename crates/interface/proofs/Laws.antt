@@ -18,7 +18,7 @@ use Rattle.layout.specs.Layout.{busAt, recordLength, isDeaf, stateByte, deviceI
 use Rattle.layout.specs.FeedLayout.{feedLength}
 use Rattle.layout.proofs.Laws.{numbered, state-byte}
 use Rattle.interface.specs.Interface as face
-use Rattle.interface.specs.Interface.{answerOf, notTaken, isRecord, freshOn, ignoredOn, heardOn, busOn, startedOn, startOn, drawnOn, drawOn, cellOn, pixelOn, isFeed, chunkMax, feedFreshOn, notFedOn, fedOnBy, verdictOn, rightLengths, feedOn}
+use Rattle.interface.specs.Interface.{valueBound, answerOf, isAccepted, notTaken, isRecord, freshOn, ignoredOn, heardOn, busOn, startedOn, startOn, drawnOn, drawOn, cellOn, pixelOn, isFeed, chunkMax, feedFreshOn, notFedOn, fedOnBy, verdictOn, rightLengths, feedOn}
 
 -- what holds of a call that the interface's own tests let through, and of one that they do not, holds of the call
 pub if-taken : {A : Type 0} (P : A → Type 0) (t : Bool) (x y : A) → (t ≡ true → P x) → P y → P (cond t x y)
@@ -41,12 +41,12 @@ feed-tests xs fs chunk t =
 -- ---- answers
 
 -- the number of an answer says whether the call is accepted, if then its value has 16 bits
-pub refusal-zero : (r : Reply) → (r .refusal ≡ 0 → r .value < 65536) → ltb (answerOf r) 65536 ≡ eqb (r .refusal) 0
+pub refusal-zero : (r : Reply) → (r .refusal ≡ 0 → r .value < valueBound) → isAccepted (answerOf r) ≡ eqb (r .refusal) 0
 refusal-zero r h = by (ℕ-discrete (r .refusal) 0)
   where
-    by : Dec (r .refusal ≡ 0) → ltb (answerOf r) 65536 ≡ eqb (r .refusal) 0
-    by (yes e) = rw (eq-eqb _ _ e, lt-ltb (answerOf r) 65536 (omega (arith, h e)))
-    by (no n) = rw (ne-eqb _ _ n, le-ltb (answerOf r) 65536 (omega arith))
+    by : Dec (r .refusal ≡ 0) → isAccepted (answerOf r) ≡ eqb (r .refusal) 0
+    by (yes e) = rw (eq-eqb _ _ e, lt-ltb (answerOf r) valueBound (omega (arith, h e)))
+    by (no n) = rw (ne-eqb _ _ n, le-ltb (answerOf r) valueBound (omega arith))
 
 -- ---- calls that the interface refuses
 

@@ -28,7 +28,7 @@ use Rattle.layout.specs.Layout.{recordLength}
 use Rattle.layout.specs.FeedLayout.{feedIn}
 use Rattle.interface.specs.Interface.{answerOf}
 use Rattle.interface.specs.OnePage.{State, lentIn, answer, after, calls, chipIn, reads, heard}
-use Rattle.interface.specs.Pixels.{started, StayPut, StayPutBytes, accepts, PixelsAgreeBytes}
+use Rattle.interface.specs.Pixels.{started, StayPut, StayPutBytes, PixelsAgreeBytes}
 use Rattle.interface.proofs.Laws.{refusal-zero}
 use Rattle.interface.proofs.OnePage.{takenAt, same-length, untouched, inBytes, carried, same-kind}
 use Rattle.interface.proofs.Crossing.{crossing}
@@ -44,7 +44,7 @@ draw-value d ram font line =
 
 -- what a call that is taken draws, the device's does
 same-drew : (font : List ℕ) (u : device.State) {c : Call Logged} → View c
-    → drew accepts (record { call = c; answer = inBytes (device.answer font u (heard c)) })
+    → drew isAccepted (record { call = c; answer = inBytes (device.answer font u (heard c)) })
     ≡ drew pixels.accepts (record { call = heard c; answer = device.answer font u (heard c) })
 unfolding isDraw heard device.make
 same-drew font u (draws line) =
@@ -56,7 +56,7 @@ same-drew font u (acts {c = c} t d) = rw (same-kind c .1, d)
 
 module _ (font : List ℕ) (r : Registers) (mem : List ℕ) (f lines : ℕ) where
   abbrev drawnBy : State → Call Logged → ℕ
-  drawnBy s c = drew accepts (record { call = c; answer = answer font s c })
+  drawnBy s c = drew isAccepted (record { call = c; answer = answer font s c })
 
   one-call-bytes : (n : ℕ) (s : State) (c : Call Logged) → StayPut font s c → At font r mem f lines n (reads s)
       → At font r mem f lines (n + drawnBy s c) (reads (after font s c))
@@ -65,7 +65,7 @@ module _ (font : List ℕ) (r : Registers) (mem : List ℕ) (f lines : ℕ) wher
       by : (t : Bool) → takenAt s c ≡ t → At font r mem f lines (n + drawnBy s c) (reads (after font s c))
       by true t =
           let one = carried font s c t in
-          let same = ap (λ (a : Answer ℕ). drew accepts (record { call = c; answer = a })) (one .answers) ∙ same-drew font (reads s) (view c) in
+          let same = ap (λ (a : Answer ℕ). drew isAccepted (record { call = c; answer = a })) (one .answers) ∙ same-drew font (reads s) (view c) in
           rw (one .state, same) (one-call font r mem f lines n (reads s) (heard c)
           (unfold reads in subst (λ (u : device.State). Kept (chipIn (lentIn s)) (device.chipOf u)) (one .state) p) i)
       by false t =
@@ -89,7 +89,7 @@ pixels-agree-bytes font s lines frame x y cs line long a b h k number put count 
     let begun : reads (started s lines) ≡ pixels.started (reads s) lines =
     λ i. record { device = start .0 i; ram = s .ram; feed = feedIn (s .feed) } in
     let u : State = end (calls font) (started s lines) cs in
-    let i = counted (StayPut font) (calls font) (drew accepts) (λ n v. Lines font (reads s) lines frame h k n (reads v)) (one-call-bytes font _ _ _ _)
+    let i = counted (StayPut font) (calls font) (drew isAccepted) (λ n v. Lines font (reads s) lines frame h k n (reads v)) (one-call-bytes font _ _ _ _)
     0 (started s lines) cs put
     (subst (Lines font (reads s) lines frame h k 0) (sym begun)
     (none-yet font (reads s) lines frame h k (sym (ap (λ (t : device.State). t .device .frame .number) begun) ∙ number))) in

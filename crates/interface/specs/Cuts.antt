@@ -1,19 +1,15 @@
 -- Document 02, K1, over the bytes that C sees: however a capture is cut, if neither a chunk nor the whole is refused 1, 10 or 255, the
 -- joined outputs, both records and the RAM equal one feed of the whole (crate capture's specs/Cuts.antt, there over the device record).
 -- Assumes nothing.
-use Prim.Native.Nat.{ℕ, _/_, _%_}
+use Prim.Native.Nat.{ℕ}
 use mathlib.Core.Path.{_≡_}
 use mathlib.Core.Bool.{true}
 use mathlib.Core.List.{List, _∷_}
 use Rattle.runs.specs.Runs.{Machine, AsMade}
 use Rattle.refusals.specs.Refusals.{Reply}
 use Rattle.capture.specs.Cuts.{Chunk, ChunkAnswer, whole, Fits, SameCut, SameCuts}
-use Rattle.interface.specs.Interface.{FeedDone, feedOn}
+use Rattle.interface.specs.Interface.{replyIn, ownRefusal, FeedDone, feedOn}
 use Rattle.interface.specs.OnePage.{State}
-
--- OSD_REFUSAL and OSD_VALUE of an answer
-abbrev pub replyIn : ℕ → Reply
-replyIn n = record { refusal = n / 65536; value = n % 65536 }
 
 -- feeds, one after the other: each gets the bytes of both records and of the RAM as the one before left them
 abbrev pub feedsOn : Machine State Chunk ChunkAnswer
@@ -33,7 +29,7 @@ feedsOn =
 -- refused neither 1 nor 10, nor 255
 pub record FitsBytes (r : Reply) : Type 0 where
   pub fits : Fits r
-  pub taken : r .refusal ≡ 255 → ⊥
+  pub taken : r .refusal ≡ ownRefusal → ⊥
 
 -- the claim, for every cut into one or more chunks of which none, nor the whole, is refused 1, 10 or 255, from any bytes. Refusal 9 is
 -- inside it

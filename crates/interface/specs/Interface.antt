@@ -1,7 +1,7 @@
 -- The interface for firmware (include/osd.h): each function does on the bytes of the record what the device's function does on the
 -- record that they are read as. A font and its file cross as they are.
 -- Assumes nothing.
-use Prim.Native.Nat.{ℕ, _+_, _*_, _≤_, _<_}
+use Prim.Native.Nat.{ℕ, _+_, _*_, _/_, _%_, _≤_, _<_}
 use mathlib.Core.Path.{_≡_}
 use mathlib.Core.Bool.{Bool, true, not, cond, _&&_}
 use mathlib.Core.List.{List, [], _++_}
@@ -28,13 +28,28 @@ use Rattle.layout.specs.FeedLayout.{feedLength, feedBytes, feedIn}
 
 -- ---- answers: refusal × 65,536 + value
 
+-- a value has 16 bits
+abbrev pub valueBound : ℕ
+valueBound = 65536
+
 abbrev pub answerOf : Reply → ℕ
-answerOf r = r .refusal * 65536 + r .value
+answerOf r = r .refusal * valueBound + r .value
+
+-- OSD_REFUSAL and OSD_VALUE of an answer
+abbrev pub replyIn : ℕ → Reply
+replyIn n = record { refusal = n / valueBound; value = n % valueBound }
+
+-- an answer with refusal 0
+abbrev pub isAccepted : ℕ → Bool
+isAccepted n = ltb n valueBound
 
 -- the interface's own refusal, before document 01's order: a device or feed buffer of another length, a kind above 3, a chunk of more
 -- than 65,534 bytes
+abbrev pub ownRefusal : ℕ
+ownRefusal = 255
+
 abbrev pub notTaken : ℕ
-notTaken = answerOf (record { refusal = 255; value = 0 })
+notTaken = answerOf (record { refusal = ownRefusal; value = 0 })
 
 abbrev pub isRecord : List ℕ → Bool
 isRecord xs = eqb (length xs) recordLength
@@ -277,7 +292,9 @@ pub record Crossing : Type 0 where
       × (length (feedOn xs fs ram chunk out .ram) ≡ length ram) × (length (feedOn xs fs ram chunk out .out) ≡ length out)
   pub length-font-write : (font file : List ℕ) → length (fontWriteOn font file .file) ≡ length file
   pub length-font-read : (file font : List ℕ) → length (fontReadOn file font .font) ≡ length font
-  -- every value fits 16 bits, so that OSD_REFUSAL and OSD_VALUE take an answer apart: the byte on the bus, where the lent bytes are bytes
+  -- OSD_REFUSAL and OSD_VALUE take an answer apart where its value fits 16 bits ..
+  pub apart : (r : Reply) → r .value < valueBound → replyIn (answerOf r) ≡ r
+  -- .. and each does: the byte on the bus, where the lent bytes are bytes
   pub value-bus : (xs ram : List ℕ) (kind byte : ℕ) → Bytes xs → Bytes ram → hearEvent (deviceIn xs) ram (eventOf kind byte) .reply .value < 256
   pub value-start : (xs : List ℕ) (lines : ℕ) → startFrame (deviceIn xs) lines .reply .value ≡ 0
   -- the cells that a line read

@@ -6,7 +6,6 @@ use Prim.Native.Nat.{ℕ, _%_, _≤_, _<_}
 use mathlib.Core.Path.{_≡_}
 use mathlib.Core.Bool.{Bool}
 use mathlib.Core.List.{List}
-use lib.Dec.{ltb}
 use lib.ListN.{length, getD}
 use Rattle.limits.specs.Limits.{ramLength, fontLength, frameLines}
 use Rattle.runs.specs.Runs.{Entry, log, end, total, AsMade}
@@ -15,7 +14,7 @@ use Rattle.capture.specs.Capture.{Logged}
 use Rattle.calls.specs.Calls.{Call, Answer, Kept, drew}
 use Rattle.calls.specs.Pixels as device
 use Rattle.layout.specs.Layout.{recordLength, deviceIn}
-use Rattle.interface.specs.Interface.{startOn, drawOn, pixelOn}
+use Rattle.interface.specs.Interface.{valueBound, isAccepted, startOn, drawOn, pixelOn}
 use Rattle.interface.specs.OnePage.{State, lentIn, after, calls, chipIn, reads, heard}
 
 -- the state after osd_frame_start
@@ -30,17 +29,13 @@ StayPut font s c = Kept (chipIn (lentIn s)) (chipIn (lentIn (after font s c)))
 abbrev pub StayPutBytes : Type 0
 StayPutBytes = (font : List ℕ) (s : State) (c : Call Logged) → device.StayPut font (reads s) (heard c) → StayPut font s c
 
--- refusal 0
-abbrev pub accepts : (number : ℕ) → Bool
-accepts number = ltb number 65536
-
 -- how many lines the calls of a run drew: calls of osd_draw with refusal 0
 abbrev pub linesDrawn : List (Entry (Call Logged) (Answer ℕ)) → ℕ
-linesDrawn = total (drew accepts)
+linesDrawn = total (drew isAccepted)
 
 -- the next osd_draw has refusal 0, and writes at line[x] what osd_pixel answers
 pub record SamePixel (font : List ℕ) (s u : State) (lines frame x y : ℕ) (line : List ℕ) : Type 0 where
-  pub drawn : drawOn (u .device) (u .ram) font line .answer < 65536
+  pub drawn : drawOn (u .device) (u .ram) font line .answer < valueBound
   pub pixel : pixelOn (s .device) (s .ram) font lines frame x y ≡ getD (drawOn (u .device) (u .ram) font line .line) x 0
 
 -- the claim: osd_frame_start takes 1 to 2,048 lines and that frame number; calls are made that leave RAM and registers as they are, y of which draw

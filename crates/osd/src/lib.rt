@@ -57,7 +57,7 @@ pub extern "C" fn osd_bus(device: &mut [u8], ram: &mut [u8], kind: u8, byte: u8)
         return NOT_TAKEN;
     }
     if ram.len() != limits::RAM_LENGTH {
-        return bus_bytes::refuse(Refusal::RamLength);
+        return interface::refuse(Refusal::RamLength);
     }
     let state = device[layout::BUS_AT];
     if kind == bus::FETCH {
@@ -89,7 +89,7 @@ pub extern "C" fn osd_frame_start(device: &mut [u8], lines: u32) -> u32
             layout::write_start(device, next.next, frame);
             0
         }
-        StartAnswer::Refused(refusal) => bus_bytes::refuse(refusal),
+        StartAnswer::Refused(refusal) => interface::refuse(refusal),
     }
 }
 
@@ -115,7 +115,7 @@ pub extern "C" fn osd_draw<'a>(
             layout::write_frame(device, frame);
             cells as u32
         }
-        DrawAnswer::Refused(refusal) => bus_bytes::refuse(refusal),
+        DrawAnswer::Refused(refusal) => interface::refuse(refusal),
     }
 }
 
@@ -127,7 +127,7 @@ pub extern "C" fn osd_cell(device: &[u8], ram: &[u8], cell: u32) -> u32
         return NOT_TAKEN;
     }
     let reply = layout::device_in(device).ask(ram, cell);
-    bus_bytes::answer(reply.refusal(), reply.value() as u16)
+    interface::answer(reply.refusal(), reply.value() as u16)
 }
 
 // Of the record only the registers are looked at.
@@ -147,7 +147,7 @@ pub extern "C" fn osd_pixel<'a>(
         return NOT_TAKEN;
     }
     let reply = pixel::ask(layout::device_in(device), ram, font, lines, frame, x, y);
-    bus_bytes::answer(reply.refusal(), reply.value() as u16)
+    interface::answer(reply.refusal(), reply.value() as u16)
 }
 
 #[no_mangle]
@@ -189,14 +189,14 @@ pub extern "C" fn osd_feed(
         return NOT_TAKEN;
     }
     if ram.len() != limits::RAM_LENGTH {
-        return bus_bytes::refuse(Refusal::RamLength);
+        return interface::refuse(Refusal::RamLength);
     }
     let before = layout::feed_in(feed);
     if before.shut() {
-        return bus_bytes::refuse(Refusal::FeedShut);
+        return interface::refuse(Refusal::FeedShut);
     }
     if out.len() < 2 * ((before.held_bytes() + chunk.len()) / 2) {
-        return bus_bytes::refuse(Refusal::OutputRoom);
+        return interface::refuse(Refusal::OutputRoom);
     }
     let taken = feed_bytes::take_events(device, ram, chunk, out, before);
     let after = taken.feed;
@@ -209,7 +209,7 @@ pub extern "C" fn osd_font_write(font: &[u8], file: &mut [u8]) -> u32
     ensures { λ r. ⌜ record { file = now (file .exit); answer = r } ≡ fontWriteOn (now (font .entry)) (now (file .entry)) ⌝ }
 {
     let reply = font_file::write(font, file);
-    bus_bytes::answer(reply.refusal(), reply.value() as u16)
+    interface::answer(reply.refusal(), reply.value() as u16)
 }
 
 #[no_mangle]
@@ -217,5 +217,5 @@ pub extern "C" fn osd_font_read(file: &[u8], font: &mut [u8]) -> u32
     ensures { λ r. ⌜ record { font = now (font .exit); answer = r } ≡ fontReadOn (now (file .entry)) (now (font .entry)) ⌝ }
 {
     let reply = font_file::read(file, font);
-    bus_bytes::answer(reply.refusal(), reply.value() as u16)
+    interface::answer(reply.refusal(), reply.value() as u16)
 }
