@@ -21,8 +21,8 @@ use Rattle.bus.specs.Bus.{eventOf, badKind}
 use Rattle.device.specs.Device.{EventOutcome, hearEvent}
 use Rattle.capture.specs.declared.Feed.{Feed}
 use Rattle.capture.specs.declared.Feed.the-variants.{Open, Half, Shut}
-use Rattle.capture.specs.Capture.{Logged, finished, feedAfter, outputOf, outputs, outputFrom, Chip, chip, busEvents, isShut, heldBytes, heldKind, wouldComplete, feedVerdict, takenReply, FeedOutcome, chunkFed}
-use Rattle.capture.specs.Places.{kindAt, feedAt, Rest, rest, from}
+use Rattle.capture.specs.Capture.{Logged, finished, feedAfter, outputOf, outputs, outputFrom, Chip, chip, busEvents, isShut, heldBytes, heldKind, wouldComplete, feedVerdict, takenReply, Played, playChunk, takenOutcome, chunkFed}
+use Rattle.capture.specs.Places.{kindAt, feedAt, rest, from}
 
 module _ {S : Type 0} (m : Machine S Logged Reply) where
   -- no byte left
@@ -127,15 +127,12 @@ output-room m s (Half kind) (x ∷ more) = by (badKind kind) (output-room m (m .
 
 -- what is left of a whole chunk has its output in front of the buffer, where there is room
 pub rest-whole : {S : Type 0} (m : Machine S Logged Reply) (s : S) (f : Feed) (chunk out : List ℕ) → 2 * wouldComplete f (length chunk) ≤ length out
-    → let written : List ℕ = outputFrom m s (finished f chunk) in
-    rest m s f chunk out 0
-    ≡ record { state = end m s (finished f chunk); feed = feedAfter f chunk; out = written ++ drop (length written) out; written = length written }
+    → rest m s f chunk out 0 ≡ playChunk m s f chunk out
 unfolding rest
 rest-whole m s f chunk out h =
     let written : List ℕ = outputFrom m s (finished f chunk) in
-    let r : length written ≤ 2 * wouldComplete f (length chunk) = output-room m s f chunk in
     let zeros : 0 + length written ≡ length written = zero-add (length written) in
-    let front = sets-eq written out 0 (omega (arith, r)) ∙ ap (λ (k : ℕ). written ++ drop k out) zeros in
+    let front = sets-eq written out 0 (omega (arith, output-room m s f chunk)) ∙ ap (λ (k : ℕ). written ++ drop k out) zeros in
     λ i. record { state = end m s (finished f chunk); feed = feedAfter f chunk; out = front i; written = zeros i }
 
 -- ---- the tests
@@ -198,10 +195,7 @@ pub taken-reply : (chunk : List ℕ) (held i n : ℕ) → accepted n ≡ takenRe
 taken-reply chunk held i n = either (λ (f : Feed). accepted n ≡ takenReply f n) (ltb (length chunk) i) _ _ refl refl
 
 -- what a chunk leaves, by what is left of it at its start
-abbrev leaves : Rest Chip → FeedOutcome
-leaves r = record { chip = r .state; feed = r .feed; out = r .out; reply = takenReply (r .feed) (r .written) }
-
-pub chunk-fed : (c : Chip) (f : Feed) (chunk out : List ℕ) {r : Rest Chip} → 2 * wouldComplete f (length chunk) ≤ length out
-    → r ≡ rest busEvents c f chunk out 0 → leaves r ≡ chunkFed c f chunk out
+pub chunk-fed : (c : Chip) (f : Feed) (chunk out : List ℕ) {r : Played Chip} → 2 * wouldComplete f (length chunk) ≤ length out
+    → r ≡ rest busEvents c f chunk out 0 → takenOutcome r ≡ chunkFed c f chunk out
 unfolding chunkFed
-chunk-fed c f chunk out h e = ap leaves (e ∙ rest-whole busEvents c f chunk out h)
+chunk-fed c f chunk out h e = ap takenOutcome (e ∙ rest-whole busEvents c f chunk out h)

@@ -137,17 +137,27 @@ pub record FeedOutcome : Type 0 where
 abbrev pub notFed : Chip → Feed → List ℕ → Refusal → FeedOutcome
 notFed c f out r = record { chip = c; feed = f; out = out; reply = refused r }
 
--- the chunk's events, one by one; later output bytes stay
-unfoldable pub chunkFed : Chip → Feed → List ℕ → List ℕ → FeedOutcome
-chunkFed c f chunk out =
+-- what a chunk's events leave of what they act on, which a machine says; the feed after it; the output buffer, and how many bytes they wrote
+pub record Played (S : Type 0) : Type 0 where
+  pub state : S
+  pub feed : Feed
+  pub out : List ℕ
+  pub written : ℕ
+
+-- the events, one by one; later output bytes stay
+abbrev pub playChunk : {S : Type 0} → Machine S Logged Reply → S → Feed → (chunk out : List ℕ) → Played S
+playChunk m s f chunk out =
     let es : List Logged = finished f chunk in
-    let written : List ℕ = outputFrom busEvents c es in
-    record {
-      chip = end busEvents c es;
-      feed = feedAfter f chunk;
-      out = written ++ drop (length written) out;
-      reply = takenReply (feedAfter f chunk) (length written);
-    }
+    let bytes : List ℕ = outputFrom m s es in
+    record { state = end m s es; feed = feedAfter f chunk; out = bytes ++ drop (length bytes) out; written = length bytes }
+
+-- with the reply
+abbrev pub takenOutcome : Played Chip → FeedOutcome
+takenOutcome p = record { chip = p .state; feed = p .feed; out = p .out; reply = takenReply (p .feed) (p .written) }
+
+-- taken: each event is one bus event
+unfoldable pub chunkFed : Chip → Feed → (chunk out : List ℕ) → FeedOutcome
+chunkFed c f chunk out = takenOutcome (playChunk busEvents c f chunk out)
 
 unfoldable pub feedBy : Verdict → Chip → Feed → List ℕ → List ℕ → FeedOutcome
 feedBy passed c f chunk out = chunkFed c f chunk out

@@ -11,7 +11,7 @@ use Rattle.runs.specs.Runs.{Machine, end}
 use Rattle.refusals.specs.Refusals.{Reply}
 use Rattle.capture.specs.declared.Feed.{Feed}
 use Rattle.capture.specs.declared.Feed.the-variants.{Open, Half}
-use Rattle.capture.specs.Capture.{Logged, finished, feedAfter, outputFrom}
+use Rattle.capture.specs.Capture.{Logged, finished, feedAfter, outputFrom, Played}
 
 -- the kind of the event that the byte at a place completes: it stands before it, or was held
 abbrev pub kindAt : List ℕ → ℕ → ℕ → ℕ
@@ -22,14 +22,8 @@ kindAt chunk held i = cond (eqb i 0) held (getD chunk (i - 1) 0)
 abbrev pub feedAt : List ℕ → ℕ → ℕ → Feed
 feedAt chunk held i = cond (ltb (length chunk) i) Open (Half (kindAt chunk held i))
 
--- what the bytes that are left do: their events, with their output in the buffer from n on
-pub record Rest (S : Type 0) : Type 0 where
-  pub state : S
-  pub feed : Feed
-  pub out : List ℕ
-  pub written : ℕ
-
-unfoldable pub rest : {S : Type 0} → Machine S Logged Reply → S → Feed → List ℕ → List ℕ → ℕ → Rest S
+-- what the bytes that are left do: their events, with their output in the buffer from n on, where n bytes were written before
+unfoldable pub rest : {S : Type 0} → Machine S Logged Reply → S → Feed → List ℕ → List ℕ → ℕ → Played S
 rest m s f xs out n =
     record {
       state = end m s (finished f xs);
@@ -39,5 +33,5 @@ rest m s f xs out n =
     }
 
 -- those from a place on where a byte completes an event
-abbrev pub from : {S : Type 0} → Machine S Logged Reply → S → List ℕ → ℕ → ℕ → List ℕ → ℕ → Rest S
+abbrev pub from : {S : Type 0} → Machine S Logged Reply → S → List ℕ → ℕ → ℕ → List ℕ → ℕ → Played S
 from m s chunk held i out n = rest m s (feedAt chunk held i) (drop i chunk) out n

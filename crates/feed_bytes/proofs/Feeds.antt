@@ -1,4 +1,4 @@
--- A chunk's events on the bytes: an answer's two bytes, a turn of the loop, and what all turns come to.
+-- A chunk's events on the bytes: an answer's two bytes, a turn of the loop, and the cases of a feed.
 -- Assumes nothing.
 use Prim.Native.Nat.{ℕ, suc, _+_, _*_, _%_, _≤_, _<_}
 use mathlib.Core.Path.{_≡_, refl, sym, ap, ap₂, _∙_}
@@ -13,16 +13,15 @@ use Rattle.refusals.specs.Refusals.{Reply, refused, Verdict, passed, failed}
 use Rattle.bus.specs.Bus.{eventOf, badKind, lastKind}
 use Rattle.font_file.specs.Checked.{Bytes}
 use Rattle.device.specs.Device.{hearEvent}
-use Rattle.capture.specs.declared.Feed.{Feed}
-use Rattle.capture.specs.Capture.{outputOf, wouldComplete, takenReply}
-use Rattle.capture.specs.Places.{kindAt, Rest, rest, from}
-use Rattle.capture.proofs.Laws.{from-event, rest-whole}
+use Rattle.capture.specs.Capture.{outputOf, takenReply, Played, playChunk}
+use Rattle.capture.specs.Places.{kindAt, from}
+use Rattle.capture.proofs.Laws.{from-event}
 use Rattle.layout.specs.Layout.{recordLength, deviceIn}
-use Rattle.interface.specs.Interface.{answerOf, isAccepted, BusDone, heardOn, busOn, chunkMax, ChipBytes, busCalls, FeedDone, notFedOn, chunkFedOn, fedOnBy, verdictOn, feedOn}
+use Rattle.interface.specs.Interface.{answerOf, isAccepted, BusDone, heardOn, busOn, chunkMax, ChipBytes, lent, busCalls, FeedDone, notFedOn, playedOn, chunkFedOn, fedOnBy, verdictOn, feedOn}
 use Rattle.layout.specs.FeedLayout.{feedLength, feedBytes, feedIn}
 use Rattle.interface.proofs.Claims.{crossing}
 use Rattle.interface.proofs.Laws.{refusal-zero, bus-is, feed-is}
-use Rattle.feed_bytes.specs.Turns.{outputIn, Took, eventsOn, lent}
+use Rattle.feed_bytes.specs.Turns.{outputIn}
 
 -- ---- an answer's two bytes
 
@@ -60,17 +59,6 @@ from-heard xs ram chunk held i out n {o} {out′} {kind} l h k m p b q u j v =
     (λ z. from busCalls (lent (o .device) (o .ram)) chunk held (j z) (written z) (v z))
     ∙ sym (turn xs ram chunk held i out n kind m (sym p) b (sym q) refl)
 
--- ---- all turns
-
--- what the events of a chunk leave, by what is left of it at its start
-abbrev leaves : Rest ChipBytes → Took
-leaves r = record { device = r .state .device; ram = r .state .ram; out = r .out; feed = r .feed; written = r .written }
-
-pub events-taken : (xs ram : List ℕ) (f : Feed) (chunk out : List ℕ) {r : Rest ChipBytes} → 2 * wouldComplete f (length chunk) ≤ length out
-    → r ≡ rest busCalls (lent xs ram) f chunk out 0 → leaves r ≡ eventsOn xs ram f chunk out
-unfolding eventsOn
-events-taken xs ram f chunk out h e = ap leaves (e ∙ rest-whole busCalls (lent xs ram) f chunk out h)
-
 -- ---- a feed
 
 -- let through by the interface's own tests: by the tests of the feed
@@ -81,12 +69,12 @@ module _ (xs fs ram chunk out : List ℕ) (h : length xs ≡ recordLength) (k : 
       ap (notFedOn xs fs ram out) p ∙ ap (λ (v : Verdict). fedOnBy v xs fs ram chunk out) (sym v) ∙ feed-is xs h fs ram chunk out k l
 
   -- taken: what its events leave, and the feed's record written anew
-  pub feed-taken : {t : Took} {gs : List ℕ} {a : ℕ} → verdictOn fs ram chunk out ≡ passed → t ≡ eventsOn xs ram (feedIn fs) chunk out
-      → gs ≡ feedBytes (t .feed) → a ≡ answerOf (takenReply (t .feed) (t .written))
-      → _≡_ {A = FeedDone} (record { device = t .device; feed = gs; ram = t .ram; out = t .out; answer = a }) (feedOn xs fs ram chunk out)
-  unfolding fedOnBy eventsOn chunkFedOn
-  feed-taken {t = t} v e g p =
-      (λ i. record { device = t .device; feed = g i; ram = t .ram; out = t .out; answer = p i })
-      ∙ ap (λ (u : Took). record { device = u .device; feed = feedBytes (u .feed); ram = u .ram; out = u .out; answer = answerOf (takenReply (u .feed) (u .written)) }) e
+  pub feed-taken : {p : Played ChipBytes} {gs : List ℕ} {a : ℕ} → verdictOn fs ram chunk out ≡ passed → p ≡ playChunk busCalls (lent xs ram) (feedIn fs) chunk out
+      → gs ≡ feedBytes (p .feed) → a ≡ answerOf (takenReply (p .feed) (p .written))
+      → _≡_ {A = FeedDone} (record { device = p .state .device; feed = gs; ram = p .state .ram; out = p .out; answer = a }) (feedOn xs fs ram chunk out)
+  unfolding fedOnBy chunkFedOn
+  feed-taken {p = p} v e g q =
+      (λ i. record { device = p .state .device; feed = g i; ram = p .state .ram; out = p .out; answer = q i })
+      ∙ ap playedOn e
       ∙ ap (λ (v : Verdict). fedOnBy v xs fs ram chunk out) (sym v)
       ∙ feed-is xs h fs ram chunk out k l

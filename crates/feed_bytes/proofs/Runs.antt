@@ -17,12 +17,13 @@ use Rattle.bus.specs.declared.Effect.the-variants.{Store}
 use Rattle.bus.specs.Bus.{eventOf, step, ramWith, byteIn, answerTo, taken, busEvent, nextAddress}
 use Rattle.device.specs.declared.Device.{Device}
 use Rattle.device.specs.Device.{hearEvent}
-use Rattle.capture.specs.Places.{kindAt, Rest, from}
+use Rattle.capture.specs.Capture.{Played}
+use Rattle.capture.specs.Places.{kindAt, from}
 use Rattle.layout.specs.Layout.{recordLength, stateNumber, putBus, stateByte, deviceIn}
 use Rattle.layout.proofs.Laws.{putBus-length, state-byte, state-put, bus-put, put-over}
-use Rattle.interface.specs.Interface.{busOn, ChipBytes, busCalls}
+use Rattle.interface.specs.Interface.{busOn, ChipBytes, lent, busCalls}
 use Rattle.bus_bytes.specs.Steps.{storedOn}
-use Rattle.feed_bytes.specs.Turns.{lent, Place, Ran}
+use Rattle.feed_bytes.specs.Turns.{Place, Ran}
 use Rattle.bus_bytes.proofs.Events.{stored-in-place, up, written-next, fetched-next, bus-heard}
 use Rattle.feed_bytes.proofs.Feeds.{turn}
 
@@ -81,7 +82,7 @@ module _ (xs ys ram : List ℕ) (a x : ℕ) (h : length xs ≡ recordLength) (r 
 -- ---- a run, with the bus part lagging behind in ys: the counter is at a
 
 module _ (ys ram chunk : List ℕ) (held j : ℕ) (out : List ℕ) (n a : ℕ) (h : length ys ≡ recordLength) (r : length ram ≡ 1024) (few : a < addressSpace) where
-  abbrev pub behind : BusState → Rest ChipBytes
+  abbrev pub behind : BusState → Played ChipBytes
   behind s = from busCalls (lent (putBus (at s a) ys) ram) chunk held j out n
 
   module _ (s : BusState) where

@@ -3,43 +3,20 @@
 use Prim.Native.Nat.{ℕ, _+_, _-_, _*_, _/_, _%_, _≤_, _<_}
 use mathlib.Core.Path.{_≡_}
 use mathlib.Core.Bool.{cond}
-use mathlib.Core.List.{List, [], _∷_, _++_}
-use lib.ListN.{length, drop}
-use Rattle.runs.specs.Runs.{end}
-use Rattle.capture.specs.declared.Feed.{Feed}
-use Rattle.capture.specs.Capture.{Logged, finished, feedAfter, outputFrom}
+use mathlib.Core.List.{List, [], _∷_}
+use lib.ListN.{length}
+use Rattle.capture.specs.Capture.{Played}
 use Rattle.capture.specs.Places.{from}
-use Rattle.interface.specs.Interface.{isAccepted, ChipBytes, busCalls}
+use Rattle.interface.specs.Interface.{isAccepted, ChipBytes, lent, busCalls}
 use Rattle.feed_bytes.specs.declared.Taken.{Taken}
 
 -- an answer's two bytes in the output: 1 or 0 for acknowledged, then the byte
 abbrev pub outputIn : ℕ → List ℕ
 outputIn answer = cond (isAccepted answer) 1 0 ∷ answer % 256 ∷ []
 
--- what the events of a chunk leave, the feed after it, and how many output bytes they wrote
-pub record Took : Type 0 where
-  pub device : List ℕ
-  pub ram : List ℕ
-  pub out : List ℕ
-  pub feed : Feed
-  pub written : ℕ
-
-unfoldable pub eventsOn : List ℕ → List ℕ → Feed → List ℕ → List ℕ → Took
-eventsOn xs ram f chunk out =
-    let lent : ChipBytes = record { device = xs; ram = ram } in
-    let es : List Logged = finished f chunk in
-    let written : List ℕ = outputFrom busCalls lent es in
-    record {
-      device = end busCalls lent es .device;
-      ram = end busCalls lent es .ram;
-      out = written ++ drop (length written) out;
-      feed = feedAfter f chunk;
-      written = length written;
-    }
-
--- what a call returned and left, in the same form
-abbrev pub took : Taken → List ℕ → List ℕ → List ℕ → Took
-took t xs ram out = record { device = xs; ram = ram; out = out; feed = t .feed; written = t .written }
+-- what a call returned and left, as a chunk's events leave it
+abbrev pub took : Taken → (xs ram out : List ℕ) → Played ChipBytes
+took t xs ram out = record { state = lent xs ram; feed = t .feed; out = out; written = t .written }
 
 -- a place above 0 where a byte would complete an event, so that its kind stands before it, and the output's room for all events
 pub record Place (chunk out : List ℕ) (first i : ℕ) : Type 0 where
@@ -54,6 +31,3 @@ pub record Ran (chunk : List ℕ) (first : ℕ) (before : ChipBytes) (out : List
   pub events : (j - i) % 2 ≡ 0
   pub within : i ≤ length chunk + 1 → j ≤ length chunk + 1
   pub left : (held : ℕ) → from busCalls after chunk held j out′ (j - first) ≡ from busCalls before chunk held i out (i - first)
-
-abbrev pub lent : List ℕ → List ℕ → ChipBytes
-lent xs ram = record { device = xs; ram = ram }

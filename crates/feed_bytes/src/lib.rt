@@ -5,10 +5,10 @@ ghost use Prim.Native.Nat.{_+_, _*_, _≤_, _<_};
 ghost use lib.ListN.{length};
 ghost use lib.Seq.{sets};
 ghost use Rattle.limits.specs.Limits.{ramLength};
-ghost use Rattle.capture.specs.Capture.{isShut, wouldComplete, takenReply};
+ghost use Rattle.capture.specs.Capture.{isShut, wouldComplete, takenReply, playChunk};
 ghost use Rattle.layout.specs.Layout.{recordLength, putBus};
-ghost use Rattle.interface.specs.Interface.{answerOf, chunkMax};
-ghost use Rattle.feed_bytes.specs.Turns.{outputIn, eventsOn, took, lent, Place, Ran};
+ghost use Rattle.interface.specs.Interface.{answerOf, chunkMax, lent, busCalls};
+ghost use Rattle.feed_bytes.specs.Turns.{outputIn, took, Place, Ran};
 use bus::Bus;
 use bus::BusState;
 use capture::Feed;
@@ -138,7 +138,7 @@ pub fn take_events(
     requires { ⌜ (length (now device) ≡ recordLength) × (length (now ram) ≡ ramLength) × (length (now chunk) ≤ chunkMax) ⌝ }
     requires { ⌜ isShut feed ≡ false ⌝ }
     requires { ⌜ 2 * wouldComplete feed (length (now chunk)) ≤ length (now out) ⌝ }
-    ensures { λ r. ⌜ took r (now (device .exit)) (now (ram .exit)) (now (out .exit)) ≡ eventsOn (now (device .entry)) (now (ram .entry)) feed (now (chunk .entry)) (now (out .entry)) ⌝ }
+    ensures { λ r. ⌜ took r (now (device .exit)) (now (ram .exit)) (now (out .exit)) ≡ playChunk busCalls (lent (now (device .entry)) (now (ram .entry))) feed (now (chunk .entry)) (now (out .entry)) ⌝ }
 {
     let held = feed.held_kind();
     let first = 1 - feed.held_bytes();

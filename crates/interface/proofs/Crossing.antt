@@ -52,7 +52,7 @@ use Rattle.pixel.proofs.Lines as pixel
 use Rattle.layout.specs.Layout.{busAt, registersAt, registersLength, recordLength, part, isDeaf, registersIn, putBus, putRegisters, putNext, deviceIn}
 use Rattle.layout.specs.FeedLayout.{feedLength, feedIn}
 use Rattle.layout.proofs.Laws.{putBus-length, putRegisters-length, putNext-length, putFrame-length, withBus, withRegisters, read-back, event-back, deaf-back, draw-back, start-back, feed-back}
-use Rattle.interface.specs.Interface.{answerOf, replyIn, notTaken, isRecord, Done, freshOn, BusDone, ignoredOn, heardOn, busOn, startedOn, startOn, DrawDone, drawnOn, drawOn, pixelOn, isFeed, chunkMax, FeedMade, feedFreshOn, ChipBytes, busCalls, FeedDone, notFedOn, chunkFedOn, fedOnBy, verdictOn, rightLengths, feedOn, fontWriteOn, fontReadOn, Crossing}
+use Rattle.interface.specs.Interface.{answerOf, replyIn, notTaken, isRecord, Done, freshOn, BusDone, ignoredOn, heardOn, busOn, startedOn, startOn, DrawDone, drawnOn, drawOn, pixelOn, isFeed, chunkMax, FeedMade, feedFreshOn, ChipBytes, lent, busCalls, FeedDone, notFedOn, chunkFedOn, fedOnBy, verdictOn, rightLengths, feedOn, fontWriteOn, fontReadOn, Crossing}
 use Rattle.interface.proofs.Laws.{if-taken, ignored-same, fresh-not, bus-is, bus-not-record, bus-not-kind, start-not, draw-not, cell-not, pixel-not, feed-fresh-not, feed-not, cell-is, pixel-is, feed-tests, feed-is}
 
 -- ---- an event that is not acknowledged
@@ -359,8 +359,8 @@ module _ (l : ChipBytes) (f : Feed) (chunk : List ℕ) (h : length chunk ≤ chu
   written-value = omega (arith, written-most, taken-value (feedAfter f chunk) (length written))
 
 module _ (xs fs ram chunk out : List ℕ) where
-  abbrev lent : ChipBytes
-  lent = record { device = xs; ram = ram }
+  abbrev its : ChipBytes
+  its = lent xs ram
 
   abbrev made : List Logged
   made = finished (feedIn fs) chunk
@@ -375,23 +375,23 @@ module _ (xs fs ram chunk out : List ℕ) where
   Kept r = Long xs (r .device) × Long fs (r .feed) × Long ram (r .ram) × Long out (r .out)
 
   module _ (h : length xs ≡ recordLength) where
-    all-made : AsMade Taken busCalls lent made
-    all-made = all-taken (feedIn fs) chunk lent h
+    all-made : AsMade Taken busCalls its made
+    all-made = all-taken (feedIn fs) chunk its h
 
     -- the chunk's events leave the same on the bytes, and write the same
-    same-end : readLent (end busCalls lent made) ≡ end busEvents (readLent lent) made
-    same-end = end-read Taken busCalls busEvents readLent taken-back lent made all-made
+    same-end : readLent (end busCalls its made) ≡ end busEvents (readLent its) made
+    same-end = end-read Taken busCalls busEvents readLent taken-back its made all-made
 
-    same-written : outputFrom busCalls lent made ≡ outputFrom busEvents (readLent lent) made
-    same-written = ap outputs (log-read Taken busCalls busEvents readLent taken-back (λ l x. refl) lent made all-made)
+    same-written : outputFrom busCalls its made ≡ outputFrom busEvents (readLent its) made
+    same-written = ap outputs (log-read Taken busCalls busEvents readLent taken-back (λ l x. refl) its made all-made)
 
-    made-length : Long xs (end busCalls lent made .device) × Long ram (end busCalls lent made .ram)
+    made-length : Long xs (end busCalls its made .device) × Long ram (end busCalls its made .ram)
     made-length =
         kept-by-each Taken busCalls (λ (u : ChipBytes). Long xs (u .device) × Long ram (u .ram))
         (λ u x t i. let b = bus-length (u .device) (u .ram) (x .kind) (x .byte) in (b .0 ∙ i .0, b .1 ∙ i .1))
-        lent made all-made (refl, refl)
+        its made all-made (refl, refl)
 
-    fed-back : (v : Verdict) → Crossed (fedOnBy v xs fs ram chunk out) (feedBy v (readLent lent) (feedIn fs) chunk out)
+    fed-back : (v : Verdict) → Crossed (fedOnBy v xs fs ram chunk out) (feedBy v (readLent its) (feedIn fs) chunk out)
     unfolding fedOnBy chunkFedOn feedBy chunkFed
     fed-back passed = (
       ap (λ (c : Chip). c .device) same-end,
@@ -403,7 +403,7 @@ module _ (xs fs ram chunk out : List ℕ) where
     fed-back (failed r) = (refl, refl, refl, refl, refl)
 
     feed-whole : length fs ≡ feedLength → length chunk ≤ chunkMax
-        → Crossed (feedOn xs fs ram chunk out) (feedChunk (readLent lent) (feedIn fs) chunk out)
+        → Crossed (feedOn xs fs ram chunk out) (feedChunk (readLent its) (feedIn fs) chunk out)
     unfolding feedChunk
     feed-whole k l = rw (← (feed-is xs h fs ram chunk out k l)) (fed-back (verdictOn fs ram chunk out))
 
@@ -414,7 +414,7 @@ module _ (xs fs ram chunk out : List ℕ) where
         (refl, refl, refl, refl)
         (λ shut. (refl, refl, refl, refl))
         (refl, refl, refl, refl)
-        (λ takes. (made-length .0, sym k, made-length .1, simp (length-append, length-drop) (omega (arith, takes .room, output-room busCalls lent (feedIn fs) chunk))))
+        (λ takes. (made-length .0, sym k, made-length .1, simp (length-append, length-drop) (omega (arith, takes .room, output-room busCalls its (feedIn fs) chunk))))
 
   feed-kept : Kept (feedOn xs fs ram chunk out)
   unfolding feedOn

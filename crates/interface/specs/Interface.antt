@@ -8,7 +8,7 @@ use mathlib.Core.List.{List, [], _++_}
 use lib.Dec.{eqb, ltb}
 use lib.ListN.{length, set, drop}
 use Rattle.limits.specs.Limits.{ramLength, lineCells}
-use Rattle.runs.specs.Runs.{Machine, end}
+use Rattle.runs.specs.Runs.{Machine}
 use Rattle.refusals.specs.declared.Unheard.{Unheard}
 use Rattle.refusals.specs.declared.Refusal.{Refusal}
 use Rattle.refusals.specs.declared.Refusal.the-variants.{NotAcknowledged}
@@ -22,7 +22,7 @@ use Rattle.bus.specs.Unheard.{deafens}
 use Rattle.device.specs.Device.{freshDevice, EventOutcome, hearEvent, StartOutcome, startFrame, DrawOutcome, drawLine, askCell}
 use Rattle.pixel.specs.Ask.{askPixel}
 use Rattle.capture.specs.declared.Feed.{Feed}
-use Rattle.capture.specs.Capture.{Logged, freshFeed, finished, feedAfter, outputFrom, chip, feedVerdict, takenReply, eventsBy, FeedOutcome, feedChunk}
+use Rattle.capture.specs.Capture.{Logged, freshFeed, chip, feedVerdict, takenReply, FeedOutcome, Played, playChunk, eventsBy, feedChunk}
 use Rattle.layout.specs.Layout.{registersAt, registersLength, recordLength, part, isDeaf, putBus, putState, putRegisters, putNext, putFrame, deviceBytes, deviceIn}
 use Rattle.layout.specs.FeedLayout.{feedLength, feedBytes, feedIn}
 
@@ -162,6 +162,9 @@ pub record ChipBytes : Type 0 where
   pub device : List ℕ
   pub ram : List ℕ
 
+abbrev pub lent : (xs ram : List ℕ) → ChipBytes
+lent xs ram = record { device = xs; ram = ram }
+
 -- each fed event is one bus call; its answer is the reply whose number osd_bus gives (Crossing's bus)
 abbrev pub busCalls : Machine ChipBytes Logged Reply
 busCalls =
@@ -185,20 +188,20 @@ pub record FeedDone : Type 0 where
 abbrev pub notFedOn : List ℕ → List ℕ → List ℕ → List ℕ → ℕ → FeedDone
 notFedOn xs fs ram out answer = record { device = xs; feed = fs; ram = ram; out = out; answer = answer }
 
--- the chunk's events, one by one; the feed's record is written anew
-unfoldable pub chunkFedOn : List ℕ → List ℕ → List ℕ → List ℕ → List ℕ → FeedDone
-chunkFedOn xs fs ram chunk out =
-    let f : Feed = feedIn fs in
-    let lent : ChipBytes = record { device = xs; ram = ram } in
-    let es : List Logged = finished f chunk in
-    let written : List ℕ = outputFrom busCalls lent es in
+-- what a chunk's events leave, with the feed's record written anew, and the answer
+abbrev pub playedOn : Played ChipBytes → FeedDone
+playedOn p =
     record {
-      device = end busCalls lent es .device;
-      feed = feedBytes (feedAfter f chunk);
-      ram = end busCalls lent es .ram;
-      out = written ++ drop (length written) out;
-      answer = answerOf (takenReply (feedAfter f chunk) (length written));
+      device = p .state .device;
+      feed = feedBytes (p .feed);
+      ram = p .state .ram;
+      out = p .out;
+      answer = answerOf (takenReply (p .feed) (p .written));
     }
+
+-- taken: each event is one bus call
+unfoldable pub chunkFedOn : (xs fs ram chunk out : List ℕ) → FeedDone
+chunkFedOn xs fs ram chunk out = playedOn (playChunk busCalls (lent xs ram) (feedIn fs) chunk out)
 
 unfoldable pub fedOnBy : Verdict → List ℕ → List ℕ → List ℕ → List ℕ → List ℕ → FeedDone
 fedOnBy passed xs fs ram chunk out = chunkFedOn xs fs ram chunk out

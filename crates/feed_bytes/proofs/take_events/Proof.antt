@@ -13,10 +13,10 @@ use Rattle.bus.specs.Bus.{badKind}
 use Rattle.capture.specs.declared.Feed.{Feed}
 use Rattle.font_file.specs.Checked.{Bytes}
 use Rattle.capture.specs.Places.{from}
-use Rattle.capture.proofs.Laws.{from-bad, from-end, from-first, held-one}
-use Rattle.interface.specs.Interface.{busCalls}
-use Rattle.feed_bytes.specs.Turns.{lent, Place}
-use Rattle.feed_bytes.proofs.Feeds.{from-heard, events-taken}
+use Rattle.capture.proofs.Laws.{from-bad, from-end, from-first, held-one, rest-whole}
+use Rattle.interface.specs.Interface.{lent, busCalls}
+use Rattle.feed_bytes.specs.Turns.{Place}
+use Rattle.feed_bytes.proofs.Feeds.{from-heard}
 use Rattle.feed_bytes.proofs.Runs.{next-place, goes-on, both-run, two-more}
 use Rattle.feed_bytes.proofs.take_events.Statement.{statement}
 use Rattle.feed_bytes.proofs.take_events.Tie as tie
@@ -62,10 +62,10 @@ returns : tie.Need-returns Inv-loop μ-loop
 returns c =
     let l = c .before .before .before .loop in
     let a = c .before .before .before .before .before .before .before .before .before .before .args in
-    events-taken (now (a .device)) (now (a .ram)) (a .feed) (now (a .chunk)) (now (a .out)) (c .before .before .before .before .before .before .before .before .before .before .pre .1 .1)
-    (sym (from-bad busCalls _ (now (a .chunk)) _ (l .i) (l .out) _ (c .before .before .loop-test .taken) (sym (ap badKind (c .before .kind-at .ensures)) ∙ lt-ltb 3 _ (c .if1 .taken)))
+    sym (from-bad busCalls _ (now (a .chunk)) _ (l .i) (l .out) _ (c .before .before .loop-test .taken) (sym (ap badKind (c .before .kind-at .ensures)) ∙ lt-ltb 3 _ (c .if1 .taken)))
     ∙ l .inv .9
-    ∙ from-first busCalls _ (a .feed) (now (a .chunk)) _ _ _ (c .before .before .before .before .before .held-kind .ensures) (c .before .before .before .before .held-bytes .ensures) (c .before .before .before .before .before .before .before .before .before .before .pre .1 .0))
+    ∙ from-first busCalls _ (a .feed) (now (a .chunk)) _ _ _ (c .before .before .before .before .before .held-kind .ensures) (c .before .before .before .before .held-bytes .ensures) (c .before .before .before .before .before .before .before .before .before .before .pre .1 .0)
+    ∙ rest-whole busCalls _ (a .feed) (now (a .chunk)) (now (a .out)) (c .before .before .before .before .before .before .before .before .before .before .pre .1 .1)
 
 write-run-requires : tie.Need-write-run-requires Inv-loop μ-loop
 write-run-requires c κs =
@@ -125,11 +125,11 @@ returns-2 c =
     let a = c .before .before .before .before .before .before .before .before .before .args in
     let kind : ℕ = c .before .before .before .before .held-kind .result in
     let n : ℕ = l .i - (1 - c .before .before .before .held-bytes .result) in
-    ap (λ (f : Feed). record { device = l .device; ram = l .ram; out = l .out; feed = f; written = n }) (c .feed-at .ensures)
-    ∙ events-taken (now (a .device)) (now (a .ram)) (a .feed) (now (a .chunk)) (now (a .out)) (c .before .before .before .before .before .before .before .before .before .pre .1 .1)
-    (sym (from-end busCalls _ (now (a .chunk)) kind (l .i) (l .out) n (c .before .loop-test .left))
+    ap (λ (f : Feed). record { state = lent (l .device) (l .ram); feed = f; out = l .out; written = n }) (c .feed-at .ensures)
+    ∙ sym (from-end busCalls _ (now (a .chunk)) kind (l .i) (l .out) n (c .before .loop-test .left))
     ∙ l .inv .9
-    ∙ from-first busCalls _ (a .feed) (now (a .chunk)) _ _ _ (c .before .before .before .before .held-kind .ensures) (c .before .before .before .held-bytes .ensures) (c .before .before .before .before .before .before .before .before .before .pre .1 .0))
+    ∙ from-first busCalls _ (a .feed) (now (a .chunk)) _ _ _ (c .before .before .before .before .held-kind .ensures) (c .before .before .before .held-bytes .ensures) (c .before .before .before .before .before .before .before .before .before .pre .1 .0)
+    ∙ rest-whole busCalls _ (a .feed) (now (a .chunk)) (now (a .out)) (c .before .before .before .before .before .before .before .before .before .pre .1 .1)
 
 pub take-events-spec : {M : Type 1} → statement M
 take-events-spec =

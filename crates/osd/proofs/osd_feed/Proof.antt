@@ -6,10 +6,10 @@ use native.Mathlib.Omega.{arith}
 use borrow.Author.Needs.{needs}
 use denote.Ref.{now}
 use Rattle.capture.specs.declared.Feed.{Feed}
-use Rattle.capture.specs.Capture.{isShut}
+use Rattle.capture.specs.Capture.{isShut, playChunk}
 use Rattle.capture.proofs.Laws.{held-one, finds-ram, finds-shut, finds-room, finds-none}
 use Rattle.interface.proofs.Laws.{feed-not}
-use Rattle.feed_bytes.specs.Turns.{eventsOn}
+use Rattle.interface.specs.Interface.{lent, busCalls}
 use Rattle.feed_bytes.proofs.Feeds.{feed-refused, feed-taken}
 use Rattle.osd.proofs.osd_feed.Statement.{statement}
 use Rattle.osd.proofs.osd_feed.Tie as tie
@@ -64,7 +64,7 @@ returns-7 c =
       not-shut = ap isShut (sym (c .before .before .before .before .before .before .before .before .before .before .before .before .before .before .before .before .before .before .before .feed-in .ensures)) ∙ sym (c .before .before .before .before .before .before .before .before .before .before .before .before .before .before .before .before .before .before .shut .ensures) ∙ c .before .before .before .before .before .before .before .before .before .before .before .before .before .before .before .before .before .if5 .left;
       room = rw (c .before .before .before .before .before .before .before .before .before .before .before .before .before .before .before .before .held-bytes .ensures, c .before .before .before .before .before .before .before .before .before .before .before .before .before .before .before .before .before .before .before .feed-in .ensures) at (c .before .before .before .before .before .before .before .before .before .before .before .before .before .before .before .if6 .left);
     }))
-    (t .take-events .ensures ∙ ap (λ (f : Feed). eventsOn (now (a .device)) (now (a .ram)) f (now (a .chunk)) (now (a .out))) (c .before .before .before .before .before .before .before .before .before .before .before .before .before .before .before .before .before .before .before .feed-in .ensures))
+    (t .take-events .ensures ∙ ap (λ (f : Feed). playChunk busCalls (lent (now (a .device)) (now (a .ram))) f (now (a .chunk)) (now (a .out))) (c .before .before .before .before .before .before .before .before .before .before .before .before .before .before .before .before .before .before .before .feed-in .ensures))
     (c .before .before .before .write-feed .ensures) (c .fed .ensures)
 
 pub osd-feed-spec : {M : Type 1} → statement M
