@@ -49,10 +49,10 @@ use Rattle.capture.proofs.Laws.{held-one, output-room, by-verdict, taken-value}
 use Rattle.pixel.specs.Pixel.{pixelAt}
 use Rattle.pixel.specs.Ask.{pixelVerdict, pixelBy, askPixel}
 use Rattle.pixel.proofs.Lines as pixel
-use Rattle.layout.specs.Layout.{busAt, registersAt, registersLength, recordLength, part, isDeaf, registersIn, putBus, putRegisters, putNext, deviceIn}
+use Rattle.layout.specs.Layout.{busAt, registersAt, registersLength, recordLength, part, isDeaf, registersIn, putBus, putRegisters, registerBytes, putNext, deviceIn}
 use Rattle.layout.specs.FeedLayout.{feedLength, feedIn}
 use Rattle.layout.proofs.Laws.{putBus-length, putRegisters-length, putNext-length, putFrame-length, withBus, withRegisters, read-back, event-back, deaf-back, draw-back, start-back, feed-back}
-use Rattle.interface.specs.Interface.{answerOf, replyIn, notTaken, isRecord, Done, freshOn, BusDone, ignoredOn, heardOn, busOn, startedOn, startOn, DrawDone, drawnOn, drawOn, pixelOn, isFeed, chunkMax, FeedMade, feedFreshOn, ChipBytes, lent, busCalls, FeedDone, notFedOn, chunkFedOn, fedOnBy, verdictOn, rightLengths, feedOn, fontWriteOn, fontReadOn, Crossing}
+use Rattle.interface.specs.Interface.{answerOf, replyIn, notTaken, isRecord, Done, freshOn, BusDone, ignoredOn, heardOn, busOn, startedOn, startOn, DrawDone, drawnOn, drawOn, pixelOn, isFeed, chunkMax, FeedMade, feedFreshOn, ChipBytes, lent, busCalls, FeedDone, notFedOn, chunkFedOn, fedOnBy, verdictOn, lengthsTaken, feedOn, fontWriteOn, fontReadOn, Crossing}
 use Rattle.interface.proofs.Laws.{if-taken, ignored-same, fresh-not, bus-is, bus-not-record, bus-not-kind, start-not, draw-not, cell-not, pixel-not, feed-fresh-not, feed-not, cell-is, pixel-is, feed-tests, feed-is}
 
 -- ---- an event that is not acknowledged
@@ -419,7 +419,7 @@ module _ (xs fs ram chunk out : List ℕ) where
   feed-kept : Kept (feedOn xs fs ram chunk out)
   unfolding feedOn
   feed-kept =
-      if-taken Kept (rightLengths xs fs chunk) _ _
+      if-taken Kept (lengthsTaken xs fs chunk) _ _
       (λ t. let p = feed-tests xs fs chunk t in fed-kept (p .0) (p .1) (p .2))
       (refl, refl, refl, refl)
 
@@ -497,7 +497,7 @@ pixel-value r ram font lines frame x y =
 -- ---- one pixel
 
 pixel-by-registers : (xs ys ram font : List ℕ) (lines frame x y : ℕ) → length xs ≡ length ys
-    → part registersAt registersLength xs ≡ part registersAt registersLength ys
+    → registerBytes xs ≡ registerBytes ys
     → pixelOn xs ram font lines frame x y ≡ pixelOn ys ram font lines frame x y
 unfolding pixelOn
 pixel-by-registers xs ys ram font lines frame x y e p =

@@ -1,7 +1,7 @@
 -- The proof that a cut does not matter over bytes (specs/Cuts.antt): a feed leaves and writes what its bytes say, and two chunks do what
 -- one chunk of both does.
 -- Assumes nothing.
-use Prim.Native.Nat.{ℕ, _%_}
+use Prim.Native.Nat.{ℕ}
 use mathlib.Core.Path.{_≡_, refl, sym, ap, _∙_}
 use mathlib.Core.Bool.{true, cond}
 use mathlib.Core.List.{List, _++_}
@@ -18,7 +18,7 @@ use Rattle.capture.proofs.Laws.{by-verdict}
 use Rattle.capture.proofs.Cuts.{shut-is, shut-finishes, shut-stays, after-append, end-both, output-both, same-cut, two-cuts}
 use Rattle.layout.specs.FeedLayout.{feedBytes, feedIn}
 use Rattle.layout.proofs.Laws.{feed-back}
-use Rattle.interface.specs.Interface.{answerOf, replyIn, ChipBytes, busCalls, FeedDone, notFedOn, chunkFedOn, fedOnBy, rightLengths, feedOn}
+use Rattle.interface.specs.Interface.{answerOf, replyIn, ChipBytes, busCalls, FeedDone, notFedOn, chunkFedOn, fedOnBy, lengthsTaken, feedOn}
 use Rattle.interface.specs.Cuts.{feedsOn, FitsBytes, AnyCutBytes, TwoCutsBytes}
 use Rattle.interface.specs.OnePage.{State, lentIn}
 use Rattle.interface.proofs.Laws.{if-taken, feed-tests}
@@ -97,7 +97,7 @@ fitted : (s : State) (c : Chunk) → FitsBytes (feedsOn .answer s c .reply) → 
 unfolding feedOn fedOnBy
 fitted s c =
     let f : Feed = feedIn (s .feed) in
-    if-taken (λ (r : FeedDone). FitsBytes (replyIn (r .answer)) → Fitted s c r) (rightLengths (s .device) (s .feed) (c .bytes)) _ _
+    if-taken (λ (r : FeedDone). FitsBytes (replyIn (r .answer)) → Fitted s c r) (lengthsTaken (s .device) (s .feed) (c .bytes)) _ _
     (λ t.
     by-verdict (λ (v : Verdict).
     let r : FeedDone = fedOnBy v (s .device) (s .feed) (s .ram) (c .bytes) (c .out) in FitsBytes (replyIn (r .answer)) → Fitted s c r)

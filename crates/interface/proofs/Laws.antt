@@ -18,7 +18,7 @@ use Rattle.layout.specs.Layout.{busAt, recordLength, isDeaf, stateByte, deviceI
 use Rattle.layout.specs.FeedLayout.{feedLength}
 use Rattle.layout.proofs.Laws.{numbered, state-byte}
 use Rattle.interface.specs.Interface as face
-use Rattle.interface.specs.Interface.{valueBound, answerOf, isAccepted, notTaken, isRecord, freshOn, ignoredOn, heardOn, busOn, startedOn, startOn, drawnOn, drawOn, cellOn, pixelOn, isFeed, chunkMax, feedFreshOn, notFedOn, fedOnBy, verdictOn, rightLengths, feedOn}
+use Rattle.interface.specs.Interface.{valueBound, answerOf, isAccepted, notTaken, isRecord, freshOn, ignoredOn, heardOn, busOn, startedOn, startOn, drawnOn, drawOn, cellOn, pixelOn, isFeed, chunkMax, feedFreshOn, notFedOn, fedOnBy, verdictOn, lengthsTaken, feedOn}
 
 -- what holds of a call that the interface's own tests let through, and of one that they do not, holds of the call
 pub if-taken : {A : Type 0} (P : A → Type 0) (t : Bool) (x y : A) → (t ≡ true → P x) → P y → P (cond t x y)
@@ -32,7 +32,7 @@ both-tests n m k most t =
     (eqb-true _ _ (p .0), ltb-false _ _ (not-true _ (p .1)))
 
 -- those of a feed: the lengths of both records and of the chunk
-pub feed-tests : (xs fs chunk : List ℕ) → rightLengths xs fs chunk ≡ true → (length xs ≡ recordLength) × (length fs ≡ feedLength) × (length chunk ≤ chunkMax)
+pub feed-tests : (xs fs chunk : List ℕ) → lengthsTaken xs fs chunk ≡ true → (length xs ≡ recordLength) × (length fs ≡ feedLength) × (length chunk ≤ chunkMax)
 feed-tests xs fs chunk t =
     let p = and-eq-true-iff (isRecord xs) (isFeed fs && not (ltb chunkMax (length chunk))) .0 t in
     let q = both-tests (length fs) feedLength (length chunk) chunkMax (p .1) in
@@ -79,7 +79,7 @@ pub feed-not : (xs fs ram chunk out : List ℕ) → (length xs ≡ recordLength 
     → notFedOn xs fs ram out notTaken ≡ feedOn xs fs ram chunk out
 unfolding feedOn
 feed-not xs fs ram chunk out h =
-    if-taken (λ (r : face.FeedDone). notFedOn xs fs ram out notTaken ≡ r) (rightLengths xs fs chunk) _ _
+    if-taken (λ (r : face.FeedDone). notFedOn xs fs ram out notTaken ≡ r) (lengthsTaken xs fs chunk) _ _
     (λ t. let p = feed-tests xs fs chunk t in absurd (h (p .0) (p .1) (p .2))) refl
 
 -- ---- an event that is not acknowledged

@@ -4,9 +4,9 @@
 use Prim.Native.Nat.{ℕ, _+_, _*_, _/_, _%_, _≤_, _<_}
 use mathlib.Core.Path.{_≡_}
 use mathlib.Core.Bool.{Bool, true, not, cond, _&&_}
-use mathlib.Core.List.{List, [], _++_}
+use mathlib.Core.List.{List, []}
 use lib.Dec.{eqb, ltb}
-use lib.ListN.{length, set, drop}
+use lib.ListN.{length}
 use Rattle.limits.specs.Limits.{ramLength, lineCells}
 use Rattle.runs.specs.Runs.{Machine}
 use Rattle.refusals.specs.declared.Unheard.{Unheard}
@@ -15,15 +15,13 @@ use Rattle.refusals.specs.declared.Refusal.the-variants.{NotAcknowledged}
 use Rattle.refusals.specs.Refusals.{numberOf, Reply, refused, Verdict, passed, failed}
 use Rattle.font_file.specs.Checked.{Bytes}
 use Rattle.font_file.specs.FontFile.{blockCount, WriteOutcome, writeFont, ReadOutcome, readFont}
-use Rattle.bus.specs.declared.BusState.{BusState}
 use Rattle.bus.specs.declared.BusState.the-variants.{Deaf, Slave}
 use Rattle.bus.specs.Bus.{eventOf, lastKind, badKind, BusOutcome}
 use Rattle.bus.specs.Unheard.{deafens}
 use Rattle.device.specs.Device.{freshDevice, EventOutcome, hearEvent, StartOutcome, startFrame, DrawOutcome, drawLine, askCell}
 use Rattle.pixel.specs.Ask.{askPixel}
-use Rattle.capture.specs.declared.Feed.{Feed}
 use Rattle.capture.specs.Capture.{Logged, freshFeed, chip, feedVerdict, takenReply, FeedOutcome, Played, playChunk, eventsBy, feedChunk}
-use Rattle.layout.specs.Layout.{registersAt, registersLength, recordLength, part, isDeaf, putBus, putState, putRegisters, putNext, putFrame, deviceBytes, deviceIn}
+use Rattle.layout.specs.Layout.{recordLength, isDeaf, putBus, putState, putRegisters, registerBytes, putNext, putFrame, deviceBytes, deviceIn}
 use Rattle.layout.specs.FeedLayout.{feedLength, feedBytes, feedIn}
 
 -- ---- answers: refusal × 65,536 + value
@@ -32,6 +30,7 @@ use Rattle.layout.specs.FeedLayout.{feedLength, feedBytes, feedIn}
 abbrev pub valueBound : ℕ
 valueBound = 65536
 
+-- a reply as one number
 abbrev pub answerOf : Reply → ℕ
 answerOf r = r .refusal * valueBound + r .value
 
@@ -48,9 +47,11 @@ isAccepted n = ltb n valueBound
 abbrev pub ownRefusal : ℕ
 ownRefusal = 255
 
+-- with value 0
 abbrev pub notTaken : ℕ
 notTaken = answerOf (record { refusal = ownRefusal; value = 0 })
 
+-- a device's record has its 32 bytes
 abbrev pub isRecord : List ℕ → Bool
 isRecord xs = eqb (length xs) recordLength
 
@@ -58,18 +59,20 @@ isRecord xs = eqb (length xs) recordLength
 abbrev pub unlessRefused : Reply → List ℕ → List ℕ → List ℕ
 unlessRefused r new xs = cond (eqb (r .refusal) 0) new xs
 
--- ---- fresh, and reset
+-- ---- osd_fresh, and osd_reset
 
 -- what a call leaves of the record, and its answer
 pub record Done : Type 0 where
   pub device : List ℕ
   pub answer : ℕ
 
+-- the bytes of a fresh device
 unfoldable pub freshOn : List ℕ → Done
 freshOn xs = cond (isRecord xs) (record { device = deviceBytes freshDevice; answer = 0 }) (record { device = xs; answer = notTaken })
 
--- ---- bus event
+-- ---- osd_bus: a bus event
 
+-- what a bus call leaves of the record and the RAM, and its answer
 pub record BusDone : Type 0 where
   pub device : List ℕ
   pub ram : List ℕ
@@ -93,14 +96,15 @@ abbrev pub touched : EventOutcome → BusOutcome
 touched o = record { bus = o .device .bus; registers = o .device .registers; ram = o .ram; reply = o .reply }
 
 -- kind: 0 start, 1 host byte, 2 fetch, 3 stop; the byte is ignored unless the kind is 1
-unfoldable pub busOn : List ℕ → List ℕ → ℕ → ℕ → BusDone
+unfoldable pub busOn : (xs ram : List ℕ) (kind byte : ℕ) → BusDone
 busOn xs ram kind byte =
     cond (isRecord xs && not (badKind kind))
     (heardOn xs (touched (hearEvent (deviceIn xs) ram (eventOf kind byte))))
     (record { device = xs; ram = ram; answer = notTaken })
 
--- ---- frame start
+-- ---- osd_frame_start: a frame start
 
+-- an accepted start puts the frame and the next frame number
 unfoldable pub startedOn : List ℕ → StartOutcome → Done
 startedOn xs o =
     record {
@@ -108,16 +112,19 @@ startedOn xs o =
       answer = answerOf (o .reply);
     }
 
-unfoldable pub startOn : List ℕ → ℕ → Done
+-- the device's frame start
+unfoldable pub startOn : (xs : List ℕ) (lines : ℕ) → Done
 startOn xs lines = cond (isRecord xs) (startedOn xs (startFrame (deviceIn xs) lines)) (record { device = xs; answer = notTaken })
 
--- ---- draw
+-- ---- osd_draw: the frame's next line
 
+-- what a draw leaves of the record and the line buffer, and its answer
 pub record DrawDone : Type 0 where
   pub device : List ℕ
   pub line : List ℕ
   pub answer : ℕ
 
+-- an accepted draw puts the frame
 unfoldable pub drawnOn : List ℕ → DrawOutcome → DrawDone
 drawnOn xs o =
     record {
@@ -126,23 +133,27 @@ drawnOn xs o =
       answer = answerOf (o .reply);
     }
 
-unfoldable pub drawOn : List ℕ → List ℕ → List ℕ → List ℕ → DrawDone
+-- the device's draw
+unfoldable pub drawOn : (xs ram font line : List ℕ) → DrawDone
 drawOn xs ram font line =
     cond (isRecord xs) (drawnOn xs (drawLine (deviceIn xs) ram font line)) (record { device = xs; line = line; answer = notTaken })
 
--- ---- cell question
+-- ---- osd_cell: the cell question
 
-unfoldable pub cellOn : List ℕ → List ℕ → ℕ → ℕ
+-- the device's answer; nothing is written
+unfoldable pub cellOn : (xs ram : List ℕ) (cell : ℕ) → ℕ
 cellOn xs ram cell = cond (isRecord xs) (answerOf (askCell (deviceIn xs) ram cell)) notTaken
 
--- ---- one pixel (document 02, K5)
+-- ---- osd_pixel: one pixel (document 02, K5)
 
-unfoldable pub pixelOn : List ℕ → List ℕ → List ℕ → (lines frame x y : ℕ) → ℕ
+-- the pixel by the record's registers; nothing is written
+unfoldable pub pixelOn : (xs ram font : List ℕ) (lines frame x y : ℕ) → ℕ
 pixelOn xs ram font lines frame x y =
     cond (isRecord xs) (answerOf (askPixel (deviceIn xs .registers) ram font lines frame x y)) notTaken
 
--- ---- feed (document 02, K1)
+-- ---- osd_feed_fresh, and osd_feed: a capture in chunks (document 02, K1)
 
+-- a feed's record has its 2 bytes
 abbrev pub isFeed : List ℕ → Bool
 isFeed fs = eqb (length fs) feedLength
 
@@ -150,14 +161,16 @@ isFeed fs = eqb (length fs) feedLength
 abbrev pub chunkMax : ℕ
 chunkMax = 65534
 
+-- what making a feed leaves of its record, and the answer
 pub record FeedMade : Type 0 where
   pub feed : List ℕ
   pub answer : ℕ
 
+-- the bytes of a feed made anew
 unfoldable pub feedFreshOn : List ℕ → FeedMade
 feedFreshOn fs = cond (isFeed fs) (record { feed = feedBytes freshFeed; answer = 0 }) (record { feed = fs; answer = notTaken })
 
--- the bytes of the device's record and the RAM
+-- the bytes of the device's record and the RAM, as a feed is lent them
 pub record ChipBytes : Type 0 where
   pub device : List ℕ
   pub ram : List ℕ
@@ -185,7 +198,7 @@ pub record FeedDone : Type 0 where
   pub answer : ℕ
 
 -- refused 255, 1, 10, or 9 by a feed already shut: no byte is written
-abbrev pub notFedOn : List ℕ → List ℕ → List ℕ → List ℕ → ℕ → FeedDone
+abbrev pub notFedOn : (xs fs ram out : List ℕ) (answer : ℕ) → FeedDone
 notFedOn xs fs ram out answer = record { device = xs; feed = fs; ram = ram; out = out; answer = answer }
 
 -- what a chunk's events leave, with the feed's record written anew, and the answer
@@ -203,38 +216,45 @@ playedOn p =
 unfoldable pub chunkFedOn : (xs fs ram chunk out : List ℕ) → FeedDone
 chunkFedOn xs fs ram chunk out = playedOn (playChunk busCalls (lent xs ram) (feedIn fs) chunk out)
 
-unfoldable pub fedOnBy : Verdict → List ℕ → List ℕ → List ℕ → List ℕ → List ℕ → FeedDone
+-- by what the feed's tests find
+unfoldable pub fedOnBy : Verdict → (xs fs ram chunk out : List ℕ) → FeedDone
 fedOnBy passed xs fs ram chunk out = chunkFedOn xs fs ram chunk out
 fedOnBy (failed r) xs fs ram chunk out = notFedOn xs fs ram out (answerOf (refused r))
 
-abbrev pub verdictOn : List ℕ → List ℕ → List ℕ → List ℕ → Verdict
+-- those tests, for the feed that its bytes are read as
+abbrev pub verdictOn : (fs ram chunk out : List ℕ) → Verdict
 verdictOn fs ram chunk out = feedVerdict (feedIn fs) (length ram) (length chunk) (length out)
 
-abbrev pub rightLengths : List ℕ → List ℕ → List ℕ → Bool
-rightLengths xs fs chunk = isRecord xs && (isFeed fs && not (ltb chunkMax (length chunk)))
+-- the lengths that the interface takes
+abbrev pub lengthsTaken : (xs fs chunk : List ℕ) → Bool
+lengthsTaken xs fs chunk = isRecord xs && (isFeed fs && not (ltb chunkMax (length chunk)))
 
-unfoldable pub feedOn : List ℕ → List ℕ → List ℕ → List ℕ → List ℕ → FeedDone
+-- the interface's own tests, then the feed's
+unfoldable pub feedOn : (xs fs ram chunk out : List ℕ) → FeedDone
 feedOn xs fs ram chunk out =
-    cond (rightLengths xs fs chunk) (fedOnBy (verdictOn fs ram chunk out) xs fs ram chunk out) (notFedOn xs fs ram out notTaken)
+    cond (lengthsTaken xs fs chunk) (fedOnBy (verdictOn fs ram chunk out) xs fs ram chunk out) (notFedOn xs fs ram out notTaken)
 
 -- the events that a feed makes: none where it is refused before any event
-unfoldable pub fedEventsOn : List ℕ → List ℕ → List ℕ → List ℕ → List ℕ → List Logged
-fedEventsOn xs fs ram chunk out = cond (rightLengths xs fs chunk) (eventsBy (verdictOn fs ram chunk out) (feedIn fs) chunk) []
+unfoldable pub fedEventsOn : (xs fs ram chunk out : List ℕ) → List Logged
+fedEventsOn xs fs ram chunk out = cond (lengthsTaken xs fs chunk) (eventsBy (verdictOn fs ram chunk out) (feedIn fs) chunk) []
 
--- ---- font files (document 02, K8): no record is lent, so nothing is refused with 255
+-- ---- osd_font_write, and osd_font_read: font files (document 02, K8). No record is lent, so nothing is refused with 255
 
--- the bytes of the buffer that a call may write, and its answer
+-- the bytes of the buffer that a write may write, and its answer
 pub record WriteDone : Type 0 where
   pub file : List ℕ
   pub answer : ℕ
 
+-- a font into a file
 unfoldable pub fontWriteOn : (font file : List ℕ) → WriteDone
 fontWriteOn font file = let o : WriteOutcome = writeFont font file in record { file = o .file; answer = answerOf (o .reply) }
 
+-- the bytes of the buffer that a read may write, and its answer
 pub record ReadDone : Type 0 where
   pub font : List ℕ
   pub answer : ℕ
 
+-- a file into a font
 unfoldable pub fontReadOn : (file font : List ℕ) → ReadDone
 fontReadOn file font = let o : ReadOutcome = readFont file font in record { font = o .font; answer = answerOf (o .reply) }
 
@@ -268,7 +288,7 @@ pub record Crossing : Type 0 where
       let r : ReadDone = fontReadOn file font in (r .font ≡ o .font) × (r .answer ≡ answerOf (o .reply))
   -- of the record's bytes a question about a pixel looks at the registers' alone
   pub pixel-alone : (xs ys ram font : List ℕ) (lines frame x y : ℕ) → length xs ≡ length ys
-      → part registersAt registersLength xs ≡ part registersAt registersLength ys
+      → registerBytes xs ≡ registerBytes ys
       → pixelOn xs ram font lines frame x y ≡ pixelOn ys ram font lines frame x y
   -- refused with 255: nothing changes
   pub not-taken : (xs ram font line : List ℕ) (kind byte lines c frame x y : ℕ) → (length xs ≡ recordLength → ⊥)

@@ -178,6 +178,10 @@ stateByte xs = getD xs busAt 0
 abbrev pub putRegisters : Registers → List ℕ → List ℕ
 putRegisters r xs = put registersAt (r .bytes) xs
 
+-- the registers' bytes in a record
+abbrev pub registerBytes : List ℕ → List ℕ
+registerBytes xs = part registersAt registersLength xs
+
 -- with another next frame number
 abbrev pub putNext : ℕ → List ℕ → List ℕ
 putNext n xs = put nextAt (nextBytes n) xs

@@ -1,4 +1,5 @@
-// The device record in 32 lent bytes, as parts at offsets (include/osd.h has the table). Any bytes are some record.
+// The device record in 32 lent bytes, as parts at offsets, and the feed's record in 2 (include/osd.h has the tables). Any bytes are some
+// record.
 ghost use mathlib.Core.Path.{_≡_};
 ghost use mathlib.Core.Bool.{cond};
 ghost use mathlib.Core.List.{_∷_};
@@ -16,6 +17,8 @@ use raster::ScanLine;
 use registers::Registers;
 use walk::Strip;
 use walk::Walk;
+
+pub const DEVICE_LENGTH: usize = 32;
 
 // Where each part begins, and its length.
 pub const BUS_AT: usize = 0;

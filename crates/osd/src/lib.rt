@@ -10,8 +10,6 @@ use device::DrawAnswer;
 use device::StartAnswer;
 use refusals::Refusal;
 
-const DEVICE_LENGTH: usize = 32;
-
 // The longest chunk: a value has 16 bits.
 const CHUNK_MAX: usize = 65534;
 
@@ -22,14 +20,14 @@ const NOT_TAKEN: u32 = 0xFF0000;
 pub extern "C" fn osd_device_len() -> u32
     ensures { λ r. ⌜ r ≡ recordLength ⌝ }
 {
-    DEVICE_LENGTH as u32
+    layout::DEVICE_LENGTH as u32
 }
 
 #[no_mangle]
 pub extern "C" fn osd_fresh(device: &mut [u8]) -> u32
     ensures { λ r. ⌜ record { device = now (device .exit); answer = r } ≡ freshOn (now (device .entry)) ⌝ }
 {
-    if device.len() != DEVICE_LENGTH {
+    if device.len() != layout::DEVICE_LENGTH {
         return NOT_TAKEN;
     }
     layout::write_device(device, Device::fresh());
@@ -50,7 +48,7 @@ pub extern "C" fn osd_reset(device: &mut [u8]) -> u32
 pub extern "C" fn osd_bus(device: &mut [u8], ram: &mut [u8], kind: u8, byte: u8) -> u32
     ensures { λ r. ⌜ record { device = now (device .exit); ram = now (ram .exit); answer = r } ≡ busOn (now (device .entry)) (now (ram .entry)) kind byte ⌝ }
 {
-    if device.len() != DEVICE_LENGTH {
+    if device.len() != layout::DEVICE_LENGTH {
         return NOT_TAKEN;
     }
     if kind > bus::STOP {
@@ -77,7 +75,7 @@ pub extern "C" fn osd_bus(device: &mut [u8], ram: &mut [u8], kind: u8, byte: u8)
 pub extern "C" fn osd_frame_start(device: &mut [u8], lines: u32) -> u32
     ensures { λ r. ⌜ record { device = now (device .exit); answer = r } ≡ startOn (now (device .entry)) lines ⌝ }
 {
-    if device.len() != DEVICE_LENGTH {
+    if device.len() != layout::DEVICE_LENGTH {
         return NOT_TAKEN;
     }
     let done = layout::device_in(device).start_frame(lines);
@@ -102,7 +100,7 @@ pub extern "C" fn osd_draw<'a>(
 ) -> u32
     ensures { λ r. ⌜ record { device = now (device .exit); line = now (line .exit); answer = r } ≡ drawOn (now (device .entry)) (now (ram .entry)) (now (font .entry)) (now (line .entry)) ⌝ }
 {
-    if device.len() != DEVICE_LENGTH {
+    if device.len() != layout::DEVICE_LENGTH {
         return NOT_TAKEN;
     }
     let before = layout::device_in(device);
@@ -123,7 +121,7 @@ pub extern "C" fn osd_draw<'a>(
 pub extern "C" fn osd_cell(device: &[u8], ram: &[u8], cell: u32) -> u32
     ensures { λ r. ⌜ r ≡ cellOn (now (device .entry)) (now (ram .entry)) cell ⌝ }
 {
-    if device.len() != DEVICE_LENGTH {
+    if device.len() != layout::DEVICE_LENGTH {
         return NOT_TAKEN;
     }
     let reply = layout::device_in(device).ask(ram, cell);
@@ -143,7 +141,7 @@ pub extern "C" fn osd_pixel<'a>(
 ) -> u32
     ensures { λ r. ⌜ r ≡ pixelOn (now (device .entry)) (now (ram .entry)) (now (font .entry)) lines frame x y ⌝ }
 {
-    if device.len() != DEVICE_LENGTH {
+    if device.len() != layout::DEVICE_LENGTH {
         return NOT_TAKEN;
     }
     let reply = pixel::ask(layout::device_in(device), ram, font, lines, frame, x, y);
@@ -179,7 +177,7 @@ pub extern "C" fn osd_feed(
 ) -> u32
     ensures { λ r. ⌜ record { device = now (device .exit); feed = now (feed .exit); ram = now (ram .exit); out = now (out .exit); answer = r } ≡ feedOn (now (device .entry)) (now (feed .entry)) (now (ram .entry)) (now (chunk .entry)) (now (out .entry)) ⌝ }
 {
-    if device.len() != DEVICE_LENGTH {
+    if device.len() != layout::DEVICE_LENGTH {
         return NOT_TAKEN;
     }
     if feed.len() != layout::FEED_LENGTH {
