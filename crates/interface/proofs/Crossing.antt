@@ -11,7 +11,7 @@ use lib.Dec.{T, eqb, leb, ltb}
 use lib.ListN.{length, getD, drop, length-append, length-set, length-take, length-drop, List·getD-eq-default}
 use Rattle.facts.proofs.Choice.{either}
 use Rattle.facts.proofs.Parts.{getD-part}
-use Rattle.limits.specs.Limits.{ramLength, fontLength, noFrame, lineCells}
+use Rattle.limits.specs.Limits.{ramLength, fontLength, badLineCount, lineCells}
 use Rattle.runs.specs.Runs.{end, AsMade}
 use Rattle.runs.proofs.Laws.{kept-by-each, end-read, log-read}
 use Rattle.cells.specs.Reading.{value, among}
@@ -480,7 +480,7 @@ unfolding askPixel pixelVerdict pixelBy
 pixel-value r ram font lines frame x y =
     either P (not (eqb (length ram) ramLength)) _ _ (omega arith)
     (either P (not (eqb (length font) fontLength)) _ _ (omega arith)
-    (either P (noFrame lines) _ _ (omega arith) (by (leb width x) refl)))
+    (either P (badLineCount lines) _ _ (omega arith) (by (leb width x) refl)))
   where
     width : ℕ
     width = widthOf (settingsOf r .ld)

@@ -26,7 +26,7 @@ use Rattle.calls.proofs.Calls.{View, draws, asks, acts, view}
 use Rattle.calls.proofs.Pixels.{At, one-call, Lines, none-yet, same-pixel}
 use Rattle.layout.specs.Layout.{recordLength}
 use Rattle.layout.specs.FeedLayout.{feedIn}
-use Rattle.interface.specs.Interface.{answerOf}
+use Rattle.interface.specs.Interface.{answerOf, isAccepted}
 use Rattle.interface.specs.OnePage.{State, lentIn, answer, after, calls, chipIn, reads, heard}
 use Rattle.interface.specs.Pixels.{started, StayPut, StayPutBytes, PixelsAgreeBytes}
 use Rattle.interface.proofs.Laws.{refusal-zero}

@@ -4,7 +4,6 @@
 -- Assumes nothing.
 use Prim.Native.Nat.{ℕ, _%_, _≤_, _<_}
 use mathlib.Core.Path.{_≡_}
-use mathlib.Core.Bool.{Bool}
 use mathlib.Core.List.{List}
 use lib.ListN.{length, getD}
 use Rattle.limits.specs.Limits.{ramLength, fontLength, frameLines}
