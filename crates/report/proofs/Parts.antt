@@ -10,11 +10,12 @@ use borrow.Author.Tests.{ne-eqb, eqb-true, le-ltb, le-leb}
 use lib.Dec.{eqb}
 use lib.ListN.{length, drop, replicate, length-append, length-take, length-drop, length-replicate}
 use lib.Seq.{take-append-seam}
+use Rattle.limits.specs.Limits.{ramLength, fontLength}
 use Rattle.line.proofs.Laws.{paint-length}
 use Rattle.device.specs.declared.Device.{Device}
 use Rattle.device.specs.Device.{StartOutcome, DrawOutcome, lineWidth, pixelsOf, lineOn, lineDrawn}
 use Rattle.device.proofs.Laws.{draw-passed}
-use Rattle.report.specs.Report.{ramPart, fontPart, benchStart, refusalText, headingText, lineText, TextOutcome, writeText, LineOutcome, nextDraw, linesText, benchText}
+use Rattle.report.specs.Report.{inputLength, ramPart, fontPart, benchStart, refusalText, headingText, lineText, TextOutcome, writeText, LineOutcome, nextDraw, linesText, benchText}
 use Rattle.report.specs.Parts.{printed, lineParts, frameParts, benchParts, JoinedParts}
 use Rattle.report.proofs.Texts.{places-few, text-drawn, width-most, refusal-long, heading-long, line-long}
 
@@ -40,10 +41,11 @@ module _ (text out : List ℕ) (fits : length text ≤ length out) where
 
 -- ---- a line of a frame is drawn
 
-module _ (d : Device) (ram font : List ℕ) (n : ℕ) (some : d .frame .left ≡ suc n) (r : length ram ≡ 1024) (f : length font ≡ 4608) where
+module _ (d : Device) (ram font : List ℕ) (n : ℕ) (some : d .frame .left ≡ suc n)
+    (r : length ram ≡ ramLength) (f : length font ≡ fontLength) where
   drawn-is : nextDraw d ram font ≡ lineDrawn d ram font (replicate (lineWidth d) 0)
   drawn-is =
-      draw-passed d ram font (replicate (lineWidth d) 0) r f (λ z. omega arith) (omega (arith, length-replicate {A = ℕ} (lineWidth d) 0))
+      draw-passed d ram font _ r f (λ z. omega arith) (omega (arith, length-replicate {A = ℕ} (lineWidth d) 0))
 
   drawn-accepted : nextDraw d ram font .reply .refusal ≡ 0
   unfolding lineDrawn
@@ -67,7 +69,8 @@ module _ (d : Device) (ram font : List ℕ) (n : ℕ) (some : d .frame .left ≡
       let o : DrawOutcome = nextDraw d ram font in
       omega (arith, drawn-long, line-long (o .line) (o .reply .value), places-few (o .reply .value))
 
-lines-joined : (n : ℕ) (d : Device) (ram font out : List ℕ) → d .frame .left ≡ n → length ram ≡ 1024 → length font ≡ 4608 → 1024 ≤ length out
+lines-joined : (n : ℕ) (d : Device) (ram font out : List ℕ) → d .frame .left ≡ n
+    → length ram ≡ ramLength → length font ≡ fontLength → 1024 ≤ length out
     → flatten (lineParts n d ram font out) ≡ linesText n d ram font
 unfolding lineParts linesText flatten
 lines-joined zero d ram font out e r f h = refl
@@ -78,17 +81,18 @@ lines-joined (suc n) d ram font out e r f h =
     ap (λ (l : LineOutcome). printed (l .text) ++ flatten (lineParts n (l .device) ram font (l .text .out)))
     (sym (text-drawn o out (writeText text out) (drawn-accepted d ram font n e r f) refl))
     ∙ ap₂ (λ (k l : List ℕ). k ++ l) (printed-whole text out fits)
-    (lines-joined n (o .device) ram font (writeText text out .out) (drawn-left d ram font n e r f) r f (omega (arith, kept-long text out fits)))
+    (lines-joined n (o .device) ram font (writeText text out .out) (drawn-left d ram font n e r f) r f
+    (omega (arith, kept-long text out fits)))
 
 -- ---- a start that is accepted has an input of the right length
 
-start-long : (input : List ℕ) → benchStart input .reply .refusal ≡ 0 → length input ≡ 5650
+start-long : (input : List ℕ) → benchStart input .reply .refusal ≡ 0 → length input ≡ inputLength
 unfolding benchStart
-start-long input z = by (ℕ-discrete (length input) 5650)
+start-long input z = by (ℕ-discrete (length input) inputLength)
   where
-    by : Dec (length input ≡ 5650) → length input ≡ 5650
+    by : Dec (length input ≡ inputLength) → length input ≡ inputLength
     by (yes e) = e
-    by (no n) = absurd (omega (arith, rw (ne-eqb (length input) 5650 n) at z))
+    by (no n) = absurd (omega (arith, rw (ne-eqb (length input) inputLength n) at z))
 
 -- ---- the claim
 
@@ -108,13 +112,14 @@ joined-parts input short long h k = by (eqb (o .reply .refusal) 0) refl
         ≡ cond t (headingText left (lineWidth (o .device)) ++ linesText left (o .device) (ramPart input) (fontPart input))
         (refusalText (o .reply .refusal))
     by true e =
-        let whole : length input ≡ 5650 = start-long input (eqb-true (o .reply .refusal) 0 e) in
+        let whole : length input ≡ inputLength = start-long input (eqb-true (o .reply .refusal) 0 e) in
         let heading : List ℕ = headingText left (lineWidth (o .device)) in
         let fits : length heading ≤ length long =
         omega (arith, heading-long left (lineWidth (o .device)), places-few left, places-few (lineWidth (o .device))) in
         ap₂ (λ (x y : List ℕ). x ++ y) (printed-whole heading long fits)
         (lines-joined left (o .device) (ramPart input) (fontPart input) (writeText heading long .out) refl
-        (simp length-take (omega arith)) (simp (length-take, length-drop) (omega arith)) (omega (arith, kept-long heading long fits)))
+        (simp length-take (omega arith)) (simp (length-take, length-drop) (omega arith))
+        (omega (arith, kept-long heading long fits)))
     by false e =
         let refusal : List ℕ = refusalText (o .reply .refusal) in
         append-nil (printed (writeText refusal short))

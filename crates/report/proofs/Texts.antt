@@ -2,17 +2,17 @@
 -- Assumes nothing.
 use Prim.Native.Nat.{ℕ, zero, suc, _+_, _-_, _/_, _≤_, _<_, min}
 use mathlib.Core.Path.{_≡_, refl, sym, ap, ap₂, _∙_}
-use mathlib.Core.List.{List, [], _∷_, _++_, append-assoc}
-use native.Mathlib.Nat.{not-suc-le-zero, le-of-suc-le-suc}
+use mathlib.Core.List.{List, [], _∷_, _++_}
+use native.Mathlib.Nat.{not-suc-le-zero, le-of-suc-le-suc, zero-add}
 use native.Mathlib.Decide.{decLe}
 use native.Mathlib.Omega.{arith}
 use lib.Dec.{ltb}
 use borrow.Author.Tests.{eq-eqb, ne-eqb, lt-ltb, le-ltb}
-use borrow.Rule.Slice.PartMut.{putMid, post-is, mid-len}
 use lib.ListN.{length, take, drop, replicate, length-append, length-drop, length-map, drop-of-length-le}
-use lib.Seq.{take-all, take-nil, take-at, drop-at, drop-drop, sets-eq}
+use lib.Seq.{take-all, take-nil, sets, sets-eq}
 use Rattle.facts.proofs.Choice.{either}
-use Rattle.facts.proofs.Parts.{copied}
+use Rattle.facts.proofs.Parts.{sets-append}
+use Rattle.buffers.specs.Buffers.{bytesOf}
 use Rattle.registers.proofs.Laws.{ld-bound}
 use Rattle.device.specs.declared.Device.{Device}
 use Rattle.device.specs.Device.{DrawOutcome, lineWidth}
@@ -54,57 +54,27 @@ decimal-length n = digits-length (placesOf n) n
 pub places-few : (n : ℕ) → placesOf n ≤ 5
 places-few n =
     let few = either (λ (k : ℕ). k ≤ 5) in
-    few (ltb n 10) 1 _ (omega arith) (few (ltb n 100) 2 _ (omega arith) (few (ltb n 1000) 3 _ (omega arith) (few (ltb n 10000) 4 5 (omega arith) (omega arith))))
-
--- ---- a part of a text at a place
-
-pub put-is : (next part out : List ℕ) (at e : ℕ) → part ≡ next → e ≡ at + length next → Put next at out e (putMid at (e - at) out part)
-put-is next part out at e p q =
-    record {
-      next = q;
-      written =
-          ap₂ (λ (k l : List ℕ). take at out ++ (k ++ l)) p
-          (post-is at e out (omega arith) ∙ ap (λ (n : ℕ). drop n out) q);
-    }
-
-pub put-copied : (next part out : List ℕ) (at : ℕ) → at + length next ≤ length out
-    → part ≡ take (length next) next ++ drop (length next) (take (at + length next - at) (drop at out))
-    → Put next at out (at + length next) (putMid at (at + length next - at) out part)
-put-copied next part out at h p =
-    record { next = refl; written = copied out next at (at + length next - at) part h (omega arith) p ∙ sets-eq next out at h ∙ append-assoc (take at out) next _ }
-
-pub put-decimal : (n : ℕ) (part out : List ℕ) (at e : ℕ) → e ≡ at + placesOf n → e ≤ length out
-    → part ≡ digits (length (take (e - at) (drop at out))) n → Put (decimal n) at out e (putMid at (e - at) out part)
-put-decimal n part out at e q h p =
-    let room : length (take (e - at) (drop at out)) ≡ placesOf n = mid-len at e out h ∙ omega arith in
-    put-is (decimal n) part out at e (p ∙ ap (λ (k : ℕ). digits k n) room) (omega (arith, decimal-length n))
+    few (ltb n 10) 1 _ (omega arith) (few (ltb n 100) 2 _ (omega arith)
+    (few (ltb n 1000) 3 _ (omega arith) (few (ltb n 10000) 4 5 (omega arith) (omega arith))))
 
 -- ---- a text that is written part by part
 
--- the text stands before `at`, the later bytes stay
+-- the text is put at the start, and ends at `at`
 pub record Upto (out₀ text : List ℕ) (at : ℕ) (out : List ℕ) : Type 0 where
   pub long : length text ≡ at
-  pub is : out ≡ text ++ drop at out₀
+  pub is : out ≡ sets out₀ 0 text
 
 pub upto-none : (out : List ℕ) → Upto out [] 0 out
 upto-none out = record { long = refl; is = refl }
 
-module _ (out₀ text : List ℕ) (a : ℕ) (out : List ℕ) (u : Upto out₀ text a out) where
+module _ {out₀ text : List ℕ} {a : ℕ} {out : List ℕ} (u : Upto out₀ text a out) where
   -- one part more
-  pub upto-part : (part : List ℕ) (e : ℕ) (out′ : List ℕ) → Put part a out e out′ → Upto out₀ (text ++ part) e out′
-  upto-part part e out′ p =
-      let before : take a out ≡ text = ap (take a) (u .is) ∙ take-at text (drop a out₀) a (u .long) in
-      let after : drop a out ≡ drop a out₀ = ap (drop a) (u .is) ∙ drop-at text (drop a out₀) a (u .long) in
+  pub upto-part : {part : List ℕ} {n e : ℕ} {out′ : List ℕ} → Put part n a out e out′ → Upto out₀ (text ++ part) e out′
+  upto-part {part} p =
+      let at : a ≡ 0 + length text = omega (arith, u .long) in
       record {
-        long = simp length-append (omega (arith, u .long, p .next));
-        is =
-            p .written
-            ∙ ap₂ (λ (k l : List ℕ). k ++ (part ++ l)) before
-            (sym (drop-drop (length part) a out)
-            ∙ ap (drop (length part)) after
-            ∙ drop-drop (length part) a out₀
-            ∙ ap (λ (n : ℕ). drop n out₀) (sym (p .next)))
-            ∙ sym (append-assoc text part (drop e out₀));
+        long = simp length-append (omega (arith, u .long, p .next, p .long));
+        is = rw (p .written, u .is, at) (sets-append out₀ text part 0);
       }
 
   -- the whole text is written
@@ -112,7 +82,7 @@ module _ (out₀ text : List ℕ) (a : ℕ) (out : List ℕ) (u : Upto out₀ te
   unfolding writeText
   upto-whole h =
       rw (le-ltb (length out₀) (length text) (omega (arith, u .long)), u .long)
-      (ap (textOutcome a) (u .is))
+      (ap (textOutcome a) (u .is ∙ sets-eq text out₀ 0 (omega (arith, u .long)) ∙ rw (zero-add, u .long)))
 
 -- there is no room for the text
 pub too-short : (text out : List ℕ) → length out < length text → textOutcome 0 out ≡ writeText text out
@@ -147,10 +117,13 @@ blank (suc n) (suc k) h = ap (λ (l : List ℕ). 0 ∷ l) (blank n k (le-of-suc-
 -- ---- how long the texts are
 
 pub refusal-long : (n : ℕ) → length (refusalText n) ≡ 9 + placesOf n
+unfolding bytesOf
 refusal-long n = simp (length-append, digits-length) (omega arith)
 
 pub heading-long : (lines width : ℕ) → length (headingText lines width) ≡ 14 + placesOf lines + placesOf width
+unfolding bytesOf
 heading-long lines width = simp (length-append, digits-length) (omega arith)
 
 pub line-long : (pixels : List ℕ) (cells : ℕ) → length (lineText pixels cells) ≡ length pixels + 2 + placesOf cells
+unfolding bytesOf
 line-long pixels cells = simp (length-append, length-map, digits-length) (omega arith)

@@ -1,13 +1,15 @@
 -- Document 01, "Bench program": what stands in its input, how it starts, and every byte that it prints. Refusals 7, then 6.
 -- A text is the list of its byte codes, in ASCII.
 -- Assumes nothing.
-use Prim.Native.Nat.{ℕ, zero, suc, _+_, _*_, _/_, _%_}
+use Prim.Native.Nat.{ℕ, zero, suc, _+_, _/_, _%_}
 use mathlib.Core.Path.{_≡_}
 use mathlib.Core.Bool.{not, cond}
 use mathlib.Core.List.{List, [], _∷_, _++_, map}
 use lib.Dec.{eqb, ltb}
-use lib.ListN.{length, getD, take, drop, replicate}
+use lib.ListN.{length, take, drop, replicate}
+use lib.Seq.{sets}
 use Rattle.limits.specs.Limits.{ramLength, fontLength}
+use Rattle.buffers.specs.Buffers.{word, bytesOf}
 use Rattle.refusals.specs.declared.Refusal.the-variants.{BenchLength}
 use Rattle.refusals.specs.Refusals.{refused}
 use Rattle.registers.specs.Registers.{loaded}
@@ -17,17 +19,30 @@ use Rattle.report.specs.declared.LineDone.{LineDone}
 
 -- ---- standard input: RAM, sixteen registers, font, line count low byte first
 
+-- where the parts behind the RAM begin, and how long all of it is
+abbrev pub registersFrom : ℕ
+registersFrom = ramLength
+
+abbrev pub fontFrom : ℕ
+fontFrom = registersFrom + 16
+
+abbrev pub countAt : ℕ
+countAt = fontFrom + fontLength
+
+abbrev pub inputLength : ℕ
+inputLength = countAt + 2
+
 abbrev pub ramPart : List ℕ → List ℕ
 ramPart input = take ramLength input
 
 abbrev pub registersPart : List ℕ → List ℕ
-registersPart input = take 16 (drop 1024 input)
+registersPart input = take 16 (drop registersFrom input)
 
 abbrev pub fontPart : List ℕ → List ℕ
-fontPart input = take fontLength (drop 1040 input)
+fontPart input = take fontLength (drop fontFrom input)
 
 abbrev pub lineCount : List ℕ → ℕ
-lineCount input = getD input 5648 0 + 256 * getD input 5649 0
+lineCount input = word input countAt
 
 -- ---- the start
 
@@ -44,7 +59,7 @@ benchDevice input =
 -- a bad length is refused 7, whatever the count; then it starts frame 0, which refuses a bad count by 6
 unfoldable pub benchStart : List ℕ → StartOutcome
 benchStart input =
-    cond (not (eqb (length input) 5650))
+    cond (not (eqb (length input) inputLength))
     (record { device = freshDevice; reply = refused BenchLength })
     (startFrame (benchDevice input) (lineCount input))
 
@@ -69,40 +84,23 @@ decimal n = digits (placesOf n) n
 
 -- ---- texts
 
-abbrev pub newline : List ℕ
-newline = 10 ∷ []
-
-abbrev pub space : List ℕ
-space = 32 ∷ []
-
--- `refused `
-abbrev pub refusedWord : List ℕ
-refusedWord = 114 ∷ 101 ∷ 102 ∷ 117 ∷ 115 ∷ 101 ∷ 100 ∷ 32 ∷ []
-
--- `lines `
-abbrev pub linesWord : List ℕ
-linesWord = 108 ∷ 105 ∷ 110 ∷ 101 ∷ 115 ∷ 32 ∷ []
-
--- ` width `
-abbrev pub widthWord : List ℕ
-widthWord = 32 ∷ 119 ∷ 105 ∷ 100 ∷ 116 ∷ 104 ∷ 32 ∷ []
-
 abbrev pub refusalText : ℕ → List ℕ
-refusalText number = (refusedWord ++ decimal number) ++ newline
+refusalText number = (bytesOf "refused " ++ decimal number) ++ bytesOf "\n"
 
 abbrev pub headingText : ℕ → ℕ → List ℕ
-headingText lines width = (((linesWord ++ decimal lines) ++ widthWord) ++ decimal width) ++ newline
+headingText lines width = (((bytesOf "lines " ++ decimal lines) ++ bytesOf " width ") ++ decimal width) ++ bytesOf "\n"
 
 -- a digit a pixel, a space, and the read count in decimal
 abbrev pub lineText : List ℕ → ℕ → List ℕ
-lineText pixels cells = ((map hexDigit pixels ++ space) ++ decimal cells) ++ newline
+lineText pixels cells = ((map hexDigit pixels ++ bytesOf " ") ++ decimal cells) ++ bytesOf "\n"
 
 -- ---- a text in a buffer
 
--- a part of a text at a place: the bytes before and after it stay, and the answer is the place after it
-pub record Put (part : List ℕ) (at : ℕ) (out : List ℕ) (answer : ℕ) (out′ : List ℕ) : Type 0 where
-  pub next : answer ≡ at + length part
-  pub written : out′ ≡ take at out ++ (part ++ drop (at + length part) out)
+-- a part of a text, n bytes, is put at a place: all other bytes stay, and the answer is the place after it
+pub record Put (part : List ℕ) (n at : ℕ) (out : List ℕ) (answer : ℕ) (out′ : List ℕ) : Type 0 where
+  pub long : length part ≡ n
+  pub next : answer ≡ at + n
+  pub written : out′ ≡ sets out at part
 
 pub record TextOutcome : Type 0 where
   pub answer : ℕ

@@ -4,14 +4,21 @@ ghost use mathlib.Core.List.{map};
 ghost use Prim.Native.Nat.{_+_, _-_, _≤_, min};
 ghost use lib.ListN.{length, take, drop};
 ghost use Rattle.device.specs.Device.{startOutcome, drawLine, lineWidth};
-ghost use Rattle.report.specs.Report.{ramPart, fontPart, benchDevice, benchStart, hexDigit, placesOf, digits, decimal, Put, refusalText, headingText, lineText, writeText, textOutcome, textOf, nextText, lineOutcome};
+ghost use Rattle.report.specs.Report.{inputLength, ramPart, fontPart, benchDevice, benchStart, hexDigit, placesOf, digits, decimal, Put, refusalText, headingText, lineText, writeText, textOutcome, textOf, nextText, lineOutcome};
 use device::Device;
 use device::StartAnswer;
 use device::StartDone;
 use refusals::Refusal;
 use registers::Registers;
 
-const INPUT_LENGTH: usize = 5650;
+// Where the parts of the input behind the RAM begin, and how long it is.
+const REGISTERS_FROM: usize = limits::RAM_LENGTH;
+
+const FONT_FROM: usize = REGISTERS_FROM + 16;
+
+const COUNT_AT: usize = FONT_FROM + limits::FONT_LENGTH;
+
+pub const INPUT_LENGTH: usize = COUNT_AT + 2;
 
 // The device after a line, and the length of the line's text.
 pub struct LineDone {
@@ -38,22 +45,22 @@ fn part(input: &[u8], start: usize, end: usize) -> &[u8]
 pub fn ram_part(input: &[u8]) -> &[u8]
     ensures { λ r. ⌜ now r ≡ ramPart (now (input .entry)) ⌝ }
 {
-    part(input, 0, 1024)
+    part(input, 0, REGISTERS_FROM)
 }
 
 pub fn font_part(input: &[u8]) -> &[u8]
     ensures { λ r. ⌜ now r ≡ fontPart (now (input .entry)) ⌝ }
 {
-    part(input, 1040, 5648)
+    part(input, FONT_FROM, COUNT_AT)
 }
 
 fn device_of(input: &[u8]) -> Device
-    requires { ⌜ length (now input) ≡ 5650 ⌝ }
+    requires { ⌜ length (now input) ≡ inputLength ⌝ }
     ensures { λ r. ⌜ r ≡ benchDevice (now (input .entry)) ⌝ }
 {
     let fresh = Device::fresh();
     let bus = fresh.bus;
-    let registers = Registers::load(part(input, 1024, 1040));
+    let registers = Registers::load(part(input, REGISTERS_FROM, FONT_FROM));
     let frame = fresh.frame;
     Device {
         bus: bus,
@@ -73,7 +80,7 @@ pub fn begin(input: &[u8]) -> StartDone
             answer: StartAnswer::Refused(Refusal::BenchLength),
         };
     }
-    let lines = input[5648] as u32 + 256 * input[5649] as u32;
+    let lines = buffers::word_at(input, COUNT_AT) as u32;
     device_of(input).start_frame(lines)
 }
 
@@ -90,6 +97,7 @@ fn hex_digit(pixel: u8) -> u8
 // How many decimal digits a number has.
 fn places(number: u16) -> usize
     ensures { λ r. ⌜ r ≡ placesOf number ⌝ }
+    ensures { λ r. ⌜ r ≤ 5 ⌝ }
 {
     if number < 10 {
         return 1;
@@ -134,16 +142,15 @@ fn copy_digits(out: &mut [u8], number: u16)
 
 fn put_word(out: &mut [u8], at: usize, word: &[u8]) -> usize
     requires { ⌜ at + length (now word) ≤ length (now out) ⌝ }
-    ensures { λ r. ⌜ Put (now (word .entry)) at (now (out .entry)) r (now (out .exit)) ⌝ }
+    ensures { λ r. ⌜ Put (now (word .entry)) (length (now (word .entry))) at (now (out .entry)) r (now (out .exit)) ⌝ }
 {
-    let e = at + word.len();
-    bytes::copy(word, &mut out[at..e]);
-    e
+    buffers::put(out, at, word);
+    at + word.len()
 }
 
 fn put_pixels(out: &mut [u8], at: usize, pixels: &[u8]) -> usize
     requires { ⌜ at + length (now pixels) ≤ length (now out) ⌝ }
-    ensures { λ r. ⌜ Put (map hexDigit (now (pixels .entry))) at (now (out .entry)) r (now (out .exit)) ⌝ }
+    ensures { λ r. ⌜ Put (map hexDigit (now (pixels .entry))) (length (now (pixels .entry))) at (now (out .entry)) r (now (out .exit)) ⌝ }
 {
     let e = at + pixels.len();
     copy_pixels(&mut out[at..e], pixels);
@@ -152,7 +159,7 @@ fn put_pixels(out: &mut [u8], at: usize, pixels: &[u8]) -> usize
 
 fn put_number(out: &mut [u8], at: usize, number: u16) -> usize
     requires { ⌜ at + placesOf number ≤ length (now out) ⌝ }
-    ensures { λ r. ⌜ Put (decimal number) at (now (out .entry)) r (now (out .exit)) ⌝ }
+    ensures { λ r. ⌜ Put (decimal number) (placesOf number) at (now (out .entry)) r (now (out .exit)) ⌝ }
 {
     let e = at + places(number);
     copy_digits(&mut out[at..e], number);

@@ -30,7 +30,8 @@ loop-again c =
     let l = c .before .loop in (
       search needs,
       length-set (l .out) _ _ ∙ l .inv .1,
-      back-more digits 10 (λ n. 48 + n % 10) (λ k n. unfold digits in refl) _ (l .out) (l .i) (l .rest) _ (omega arith) (omega arith) refl (l .inv .2),
+      back-more digits 10 (λ n. 48 + n % 10) (λ k n. unfold digits in refl) _ (l .out) (l .i) (l .rest) _ (omega arith)
+          (omega arith) refl (l .inv .2),
     )
 
 returns : tie.Need-returns Inv-loop μ-loop

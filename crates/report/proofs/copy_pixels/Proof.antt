@@ -25,17 +25,19 @@ loop-holds c = (search needs, search needs, refl)
 loop-again : tie.Need-loop-again Inv-loop μ-loop
 loop-again c =
     let l = c .before .before .before .loop in
-    let pixels = now (c .before .before .before .before .before .before .args .pixels) in (
+    let pixels = now (c .before .before .before .before .before .before .args .pixels) in
+    let long = length-map pixels hexDigit in (
       search needs,
       length-set (l .out) _ _ ∙ l .inv .1,
-      written-more (map hexDigit pixels) (l .out) (l .i) _ (hexDigit 0) (omega arith) (omega (arith, length-map pixels hexDigit)) (l .inv .2)
+      written-more (map hexDigit pixels) (l .out) (l .i) _ (hexDigit 0) (omega arith) (omega arith) (l .inv .2)
           (c .hex-digit .ensures ∙ sym (List·getD-map hexDigit pixels (l .i) 0)),
     )
 
 returns : tie.Need-returns Inv-loop μ-loop
 returns c =
     let pixels = now (c .before .before .before .before .args .pixels) in
-    written-whole (map hexDigit pixels) _ (c .before .loop .i) (omega arith) (omega (arith, length-map pixels hexDigit)) (c .before .loop .inv .2)
+    let l = c .before .loop in
+    written-whole (map hexDigit pixels) _ (l .i) (omega arith) (omega (arith, length-map pixels hexDigit)) (l .inv .2)
 
 pub copy-pixels-spec : {M : Type 1} → statement M
 copy-pixels-spec =

@@ -8,8 +8,9 @@ use Rattle.report.proofs.part.Tie as tie
 
 returns : tie.Need-returns
 returns c =
-    let a = c .before .before .before .before .args in
-    part-is (now (a .input)) (a .start) (a .end) _ _ (c .before .before .before .before .pre) (c .before .before .least .ensures) (c .before .least2 .ensures)
+    let t = c .before .before in
+    let s = t .before .before in
+    part-is (now (s .args .input)) (s .args .start) (s .args .end) _ _ (s .pre) (t .least .ensures) (c .before .least2 .ensures)
 
 pub part-spec : {M : Type 1} → statement M
 part-spec =

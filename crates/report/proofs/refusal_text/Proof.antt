@@ -2,44 +2,39 @@
 -- Assumes nothing.
 use native.Mathlib.Omega.{arith}
 use denote.Ref.{now}
-use Rattle.report.specs.Report.{refusedWord, newline, decimal, refusalText}
-use Rattle.report.proofs.Texts.{decimal-length, places-few, refusal-long, upto-none, upto-part, upto-whole, too-short}
+use Rattle.buffers.specs.Buffers.{bytesOf}
+use Rattle.report.specs.Report.{refusalText}
+use Rattle.report.proofs.Texts.{refusal-long, upto-none, upto-part, upto-whole, too-short}
 use borrow.Author.Needs.{needs}
 use Rattle.report.proofs.refusal_text.Statement.{statement}
 use Rattle.report.proofs.refusal_text.Tie as tie
 
-add-if1 : tie.Need-add-if1
-add-if1 c = omega (arith, c .places .ensures, places-few (c .before .before .args .number))
-
 returns : tie.Need-returns
 returns c =
     let a = c .before .before .before .args in
-    too-short (refusalText (a .number)) (now (a .out)) (omega (arith, c .if1 .taken, c .before .places .ensures, refusal-long (a .number)))
-
-put-word-requires-2 : tie.Need-put-word-requires-2
-put-word-requires-2 c κs =
-    let n = c .before .before .before .before .before .before .before .before .before .before .before .before .before .before .args .number in
-    omega (arith, c .before .before .before .before .put-number .ensures .next, c .before .before .before .before .before .before .before .before .put-word .ensures .next, decimal-length n, c .before .before .before .before .before .before .before .before .before .before .before .before .places .ensures)
+    too-short (refusalText (a .number)) (now (a .out)) (omega (arith, refusal-long (a .number)))
 
 returns-2 : tie.Need-returns-2
+unfolding bytesOf
 returns-2 c =
-    let a = c .before .before .before .before .before .before .before .before .before .before .before .before .before .before .before .before .before .args in
-    let u₁ = upto-part _ _ _ _ (upto-none (now (a .out))) refusedWord _ _ (c .before .before .before .before .before .before .before .before .before .before .before .put-word .ensures) in
-    let u₂ = upto-part _ _ _ _ u₁ (decimal (a .number)) _ _ (c .before .before .before .before .before .before .before .put-number .ensures) in
-    let u₃ = upto-part _ _ _ _ u₂ newline _ _ (c .before .before .put-word2 .ensures) in
-    upto-whole _ _ _ _ u₃ (omega (arith, u₃ .long, refusal-long (a .number), c .before .before .before .before .before .before .before .before .before .before .before .before .before .before .if1 .left, c .before .before .before .before .before .before .before .before .before .before .before .before .before .before .before .places .ensures))
+    let p₃ = c .before .before in
+    let p₂ = p₃ .before .before .before .before .before in
+    let p₁ = p₂ .before .before .before .before in
+    let a = p₁ .before .before .before .before .before .before .args in
+    let u₁ = upto-part (upto-none (now (a .out))) (p₁ .put-word .ensures) in
+    upto-whole (upto-part (upto-part u₁ (p₂ .put-number .ensures)) (p₃ .put-word2 .ensures)) (omega arith)
 
 pub refusal-text-spec : {M : Type 1} → statement M
 refusal-text-spec =
     tie.close
     (tie.spec
     (λ c κs. search needs)
-    add-if1
+    (λ c. search needs)
     returns
     (λ c. search needs)
     (λ c κs. search needs)
     (λ c κs. search needs)
     (λ c. search needs)
-    put-word-requires-2
+    (λ c κs. search needs)
     (λ c. search needs)
     returns-2)
