@@ -84,7 +84,7 @@ fn size_of(heading: &[u8; 15]) -> Size
 }
 
 fn not_shown() -> Size
-    ensures { λ r. ⌜ r ≡ none ⌝ }
+    ensures { λ r. ⌜ (r ≡ none) × (r .width ≡ 0) ⌝ }
 {
     Size {
         width: 0,

@@ -1,7 +1,7 @@
 -- The laws of calls, noise and digests.
 -- Assumes nothing.
 use Prim.Native.Nat.{ℕ, zero, suc, _+_, _-_, _*_, _/_, _%_, _≤_, _<_}
-use mathlib.Core.Path.{_≡_, refl, sym, ap, _∙_}
+use mathlib.Core.Path.{_≡_, refl}
 use mathlib.Core.List.{List, _∷_, _++_}
 use native.Mathlib.Nat.{not-suc-le-zero, mul-le-mul, mod-lt}
 use native.Mathlib.Numerals.{sub-one, add-one}
@@ -9,36 +9,15 @@ use native.Mathlib.Omega.{arith}
 use lib.ListN.{length, getD, take, drop, set}
 use lib.Seq.{drop-cons, drop-length}
 use Rattle.facts.proofs.Written.{front-more, front-whole}
-use Rattle.refusals.specs.Refusals.{Reply}
 use Rattle.device.specs.declared.Device.{Device}
-use Rattle.device.specs.declared.StartDone.{StartDone}
-use Rattle.device.specs.Device.{EventOutcome, StartOutcome, DrawOutcome, startReply, startFrame, startOutcome}
+use Rattle.device.specs.Device.{StartOutcome, startFrame}
 use Rattle.device.proofs.Laws.{by-start}
-use Rattle.test_script.specs.declared.Called.{Called}
 use Rattle.test_script.specs.declared.Numbers.{Numbers}
-use Rattle.test_script.specs.Script.{calledOf, outcomeOf, drawnOf, nextOf, noiseOf, mixed}
-
--- ---- a call's two numbers are those of its reply
-
-pub called-as : (d : Device) (p : Reply) {r v : ℕ} → r ≡ p .refusal → v ≡ p .value → record { device = d; refusal = r; value = v } ≡ calledOf d p
-called-as d p e f = λ i. record { device = d; refusal = e i; value = f i }
-
-pub heard-as : (c : Called) (ram : List ℕ) (p : Reply) {o : EventOutcome} → c .refusal ≡ p .refusal → c .value ≡ p .value
-    → record { device = c .device; ram = ram; reply = p } ≡ o → outcomeOf c ram ≡ o
-heard-as c ram p e f h = (λ i. record { device = c .device; ram = ram; reply = record { refusal = e i; value = f i } }) ∙ h
-
-pub drawn-as : (c : Called) (line : List ℕ) (p : Reply) {o : DrawOutcome} → c .refusal ≡ p .refusal → c .value ≡ p .value
-    → record { device = c .device; line = line; reply = p } ≡ o → drawnOf c line ≡ o
-drawn-as c line p e f h = (λ i. record { device = c .device; line = line; reply = record { refusal = e i; value = f i } }) ∙ h
+use Rattle.test_script.specs.Script.{nextOf, noiseOf, mixed}
 
 -- a frame start has no number beside its refusal
-start-value : (d : Device) (lines : ℕ) → startFrame d lines .reply .value ≡ 0
+pub start-value : (d : Device) (lines : ℕ) → startFrame d lines .reply .value ≡ 0
 start-value d lines = by-start (λ (o : StartOutcome). o .reply .value ≡ 0) d lines refl refl
-
-pub started-as : (d : Device) (lines : ℕ) (s : StartDone) {r : ℕ} → r ≡ startReply (s .answer) .refusal → startOutcome s ≡ startFrame d lines
-    → record { device = s .device; refusal = r; value = 0 } ≡ calledOf (startFrame d lines .device) (startFrame d lines .reply)
-started-as d lines s e h =
-    (λ i. record { device = h i .device; refusal = (e ∙ ap (λ (o : StartOutcome). o .reply .refusal) h) i; value = sym (start-value d lines) i })
 
 -- a number below 2³² and a factor below 2³²: with two numbers of 32 bits more, still below 2⁶⁴
 pub product-small : (x last factor : ℕ) → last < 4294967296 → factor < 4294967296
@@ -58,7 +37,8 @@ pub noise-more : (by : Numbers) (unit n : ℕ) (all bytes : List ℕ) (i seed ne
     → take (i + 1) (set bytes i v) ++ noiseOf (n - (i + 1)) next by unit ≡ all
 noise-more by unit n all bytes i seed next v h k p q e =
     let less : n - (i + 1) ≡ n - i - 1 = omega arith in
-    front-more all bytes _ i (i + 1) v (omega arith) (omega arith) (rw (less, ← noise-first by unit (n - i) seed next v (omega arith) p q) e)
+    front-more all bytes _ i (i + 1) v (omega arith) (omega arith)
+    (rw (less, ← noise-first by unit (n - i) seed next v (omega arith) p q) e)
 
 pub noise-whole : (by : Numbers) (unit n : ℕ) (all bytes : List ℕ) (i seed : ℕ) → i ≡ n → length bytes ≡ n
     → take i bytes ++ noiseOf (n - i) seed by unit ≡ all → bytes ≡ all
@@ -68,11 +48,12 @@ noise-whole by unit n all bytes i seed h k e =
     front-whole all bytes i (omega arith) (rw none at e)
 
 -- one byte more of a digest
-pub mixed-more : (bytes : List ℕ) (by : Numbers) (i now next v all : ℕ) → i < length bytes → next ≡ nextOf now v by → v ≡ getD bytes i 0
+pub mixed-more : (bytes : List ℕ) (by : Numbers) (i now next v all : ℕ) → i < length bytes → next ≡ nextOf now v by
+    → v ≡ getD bytes i 0
     → mixed now (drop i bytes) by ≡ all → mixed next (drop (i + 1) bytes) by ≡ all
 unfolding mixed
 mixed-more bytes by i now next v all h p q e = rw (p, q, add-one) (rw (drop-cons bytes i 0 h) at e)
 
 pub mixed-end : (bytes : List ℕ) (by : Numbers) (i now all : ℕ) → i ≡ length bytes → mixed now (drop i bytes) by ≡ all → now ≡ all
 unfolding mixed
-mixed-end bytes by i now all h e = ap (λ (l : List ℕ). mixed now l by) (sym (ap (λ (n : ℕ). drop n bytes) h ∙ drop-length bytes)) ∙ e
+mixed-end bytes by i now all h e = rw (h, drop-length bytes) at e

@@ -29,7 +29,7 @@ slice-write-out-2 c = let l = c .before .before .before .before .loop in lt-leng
 slice-write-out-3 : tie.Need-slice-write-out-3 Inv-loop μ-loop
 slice-write-out-3 c =
     let l = c .before .before .before .before .loop in
-    lt-length-set (set (l .out) (3 * l .x) (c .mix-pixel .result .r)) (3 * l .x + 1) _ (lt-length-set (l .out) (3 * l .x) _ (omega arith))
+    lt-length-set (set (l .out) (3 * l .x) _) (3 * l .x + 1) _ (lt-length-set (l .out) (3 * l .x) _ (omega arith))
 
 loop-again : tie.Need-loop-again Inv-loop μ-loop
 loop-again c =

@@ -8,7 +8,9 @@ use Rattle.demo.proofs.mix_pixel.Tie as tie
 
 returns : tie.Need-returns
 unfolding mix
-returns c = rw (eq-eqb _ _ (c .before .before .before .if1 .taken), c .before .before .part .ensures, c .before .part2 .ensures, c .part3 .ensures)
+returns c =
+    let t = c .before .before in
+    rw (eq-eqb _ _ (t .before .if1 .taken), t .part .ensures, c .before .part2 .ensures, c .part3 .ensures)
 
 returns-2 : tie.Need-returns-2
 unfolding mix

@@ -1,9 +1,6 @@
 -- `checked`: the tests pick the case of `shown`.
 -- Assumes nothing.
-use mathlib.Core.Path.{ap}
 use borrow.Author.Tests.{lt-ltb, le-ltb}
-use native.Mathlib.Omega.{arith}
-use Rattle.preview.specs.declared.Size.{Size}
 use Rattle.preview.specs.Preview.{shown}
 use borrow.Author.Needs.{needs}
 use Rattle.preview.proofs.checked.Statement.{statement}
@@ -11,11 +8,12 @@ use Rattle.preview.proofs.checked.Tie as tie
 
 returns : tie.Need-returns
 unfolding shown
-returns c = (rw (lt-ltb _ _ (c .before .if1 .taken), c .not-shown .ensures), omega (arith, ap (λ (s : Size). s .width) (c .not-shown .ensures)))
+returns c = (rw (lt-ltb _ _ (c .before .if1 .taken), c .not-shown .ensures .0), search needs)
 
 returns-2 : tie.Need-returns-2
 unfolding shown
-returns-2 c = (rw (le-ltb _ _ (c .before .before .if1 .left), lt-ltb _ _ (c .before .if2 .taken), c .not-shown2 .ensures), omega (arith, ap (λ (s : Size). s .width) (c .not-shown2 .ensures)))
+returns-2 c =
+    (rw (le-ltb _ _ (c .before .before .if1 .left), lt-ltb _ _ (c .before .if2 .taken), c .not-shown2 .ensures .0), search needs)
 
 returns-3 : tie.Need-returns-3
 unfolding shown

@@ -8,7 +8,8 @@ use Rattle.test_pages.proofs.both.Statement.{statement}
 use Rattle.test_pages.proofs.both.Tie as tie
 
 abbrev Inv-loop : tie.InvT-loop
-Inv-loop device list script ram₀ font₀ saved order₀ ram font order = (order ≤ 2) × (length saved ≡ 1024) × (length ram ≡ length ram₀) × (length font ≡ length font₀)
+Inv-loop device list script ram₀ font₀ saved order₀ ram font order =
+    (order ≤ 2) × (length saved ≡ 1024) × (length ram ≡ length ram₀) × (length font ≡ length font₀)
 
 abbrev μ-loop : tie.MeasureT-loop
 μ-loop device list script ram₀ font₀ saved order₀ ram font order = 2 - order

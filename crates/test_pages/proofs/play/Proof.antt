@@ -8,7 +8,8 @@ use Rattle.test_pages.proofs.play.Statement.{statement}
 use Rattle.test_pages.proofs.play.Tie as tie
 
 abbrev Inv-loop : tie.InvT-loop
-Inv-loop list order script ram₀ font₀ kept₀ now₀ i₀ ram font kept now i = (i ≤ 3) × (length ram ≡ length ram₀) × (length font ≡ length font₀)
+Inv-loop list order script ram₀ font₀ kept₀ now₀ i₀ ram font kept now i =
+    (i ≤ 3) × (length ram ≡ length ram₀) × (length font ≡ length font₀)
 
 abbrev μ-loop : tie.MeasureT-loop
 μ-loop list order script ram₀ font₀ kept₀ now₀ i₀ ram font kept now i = 3 - i

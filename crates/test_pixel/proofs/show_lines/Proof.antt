@@ -13,10 +13,14 @@ abbrev μ-loop : tie.MeasureT-loop
 μ-loop ram font lines number way w device₀ sums₀ y₀ device sums y = lines - y
 
 add-y : tie.Need-add-y Inv-loop μ-loop
-add-y c = let at = c .before .before .before .before .before .before .before .before .before .before .before in omega (arith, at .loop-test .taken)
+add-y c =
+    let at = c .before .before .before .before .before .before .before .before .before .before .before in
+    omega (arith, at .loop-test .taken)
 
 loop-less : tie.Need-loop-less Inv-loop μ-loop
-loop-less c = let at = c .before .before .before .before .before .before .before .before .before .before .before in omega (arith, at .loop-test .taken)
+loop-less c =
+    let at = c .before .before .before .before .before .before .before .before .before .before .before in
+    omega (arith, at .loop-test .taken)
 
 pub show-lines-spec : {M : Type 1} → statement M
 show-lines-spec =

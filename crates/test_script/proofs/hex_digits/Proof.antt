@@ -31,11 +31,14 @@ loop-again c =
     let l = c .before .before .loop in (
       search needs,
       length-set (l .out) _ _ ∙ l .inv .1,
-      back-more digitsOf 16 (λ n. digitOf (n % 16)) (λ k n. unfold digitsOf in refl) _ (l .out) (l .i) (l .rest) _ (omega arith) (omega arith) (c .digit .ensures) (l .inv .2),
+      back-more digitsOf 16 (λ n. digitOf (n % 16)) (λ k n. unfold digitsOf in refl) _ (l .out) (l .i) (l .rest) _ (omega arith)
+          (omega arith) (c .digit .ensures) (l .inv .2),
     )
 
 returns : tie.Need-returns Inv-loop μ-loop
-returns c = let l = c .before .loop in back-whole digitsOf (λ n. unfold digitsOf in refl) _ _ (l .i) (l .rest) (omega arith) (l .inv .2)
+returns c =
+    let l = c .before .loop in
+    back-whole digitsOf (λ n. unfold digitsOf in refl) _ _ (l .i) (l .rest) (omega arith) (l .inv .2)
 
 pub hex-digits-spec : {M : Type 1} → statement M
 hex-digits-spec =

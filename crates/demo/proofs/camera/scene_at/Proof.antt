@@ -12,15 +12,23 @@ returns c = rw (lt-ltb _ _ (c .before .if1 .taken), c .sill-at .ensures)
 
 returns-2 : tie.Need-returns-2
 unfolding scene
-returns-2 c = rw (le-ltb _ _ (c .before .before .before .if1 .left), ← c .before .before .distance .ensures, lt-ltb _ _ (c .before .if2 .taken), c .post-at .ensures)
+returns-2 c =
+    let t = c .before .before in
+    rw (le-ltb _ _ (t .before .if1 .left), ← t .distance .ensures, lt-ltb _ _ (c .before .if2 .taken), c .post-at .ensures)
 
 returns-3 : tie.Need-returns-3
 unfolding scene
-returns-3 c = rw (le-ltb _ _ (c .before .before .before .before .if1 .left), ← c .before .before .before .distance .ensures, le-ltb _ _ (c .before .before .if2 .left), lt-ltb _ _ (c .before .if3 .taken), c .town-at .ensures)
+returns-3 c =
+    let t = c .before .before .before in
+    rw (le-ltb _ _ (t .before .if1 .left), ← t .distance .ensures)
+    (rw (le-ltb _ _ (c .before .before .if2 .left), lt-ltb _ _ (c .before .if3 .taken), c .town-at .ensures))
 
 returns-4 : tie.Need-returns-4
 unfolding scene
-returns-4 c = rw (le-ltb _ _ (c .before .before .before .before .if1 .left), ← c .before .before .before .distance .ensures, le-ltb _ _ (c .before .before .if2 .left), le-ltb _ _ (c .before .if3 .left), c .traffic-at .ensures)
+returns-4 c =
+    let t = c .before .before .before in
+    rw (le-ltb _ _ (t .before .if1 .left), ← t .distance .ensures)
+    (rw (le-ltb _ _ (c .before .before .if2 .left), le-ltb _ _ (c .before .if3 .left), c .traffic-at .ensures))
 
 pub scene-at-spec : {M : Type 1} → statement M
 scene-at-spec =

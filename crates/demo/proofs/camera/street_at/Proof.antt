@@ -16,11 +16,15 @@ returns-2 c = rw (le-ltb _ _ (c .before .before .if1 .left), lt-ltb _ _ (c .befo
 
 returns-3 : tie.Need-returns-3
 unfolding street
-returns-3 c = rw (le-ltb _ _ (c .before .before .before .if1 .left), le-ltb _ _ (c .before .before .if2 .left), lt-ltb _ _ (c .before .if3 .taken), c .shade .ensures)
+returns-3 c =
+    let t = c .before .before in
+    rw (le-ltb _ _ (t .before .if1 .left), le-ltb _ _ (t .if2 .left), lt-ltb _ _ (c .before .if3 .taken), c .shade .ensures)
 
 returns-4 : tie.Need-returns-4
 unfolding street
-returns-4 c = rw (le-ltb _ _ (c .before .before .before .if1 .left), le-ltb _ _ (c .before .before .if2 .left), le-ltb _ _ (c .before .if3 .left), c .pavement-at .ensures)
+returns-4 c =
+    let t = c .before .before in
+    rw (le-ltb _ _ (t .before .if1 .left), le-ltb _ _ (t .if2 .left), le-ltb _ _ (c .before .if3 .left), c .pavement-at .ensures)
 
 pub street-at-spec : {M : Type 1} → statement M
 street-at-spec =

@@ -8,11 +8,16 @@ use Rattle.demo.proofs.camera.traffic_at.Tie as tie
 
 returns : tie.Need-returns
 unfolding traffic
-returns c = rw (← c .before .before .car-half .ensures, ← c .before .before .before .distance .ensures, lt-ltb _ _ (c .before .if1 .taken), c .car-at .ensures)
+returns c =
+    let t = c .before .before in
+    rw (← t .car-half .ensures, ← t .before .distance .ensures, lt-ltb _ _ (c .before .if1 .taken), c .car-at .ensures)
 
 returns-2 : tie.Need-returns-2
 unfolding traffic
-returns-2 c = rw (← c .before .before .before .car-half .ensures, ← c .before .before .before .before .distance .ensures, le-ltb _ _ (c .before .before .if1 .left), ← c .before .distance2 .ensures, c .street-at .ensures)
+returns-2 c =
+    let t = c .before .before .before in
+    rw (← t .car-half .ensures, ← t .before .distance .ensures, le-ltb _ _ (c .before .before .if1 .left))
+    (rw (← c .before .distance2 .ensures, c .street-at .ensures))
 
 pub traffic-at-spec : {M : Type 1} → statement M
 traffic-at-spec =
