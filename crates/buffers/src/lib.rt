@@ -1,10 +1,10 @@
 // What code does with bytes in a buffer, whatever they mean: a number of two bytes, low byte first, is read; bytes are put at a place; a part
-// is filled.
+// is filled. And the digit that shows four bits.
 ghost use mathlib.Core.Path.{_≡_};
 ghost use Prim.Native.Nat.{_+_, _*_, _≤_, _<_};
 ghost use lib.ListN.{length, replicate};
 ghost use lib.Seq.{sets};
-ghost use Rattle.buffers.specs.Buffers.{word};
+ghost use Rattle.buffers.specs.Buffers.{word, hexDigit};
 
 fn word(low: u8, high: u8) -> u16
     ensures { λ r. ⌜ r ≡ low + 256 * high ⌝ }
@@ -35,4 +35,14 @@ pub fn fill(out: &mut [u8], byte: u8)
         out[i] = byte;
         i += 1;
     }
+}
+
+pub fn hex_digit(n: u8) -> u8
+    ensures { λ r. ⌜ r ≡ hexDigit n ⌝ }
+{
+    let digit = n % 16;
+    if digit < 10 {
+        return b'0' + digit;
+    }
+    b'A' - 10 + digit
 }

@@ -49,3 +49,7 @@ addressSpace = 0x4000
 -- the registers have the last of them, from 3FF0 on
 abbrev pub firstRegister : ℕ
 firstRegister = 0x3FF0
+
+-- the widest line, of LD 63, has 768 pixels
+abbrev pub lineMax : ℕ
+lineMax = 768

@@ -22,6 +22,9 @@ pub const USER_CELLS: u16 = 988;
 // Lines of a frame at the most.
 pub const FRAME_LINES: u32 = 2048;
 
+// Pixels of the widest line.
+pub const LINE_MAX: usize = 768;
+
 // Addresses on the bus: those that there are, the first behind the RAM, and the first register's.
 pub const ADDRESS_SPACE: u16 = 0x4000;
 

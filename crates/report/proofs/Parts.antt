@@ -10,14 +10,15 @@ use borrow.Author.Tests.{ne-eqb, eqb-true, le-ltb, le-leb}
 use lib.Dec.{eqb}
 use lib.ListN.{length, drop, replicate, length-append, length-take, length-drop, length-replicate}
 use lib.Seq.{take-append-seam}
-use Rattle.limits.specs.Limits.{ramLength, fontLength}
+use Rattle.limits.specs.Limits.{ramLength, fontLength, lineMax}
+use Rattle.registers.proofs.Laws.{ld-bound}
 use Rattle.line.proofs.Laws.{paint-length}
 use Rattle.device.specs.declared.Device.{Device}
 use Rattle.device.specs.Device.{StartOutcome, DrawOutcome, lineWidth, pixelsOf, lineOn, lineDrawn}
 use Rattle.device.proofs.Laws.{draw-passed}
 use Rattle.report.specs.Report.{inputLength, ramPart, fontPart, benchStart, refusalText, headingText, lineText, TextOutcome, writeText, LineOutcome, nextDraw, linesText, benchText}
 use Rattle.report.specs.Parts.{printed, lineParts, frameParts, benchParts, JoinedParts}
-use Rattle.report.proofs.Texts.{places-few, text-drawn, width-most, refusal-long, heading-long, line-long}
+use Rattle.report.proofs.Texts.{places-few, text-drawn, refusal-long, heading-long, line-long}
 
 -- ---- a text that fits its buffer
 
@@ -55,13 +56,13 @@ module _ (d : Device) (ram font : List ℕ) (n : ℕ) (some : d .frame .left ≡
   unfolding lineDrawn lineOn
   drawn-left = ap (λ (o : DrawOutcome). o .device .frame .left) drawn-is ∙ omega arith
 
-  drawn-long : length (nextDraw d ram font .line) ≤ 768
+  drawn-long : length (nextDraw d ram font .line) ≤ lineMax
   unfolding lineDrawn pixelsOf
   drawn-long =
       let wide : length (nextDraw d ram font .line) ≡ lineWidth d =
       ap (λ (o : DrawOutcome). length (o .line)) drawn-is
       ∙ simp (length-append, length-drop, length-replicate, paint-length) (omega arith) in
-      omega (arith, width-most d)
+      omega (arith, ld-bound (d .registers))
 
   line-fits : (out : List ℕ) → 1024 ≤ length out
       → length (lineText (nextDraw d ram font .line) (nextDraw d ram font .reply .value)) ≤ length out

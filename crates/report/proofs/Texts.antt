@@ -3,19 +3,17 @@
 use Prim.Native.Nat.{ℕ, zero, suc, _+_, _-_, _/_, _≤_, _<_, min}
 use mathlib.Core.Path.{_≡_, refl, sym, ap, ap₂, _∙_}
 use mathlib.Core.List.{List, [], _∷_, _++_}
-use native.Mathlib.Nat.{not-suc-le-zero, le-of-suc-le-suc, zero-add}
+use native.Mathlib.Nat.{zero-add}
 use native.Mathlib.Decide.{decLe}
 use native.Mathlib.Omega.{arith}
 use lib.Dec.{ltb}
 use borrow.Author.Tests.{eq-eqb, ne-eqb, lt-ltb, le-ltb}
-use lib.ListN.{length, take, drop, replicate, length-append, length-drop, length-map, drop-of-length-le}
+use lib.ListN.{length, take, drop, length-append, length-drop, length-map, drop-of-length-le}
 use lib.Seq.{take-all, take-nil, sets, sets-eq}
 use Rattle.facts.proofs.Choice.{either}
 use Rattle.facts.proofs.Parts.{sets-append}
 use Rattle.buffers.specs.Buffers.{bytesOf}
-use Rattle.registers.proofs.Laws.{ld-bound}
-use Rattle.device.specs.declared.Device.{Device}
-use Rattle.device.specs.Device.{DrawOutcome, lineWidth}
+use Rattle.device.specs.Device.{DrawOutcome}
 use Rattle.report.specs.Report.{placesOf, digits, decimal, Put, refusalText, headingText, lineText, TextOutcome, writeText, textOutcome, LineOutcome, textOf}
 
 -- ---- parts of the input
@@ -101,18 +99,6 @@ pub text-drawn : (o : DrawOutcome) (out : List ℕ) (t : TextOutcome) → o .rep
     → _≡_ {A = LineOutcome} (record { device = o .device; text = t }) (textOf o out)
 unfolding textOf
 text-drawn o out t h e = rw (eq-eqb (o .reply .refusal) 0 h, e)
-
--- ---- a line buffer
-
--- a line is at most 768 pixels wide
-pub width-most : (d : Device) → lineWidth d ≤ 768
-width-most d = omega (arith, ld-bound (d .registers))
-
--- the part of it that a line takes
-pub blank : (n k : ℕ) → n ≤ k → take {A = ℕ} n (replicate k 0) ≡ replicate n 0
-blank zero k h = refl
-blank (suc n) zero h = absurd (not-suc-le-zero h)
-blank (suc n) (suc k) h = ap (λ (l : List ℕ). 0 ∷ l) (blank n k (le-of-suc-le-suc h))
 
 -- ---- how long the texts are
 

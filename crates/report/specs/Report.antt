@@ -9,7 +9,7 @@ use lib.Dec.{eqb, ltb}
 use lib.ListN.{length, take, drop, replicate}
 use lib.Seq.{sets}
 use Rattle.limits.specs.Limits.{ramLength, fontLength}
-use Rattle.buffers.specs.Buffers.{word, bytesOf}
+use Rattle.buffers.specs.Buffers.{word, hexDigit, bytesOf}
 use Rattle.refusals.specs.declared.Refusal.the-variants.{BenchLength}
 use Rattle.refusals.specs.Refusals.{refused}
 use Rattle.registers.specs.Registers.{loaded}
@@ -64,10 +64,6 @@ benchStart input =
     (startFrame (benchDevice input) (lineCount input))
 
 -- ---- numbers
-
--- a capital hexadecimal digit a pixel: 0 is 48, A is 65
-abbrev pub hexDigit : ℕ → ℕ
-hexDigit pixel = cond (ltb (pixel % 16) 10) (48 + pixel % 16) (55 + pixel % 16)
 
 -- how many decimal digits a number has; every number here is below 65,536
 abbrev pub placesOf : ℕ → ℕ

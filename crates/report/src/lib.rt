@@ -3,8 +3,10 @@ ghost use mathlib.Core.Path.{_≡_};
 ghost use mathlib.Core.List.{map};
 ghost use Prim.Native.Nat.{_+_, _-_, _≤_, min};
 ghost use lib.ListN.{length, take, drop};
+ghost use Rattle.limits.specs.Limits.{lineMax};
+ghost use Rattle.buffers.specs.Buffers.{hexDigit};
 ghost use Rattle.device.specs.Device.{startOutcome, drawLine, lineWidth};
-ghost use Rattle.report.specs.Report.{inputLength, ramPart, fontPart, benchDevice, benchStart, hexDigit, placesOf, digits, decimal, Put, refusalText, headingText, lineText, writeText, textOutcome, textOf, nextText, lineOutcome};
+ghost use Rattle.report.specs.Report.{inputLength, ramPart, fontPart, benchDevice, benchStart, placesOf, digits, decimal, Put, refusalText, headingText, lineText, writeText, textOutcome, textOf, nextText, lineOutcome};
 use device::Device;
 use device::StartAnswer;
 use device::StartDone;
@@ -84,16 +86,6 @@ pub fn begin(input: &[u8]) -> StartDone
     device_of(input).start_frame(lines)
 }
 
-fn hex_digit(pixel: u8) -> u8
-    ensures { λ r. ⌜ r ≡ hexDigit pixel ⌝ }
-{
-    let digit = pixel % 16;
-    if digit < 10 {
-        return b'0' + digit;
-    }
-    b'A' - 10 + digit
-}
-
 // How many decimal digits a number has.
 fn places(number: u16) -> usize
     ensures { λ r. ⌜ r ≡ placesOf number ⌝ }
@@ -120,7 +112,7 @@ fn copy_pixels(out: &mut [u8], pixels: &[u8])
 {
     let mut i = 0;
     while i < out.len() {
-        out[i] = hex_digit(pixels[i]);
+        out[i] = buffers::hex_digit(pixels[i]);
         i += 1;
     }
 }
@@ -210,7 +202,7 @@ pub fn line_text(pixels: &[u8], cells: u16, out: &mut [u8]) -> usize
 
 // The width of a device's lines.
 pub fn width_of(device: Device) -> u16
-    ensures { λ r. ⌜ r ≡ lineWidth device ⌝ }
+    ensures { λ r. ⌜ (r ≡ lineWidth device) × (r ≤ lineMax) ⌝ }
 {
     let registers = device.registers;
     let settings = registers.settings();
@@ -248,6 +240,6 @@ pub fn next_text<'a>(device: Device, ram: &'a [u8], font: &'a [u8], out: &mut [u
     ensures { λ r. ⌜ lineOutcome r (now (out .exit)) ≡ nextText device (now (ram .entry)) (now (font .entry)) (now (out .entry)) ⌝ }
 {
     let width = width_of(device) as usize;
-    let mut line = [0u8; 768];
+    let mut line = [0u8; limits::LINE_MAX];
     draw_text(device, ram, font, &mut line[..width], out)
 }

@@ -75,8 +75,8 @@ fn show_event(kind: u8, byte: u8) {
         b't',
         b'e',
         b' ',
-        test_script::digit(byte / 16),
-        test_script::digit(byte % 16),
+        buffers::hex_digit(byte / 16),
+        buffers::hex_digit(byte % 16),
     ];
     io::write_all(1, &text);
 }

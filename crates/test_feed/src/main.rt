@@ -372,6 +372,6 @@ fn show_bytes(bytes: &[u8]) {
 }
 
 fn show_byte(byte: u8) {
-    let text = [test_script::digit(byte / 16), test_script::digit(byte % 16)];
+    let text = [buffers::hex_digit(byte / 16), buffers::hex_digit(byte % 16)];
     io::write_all(1, &text);
 }

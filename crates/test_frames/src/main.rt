@@ -239,7 +239,7 @@ fn spell(line: &mut [u8]) {
 
 fn character(pixel: u8) -> u8 {
     if pixel < 16 {
-        return test_script::digit(pixel);
+        return buffers::hex_digit(pixel);
     }
     if pixel == MARKER { b'.' } else { b'?' }
 }

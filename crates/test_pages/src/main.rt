@@ -319,7 +319,7 @@ fn room_of(step: Step) -> usize {
     if step.kind == 5 {
         return number(step) as usize;
     }
-    768
+    limits::LINE_MAX
 }
 
 // ---- steps 8 and 10 to 15
@@ -449,7 +449,7 @@ fn bitmap(device: Device, ram: &[u8]) {
     let mut text = [b'\n'; 260];
     let mut i = 0;
     while i < 256 {
-        text[i + i / 64] = test_script::digit(four(device, ram, 4 * i as u32));
+        text[i + i / 64] = buffers::hex_digit(four(device, ram, 4 * i as u32));
         i += 1;
     }
     io::write_all(1, &text);

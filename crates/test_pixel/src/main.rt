@@ -19,13 +19,13 @@ use registers::Registers;
 use test_script::Numbers;
 
 // Where the parts of a page lie, and how long a page and a question are.
-const REGISTERS: usize = 1024;
+const REGISTERS: usize = limits::RAM_LENGTH;
 
-const FONT: usize = 1040;
+const FONT: usize = REGISTERS + 16;
 
-const COUNT: usize = 5648;
+const COUNT: usize = FONT + limits::FONT_LENGTH;
 
-const PAGE: usize = 5652;
+const PAGE: usize = COUNT + 4;
 
 const QUESTION: usize = 18;
 
@@ -154,8 +154,8 @@ fn show_lines<'a>(ram: &'a [u8], font: &'a [u8], begun: Device, lines: u32, numb
     };
     let mut y = 0;
     while y < lines {
-        let mut line = [NOT_DRAWN; 768];
-        let mut asked = [NOT_ANSWERED; 768];
+        let mut line = [NOT_DRAWN; limits::LINE_MAX];
+        let mut asked = [NOT_ANSWERED; limits::LINE_MAX];
         let done = device.draw_line(ram, font, &mut line);
         device = done.device;
         ask_line(ram, font, device, lines, number, y, &mut asked);
@@ -174,11 +174,11 @@ fn ask_line<'a>(
     lines: u32,
     number: u8,
     y: u32,
-    asked: &mut [u8; 768],
+    asked: &mut [u8; limits::LINE_MAX],
 ) {
-    for x in 0..768 {
-        let answer = pixel::ask(device, ram, font, lines, number as u32, x, y);
-        asked[x as usize] = answered(answer);
+    for x in 0..limits::LINE_MAX {
+        let answer = pixel::ask(device, ram, font, lines, number as u32, x as u32, y);
+        asked[x] = answered(answer);
     }
 }
 
@@ -190,11 +190,16 @@ fn answered(answer: PixelAnswer) -> u8 {
 }
 
 // The first W pixels of both.
-fn compared(sums: Sums, w: u16, line: &[u8; 768], asked: &[u8; 768]) -> Sums {
+fn compared(
+    sums: Sums,
+    w: u16,
+    line: &[u8; limits::LINE_MAX],
+    asked: &[u8; limits::LINE_MAX],
+) -> Sums {
     let mut differ = sums.differ;
-    for x in 0..768 {
-        if x < w {
-            if line[x as usize] != asked[x as usize] {
+    for x in 0..limits::LINE_MAX {
+        if x < w as usize {
+            if line[x] != asked[x] {
                 differ = std::num::wrapping_add_u64(differ, 1);
             }
         }
@@ -206,12 +211,12 @@ fn compared(sums: Sums, w: u16, line: &[u8; 768], asked: &[u8; 768]) -> Sums {
     }
 }
 
-fn show_line(w: u16, asked: &mut [u8; 768], way: u8) {
+fn show_line(w: u16, asked: &mut [u8; limits::LINE_MAX], way: u8) {
     if way != 0 {
         return;
     }
-    for x in 0..768 {
-        asked[x] = test_script::digit(asked[x]);
+    for x in 0..limits::LINE_MAX {
+        asked[x] = buffers::hex_digit(asked[x]);
     }
     io::write_all(1, test_script::first(asked, w as usize));
     io::write_all(1, b"\n");

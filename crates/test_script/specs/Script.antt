@@ -5,6 +5,7 @@ use mathlib.Core.Bool.{cond}
 use mathlib.Core.List.{List, [], _∷_, _++_}
 use lib.Dec.{eqb, ltb}
 use lib.ListN.{length, getD}
+use Rattle.buffers.specs.Buffers.{hexDigit}
 use Rattle.refusals.specs.Refusals.{Reply, accepted}
 use Rattle.device.specs.declared.Device.{Device}
 use Rattle.device.specs.Device.{freshDevice, EventOutcome, hearEvent, startFrame, DrawOutcome, askCell}
@@ -62,11 +63,7 @@ unfoldable pub mixed : ℕ → List ℕ → Numbers → ℕ
 mixed sum [] by = sum
 mixed sum (x ∷ xs) by = mixed (nextOf sum x by) xs by
 
--- a capital hexadecimal digit: 0 is 48, A is 65
-abbrev pub digitOf : ℕ → ℕ
-digitOf n = cond (ltb (n % 16) 10) (48 + n % 16) (55 + n % 16)
-
 -- the last k hexadecimal digits of a number
 unfoldable pub digitsOf : ℕ → ℕ → List ℕ
 digitsOf zero n = []
-digitsOf (suc k) n = digitsOf k (n / 16) ++ (digitOf (n % 16) ∷ [])
+digitsOf (suc k) n = digitsOf k (n / 16) ++ (hexDigit (n % 16) ∷ [])

@@ -4,7 +4,7 @@ ghost use Prim.Native.Nat.{_<_};
 ghost use lib.ListN.{length, take};
 ghost use Rattle.refusals.specs.Refusals.{accepted};
 ghost use Rattle.device.specs.Device.{hearEvent, startFrame, drawLine, askCell, freshDevice};
-ghost use Rattle.test_script.specs.Script.{stepAt, calledOf, outcomeOf, drawnOf, made, lengthOf, nextOf, noiseOf, mixed, digitOf, digitsOf};
+ghost use Rattle.test_script.specs.Script.{stepAt, calledOf, outcomeOf, drawnOf, made, lengthOf, nextOf, noiseOf, mixed, digitsOf};
 use bus::Event;
 use device::Device;
 
@@ -211,16 +211,6 @@ pub fn noise(bytes: &mut [u8], seed: u64, by: Numbers, unit: u64)
 
 // ---- what is printed
 
-pub fn digit(n: u8) -> u8
-    ensures { λ r. ⌜ r ≡ digitOf n ⌝ }
-{
-    let d = n % 16;
-    if d < 10 {
-        return 48 + d;
-    }
-    55 + d
-}
-
 // The last hexadecimal digits of a number, as many as there is room for.
 pub fn hex_digits(number: u64, out: &mut [u8])
     ensures { λ _. ⌜ now (out .exit) ≡ digitsOf (length (now (out .entry))) number ⌝ }
@@ -229,7 +219,7 @@ pub fn hex_digits(number: u64, out: &mut [u8])
     let mut rest = number;
     while i > 0 {
         i -= 1;
-        out[i] = digit((rest % 16) as u8);
+        out[i] = buffers::hex_digit((rest % 16) as u8);
         rest /= 16;
     }
 }

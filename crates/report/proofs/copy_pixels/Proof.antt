@@ -7,7 +7,7 @@ use native.Mathlib.Omega.{arith}
 use denote.Ref.{now}
 use lib.ListN.{length, take, drop, length-set, length-map, List·getD-map}
 use Rattle.facts.proofs.Written.{written-more, written-whole}
-use Rattle.report.specs.Report.{hexDigit}
+use Rattle.buffers.specs.Buffers.{hexDigit}
 use borrow.Author.Needs.{needs}
 use Rattle.report.proofs.copy_pixels.Statement.{statement}
 use Rattle.report.proofs.copy_pixels.Tie as tie

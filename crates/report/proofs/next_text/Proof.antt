@@ -7,18 +7,16 @@ use native.Mathlib.Omega.{arith}
 use lib.ListN.{replicate}
 use denote.Ref.{now}
 use lib.Seq.{length-take-le}
+use Rattle.limits.specs.Limits.{lineMax}
+use Rattle.buffers.proofs.Laws.{filled-front}
 use Rattle.device.specs.Device.{drawLine}
 use Rattle.report.specs.Report.{textOf}
-use Rattle.report.proofs.Texts.{width-most, blank}
 use borrow.Author.Needs.{needs}
 use Rattle.report.proofs.next_text.Statement.{statement}
 use Rattle.report.proofs.next_text.Tie as tie
 
-array-borrow-prefix-line : tie.Need-array-borrow-prefix-line
-array-borrow-prefix-line c = omega (arith, c .width-of .ensures, width-most (c .before .before .before .before .args .device))
-
 slice-aggregate-draw-text : tie.Need-slice-aggregate-draw-text
-slice-aggregate-draw-text c = sym (length-take-le _ _ (array-borrow-prefix-line (c .before)))
+slice-aggregate-draw-text c = sym (length-take-le _ _ (omega arith))
 
 returns : tie.Need-returns
 returns c =
@@ -26,7 +24,7 @@ returns c =
     let w = c .before .before .before .before .before .before in
     c .before .before .before .draw-text .ensures .0
     ∙ ap (λ (line : List ℕ). textOf (drawLine (a .device) (now (a .ram)) (now (a .font)) line) (now (a .out)))
-    (blank _ 768 (array-borrow-prefix-line w) ∙ ap (λ (n : ℕ). replicate n 0) (w .width-of .ensures))
+    (filled-front (w .width-of .result) lineMax 0 (omega arith) ∙ ap (λ (n : ℕ). replicate n 0) (w .width-of .ensures .0))
 
 pub next-text-spec : {M : Type 1} → statement M
 next-text-spec =
@@ -34,7 +32,7 @@ next-text-spec =
     (tie.spec
     (λ c κs. search needs)
     (λ c. search needs)
-    array-borrow-prefix-line
+    (λ c. search needs)
     slice-aggregate-draw-text
     (λ c κs. search needs)
     (λ c. search needs)

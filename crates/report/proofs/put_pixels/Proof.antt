@@ -3,7 +3,7 @@
 use native.Mathlib.Omega.{arith}
 use denote.Ref.{now}
 use lib.ListN.{length-map}
-use Rattle.report.specs.Report.{hexDigit}
+use Rattle.buffers.specs.Buffers.{hexDigit}
 use Rattle.facts.proofs.Parts.{put-part}
 use borrow.Author.Needs.{needs}
 use Rattle.report.proofs.put_pixels.Statement.{statement}

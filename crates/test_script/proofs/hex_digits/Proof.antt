@@ -8,7 +8,8 @@ use denote.Ref.{now}
 use lib.ListN.{length, drop, length-set}
 use lib.Seq.{drop-length}
 use Rattle.facts.proofs.Written.{back-more, back-whole}
-use Rattle.test_script.specs.Script.{digitOf, digitsOf}
+use Rattle.buffers.specs.Buffers.{hexDigit}
+use Rattle.test_script.specs.Script.{digitsOf}
 use borrow.Author.Needs.{needs}
 use Rattle.test_script.proofs.hex_digits.Statement.{statement}
 use Rattle.test_script.proofs.hex_digits.Tie as tie
@@ -31,8 +32,8 @@ loop-again c =
     let l = c .before .before .loop in (
       search needs,
       length-set (l .out) _ _ ∙ l .inv .1,
-      back-more digitsOf 16 (λ n. digitOf (n % 16)) (λ k n. unfold digitsOf in refl) _ (l .out) (l .i) (l .rest) _ (omega arith)
-          (omega arith) (c .digit .ensures) (l .inv .2),
+      back-more digitsOf 16 (λ n. hexDigit (n % 16)) (λ k n. unfold digitsOf in refl) _ (l .out) (l .i) (l .rest) _ (omega arith)
+          (omega arith) (c .hex-digit .ensures) (l .inv .2),
     )
 
 returns : tie.Need-returns Inv-loop μ-loop

@@ -3,8 +3,8 @@
 use native.Mathlib.Omega.{arith}
 use borrow.Author.Tests.{lt-ltb, le-ltb}
 use borrow.Author.Needs.{needs}
-use Rattle.report.proofs.hex_digit.Statement.{statement}
-use Rattle.report.proofs.hex_digit.Tie as tie
+use Rattle.buffers.proofs.hex_digit.Statement.{statement}
+use Rattle.buffers.proofs.hex_digit.Tie as tie
 
 returns : tie.Need-returns
 returns c = rw (lt-ltb _ _ (c .if1 .taken))
