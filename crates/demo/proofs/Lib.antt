@@ -1,2 +1,1 @@
 pub mod Mixing
-pub mod Playing

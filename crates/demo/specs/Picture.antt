@@ -8,8 +8,7 @@ use lib.ListN.{drop, replicate}
 use Rattle.refusals.specs.Refusals.{Reply}
 use Rattle.device.specs.declared.Device.{Device}
 use Rattle.device.specs.Device.{DrawOutcome, drawLine, lineWidth}
-use Rattle.capture.specs.declared.Feed.{Feed}
-use Rattle.capture.specs.Capture.{freshFeed, isShut, Chip, chip, FeedOutcome, feedChunk}
+use Rattle.capture.specs.Capture.{freshFeed, Chip, chip, FeedOutcome, feedChunk}
 use Rattle.demo.specs.declared.Played.{Played}
 use Rattle.demo.specs.declared.Traffic.{Traffic}
 use Rattle.demo.specs.declared.Traffic.the-variants.{Whole, BadKind}
@@ -30,19 +29,15 @@ pub record Host : Type 0 where
 abbrev pub host : Played → List ℕ → Host
 host p ram = record { chip = chip (p .device) ram; traffic = p .traffic }
 
--- by the feed after it and the bytes of output: a bad kind shuts the feed. An event has two bytes of output, and is counted from 1
-abbrev pub endAt : Feed → ℕ → Traffic
-endAt f n = cond (isShut f) (BadKind (n / 2 + 1)) Whole
+-- by the reply of a feed that had room, which refuses nothing but a bad kind. An event has two bytes of output, and is counted from 1
+abbrev pub endOf : Reply → Traffic
+endOf r = cond (eqb (r .refusal) 0) Whole (BadKind (r .value / 2 + 1))
 
 -- the traffic is one chunk for a feed made anew. The output is as long as the longest input, so it has room: the traffic is taken
 abbrev pub played : Device → List ℕ → List ℕ → Host
 played d ram traffic =
     let o : FeedOutcome = feedChunk (chip d ram) freshFeed traffic (replicate inputLength 0) in
-    record { chip = o .chip; traffic = endAt (o .feed) (o .reply .value) }
-
--- the same end by the reply alone, of a feed that took its chunk
-abbrev pub endOf : Reply → Traffic
-endOf r = cond (eqb (r .refusal) 0) Whole (BadKind (r .value / 2 + 1))
+    record { chip = o .chip; traffic = endOf (o .reply) }
 
 -- ---- mixing
 

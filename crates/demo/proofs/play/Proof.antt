@@ -1,21 +1,17 @@
--- `play`: the output has room, so the feed takes the traffic, and its answer tells the end.
+-- `play`: the feed's answer tells the end.
 -- Assumes nothing.
-use denote.Ref.{now}
-use Rattle.capture.specs.Capture.{chip}
-use Rattle.demo.specs.Picture.{inputLength}
-use Rattle.demo.proofs.Playing.{played-by}
+use mathlib.Core.Path.{ap}
+use Rattle.capture.specs.Capture.{FeedOutcome}
+use Rattle.demo.specs.Picture.{Host, endOf}
 use borrow.Author.Needs.{needs}
 use Rattle.demo.proofs.play.Statement.{statement}
 use Rattle.demo.proofs.play.Tie as tie
 
 returns : tie.Need-returns
 returns c =
-    let t = c .before .before .before .before .before .take in
-    let f = c .before .before .before .before .before .before .before .before in
-    let s = f .before .before .before in
-    let a = s .args in
-    played-by (t .result) (chip (a .device) (now (a .ram))) (now (a .traffic)) _ _ inputLength (s .pre .0) (s .pre .1) (f .fresh .ensures)
-    (t .ensures) (c .end-of .ensures)
+    let t = c .before .before .before .before .before in
+    let taken = rw (t .before .before .before .fresh .ensures) at (t .take .ensures) in
+    rw (c .end-of .ensures) (ap {B = Host} (λ (o : FeedOutcome). record { chip = o .chip; traffic = endOf (o .reply) }) taken)
 
 pub play-spec : {M : Type 1} → statement M
 play-spec =
