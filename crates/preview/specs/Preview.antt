@@ -5,6 +5,7 @@ use mathlib.Core.Bool.{cond}
 use mathlib.Core.List.{List, [], _∷_}
 use lib.Dec.{eqb, ltb}
 use lib.ListN.{getD}
+use Rattle.limits.specs.Limits.{lineMax}
 use Rattle.preview.specs.declared.Size.{Size}
 
 -- ---- the heading: `P6`, a newline, the width and the height in three digits each with a space between, a newline, `255` and one byte
@@ -16,22 +17,22 @@ digit b = cond (ltb b 48) 1000 (cond (ltb 57 b) 1000 (b - 48))
 abbrev pub number : ℕ → ℕ → ℕ → ℕ
 number a b c = 100 * digit a + 10 * digit b + digit c
 
--- four bytes as one number
-abbrev pub word : ℕ → ℕ → ℕ → ℕ → ℕ
-word a b c d = ((a * 256 + b) * 256 + c) * 256 + d
+-- four bytes as one number, the first of them highest
+abbrev pub fourBytes : ℕ → ℕ → ℕ → ℕ → ℕ
+fourBytes a b c d = ((a * 256 + b) * 256 + c) * 256 + d
 
 -- a size of at most 768 × 999, or 0 × 0 where the picture is not shown
 abbrev pub none : Size
 none = record { width = 0; height = 0 }
 
 unfoldable pub shown : ℕ → ℕ → Size
-shown width height = cond (ltb 768 width) none (cond (ltb 999 height) none (record { width = width; height = height }))
+shown width height = cond (ltb lineMax width) none (cond (ltb 999 height) none (record { width = width; height = height }))
 
 -- 50 36 0A 20 is `P6`, newline, space, and 0A 32 35 35 is newline, `255`
 unfoldable pub sizeOf : List ℕ → Size
 sizeOf h =
-    cond (eqb (word (getD h 0 0) (getD h 1 0) (getD h 2 0) (getD h 6 0)) 1345718816)
-    (cond (eqb (word (getD h 10 0) (getD h 11 0) (getD h 12 0) (getD h 13 0)) 171062581)
+    cond (eqb (fourBytes (getD h 0 0) (getD h 1 0) (getD h 2 0) (getD h 6 0)) 0x50360A20)
+    (cond (eqb (fourBytes (getD h 10 0) (getD h 11 0) (getD h 12 0) (getD h 13 0)) 0x0A323535)
     (shown (number (getD h 3 0) (getD h 4 0) (getD h 5 0)) (number (getD h 7 0) (getD h 8 0) (getD h 9 0)))
     none)
     none

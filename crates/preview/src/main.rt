@@ -4,7 +4,8 @@
 ghost use mathlib.Core.Path.{_≡_};
 ghost use Prim.Native.Nat.{_+_, _*_, _≤_, _<_};
 ghost use lib.ListN.{length};
-ghost use Rattle.preview.specs.Preview.{digit, number, word, none, shown, sizeOf, brightness, dot, dots, upper, cell, braille};
+ghost use Rattle.limits.specs.Limits.{lineMax};
+ghost use Rattle.preview.specs.Preview.{digit, number, fourBytes, none, shown, sizeOf, brightness, dot, dots, upper, cell, braille};
 
 pub struct Size {
     pub width: usize,
@@ -26,7 +27,7 @@ fn main() {
 }
 
 fn show(width: usize, rows: usize)
-    requires { ⌜ width ≤ 768 ⌝ }
+    requires { ⌜ width ≤ lineMax ⌝ }
 {
     let mut left = rows;
     while left > 0 {
@@ -35,16 +36,16 @@ fn show(width: usize, rows: usize)
 }
 
 fn next_row(width: usize, left: usize) -> usize
-    requires { ⌜ (width ≤ 768) × (0 < left) ⌝ }
+    requires { ⌜ (width ≤ lineMax) × (0 < left) ⌝ }
     ensures { λ r. ⌜ r < left ⌝ }
 {
-    let mut band = [0u8; 18432];
+    let mut band = [0u8; 24 * limits::LINE_MAX];
     read_row(&mut band, width, left)
 }
 
 // A row of characters, from a band of eight lines. Answers how many rows are left: none where the picture ends early.
 fn read_row(band: &mut [u8], width: usize, left: usize) -> usize
-    requires { ⌜ (24 * width ≤ length (now band)) × (width ≤ 768) × (0 < left) ⌝ }
+    requires { ⌜ (24 * width ≤ length (now band)) × (width ≤ lineMax) × (0 < left) ⌝ }
     ensures { λ r. ⌜ r < left ⌝ }
 {
     let n = 24 * width;
@@ -57,7 +58,7 @@ fn read_row(band: &mut [u8], width: usize, left: usize) -> usize
 }
 
 fn show_row(band: &[u8], width: usize)
-    requires { ⌜ (24 * width ≤ length (now band)) × (width ≤ 768) ⌝ }
+    requires { ⌜ (24 * width ≤ length (now band)) × (width ≤ lineMax) ⌝ }
 {
     let mut column = 0;
     while column < width / 4 {
@@ -71,12 +72,12 @@ fn show_row(band: &[u8], width: usize)
 // The size in a heading; 0 × 0 where the picture is not shown.
 fn size_of(heading: &[u8; 15]) -> Size
     ensures { λ r. ⌜ r ≡ sizeOf (now (heading .entry)) ⌝ }
-    ensures { λ r. ⌜ r .width ≤ 768 ⌝ }
+    ensures { λ r. ⌜ r .width ≤ lineMax ⌝ }
 {
-    if word_of(heading[0], heading[1], heading[2], heading[6]) != 0x50360A20 {
+    if four_bytes(heading[0], heading[1], heading[2], heading[6]) != 0x50360A20 {
         return not_shown();
     }
-    if word_of(heading[10], heading[11], heading[12], heading[13]) != 0x0A323535 {
+    if four_bytes(heading[10], heading[11], heading[12], heading[13]) != 0x0A323535 {
         return not_shown();
     }
     let width = number_of(heading[3], heading[4], heading[5]);
@@ -94,9 +95,9 @@ fn not_shown() -> Size
 
 fn checked(width: usize, height: usize) -> Size
     ensures { λ r. ⌜ r ≡ shown width height ⌝ }
-    ensures { λ r. ⌜ r .width ≤ 768 ⌝ }
+    ensures { λ r. ⌜ r .width ≤ lineMax ⌝ }
 {
-    if width > 768 {
+    if width > limits::LINE_MAX {
         return not_shown();
     }
     if height > 999 {
@@ -108,8 +109,8 @@ fn checked(width: usize, height: usize) -> Size
     }
 }
 
-fn word_of(a: u8, b: u8, c: u8, d: u8) -> u32
-    ensures { λ r. ⌜ r ≡ word a b c d ⌝ }
+fn four_bytes(a: u8, b: u8, c: u8, d: u8) -> u32
+    ensures { λ r. ⌜ r ≡ fourBytes a b c d ⌝ }
 {
     ((a as u32 * 256 + b as u32) * 256 + c as u32) * 256 + d as u32
 }
