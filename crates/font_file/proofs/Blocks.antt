@@ -23,7 +23,7 @@ use Rattle.refusals.specs.Refusals.{fileNumberOf}
 use Rattle.refusals.proofs.Laws.{file-not-zero}
 use Rattle.font_file.specs.declared.FileAnswer.{FileAnswer}
 use Rattle.font_file.specs.declared.FileAnswer.the-variants.{Done, Refused}
-use Rattle.font_file.specs.FontFile.{blockLength, checkedLength, headingLength, payloadLength, usedLength, sumCheck, weightedCheck, contentOf, withChecks, checksRight, allZero, unusedIn, formatRight, blockTest, fileReply}
+use Rattle.font_file.specs.FontFile.{lastBlock, blockLength, checkedLength, headingLength, payloadLength, usedLength, sumCheck, weightedCheck, contentOf, withChecks, checksRight, allZero, unusedIn, formatRight, blockTest, fileReply}
 use Rattle.font_file.specs.Checked.{Bytes, exchanged}
 use Rattle.font_file.proofs.Sums.{sum-set, weighted-exchanged}
 
@@ -64,7 +64,7 @@ blockOf number font = withChecks (contentOf number font)
 
 -- the used length fits the payload
 pub used-most : (number : ℕ) → usedLength number ≤ payloadLength
-used-most number = either (λ (n : ℕ). n ≤ payloadLength) (eqb number 9) 72 payloadLength (omega arith) (omega arith)
+used-most number = either (λ (n : ℕ). n ≤ payloadLength) (eqb number lastBlock) _ _ (omega arith) (omega arith)
 
 pub block-bytes : (number : ℕ) (font : List ℕ) → number < 65536 → Bytes font → Bytes (blockOf number font)
 unfolding withChecks contentOf
@@ -161,7 +161,8 @@ format-back place block l h e =
     let u : ℕ = usedLength place in
     let rest : List ℕ = drop headingLength block in
     let zeros : payloadLength - length (take u rest) ≡ length (unusedIn place block) = simp (length-drop, length-take) (omega (arith, used-most place)) in
-    let unused : unusedIn place block ≡ drop u (take payloadLength rest) = sym (drop-drop u 4 (take checkedLength block)) ∙ ap (drop u) (drop-take headingLength payloadLength block) in
+    let unused : unusedIn place block ≡ drop u (take payloadLength rest) =
+    sym (drop-drop u 4 (take checkedLength block)) ∙ ap (drop u) (drop-take headingLength payloadLength block) in
     let (p, t) = and-both _ _ e in
     let (q, z) = and-both _ _ t in
     rw (zeros, zeros-back _ z, unused, ← take-take u payloadLength rest (used-most place), take-append-drop u (take payloadLength rest))
@@ -198,7 +199,7 @@ module _ (place : ℕ) (block : List ℕ) (l : length block ≡ blockLength) (h 
       by : checksRight (set block i v) ≡ true → Dec (i < checkedLength) → v ≡ getD block i 0
       by s (yes b) =
           let sums = same-sums (set block i v) (set (take checkedLength block) i v) (drop-set-lt checkedLength block i v b) (take-set-lt checkedLength block i v b) s in
-          omega (arith, sums .0, sum-set (take checkedLength block) i v (simp length-take (omega arith)), getD-take checkedLength block i 0 b, h i)
+          omega (arith, sum-set (take checkedLength block) i v (simp length-take (omega arith)), getD-take checkedLength block i 0 b, h i)
       by s (no b) =
           let bytes : Bytes (set block i v) = λ j. set-at (λ _ (x : ℕ). x < 256) block i v j k (h j) in
           sym (getD-set-same block i v 0 (omega arith))
@@ -216,6 +217,7 @@ module _ (place : ℕ) (block : List ℕ) (l : length block ≡ blockLength) (h 
       let x = getD-take checkedLength block i 0 b in
       let y = getD-take checkedLength block (suc i) 0 m in
       let sums =
-      same-sums (exchanged block i (suc i)) (exchanged (take checkedLength block) i (suc i)) (drop-set-lt checkedLength (set block i _) (suc i) _ m ∙ drop-set-lt checkedLength block i _ b)
+      same-sums (exchanged block i (suc i)) (exchanged (take checkedLength block) i (suc i))
+      (drop-set-lt checkedLength (set block i _) (suc i) _ m ∙ drop-set-lt checkedLength block i _ b)
       (rw (x, y, take-set-lt checkedLength (set block i _) (suc i) _ m, take-set-lt checkedLength block i _ b)) s in
-      omega (arith, sums .1, weighted-exchanged (take checkedLength block) 1 i (simp length-take (omega arith)), x, y, h i, h (suc i))))
+      omega (arith, weighted-exchanged (take checkedLength block) 1 i (simp length-take (omega arith)), h i, h (suc i))))

@@ -14,7 +14,7 @@ use Rattle.refusals.specs.Refusals.{fileNumberOf, Reply, accepted, fileRefused}
 use Rattle.font_file.specs.declared.FileAnswer.{FileAnswer}
 use Rattle.font_file.specs.declared.FileAnswer.the-variants.{Done, Refused}
 use Rattle.refusals.proofs.Laws.{file-not-zero}
-use Rattle.font_file.specs.FontFile.{blockCount, sum, weightedSum, contentOf, withChecks, fileOf, blockTest, blocksTest, fontIn, rightLengths, WriteOutcome, writtenBy, writeFont, readBy, readFont}
+use Rattle.font_file.specs.FontFile.{blockCount, lastBlock, sum, weightedSum, contentOf, withChecks, fileOf, blockTest, blocksTest, fontIn, lengthsFit, WriteOutcome, writtenBy, writeFont, readBy, readFont}
 use Rattle.font_file.specs.Checked.{exchanged, payloadAt, blockAt, Fit, written, FontFiles, FileExample}
 use Rattle.font_file.proofs.Outcomes.{read-cases}
 use Rattle.font_file.proofs.Files as files
@@ -54,7 +54,7 @@ module _ (font file buffer : List ℕ) (fit : Fit font file buffer) where
   unfolding readBy
   bad-read other r n = read-by other buffer (Refused r) (n ∙ long) (fit .buffer-length)
 
-wrong-length : (font file : List ℕ) → rightLengths font file ≡ false
+wrong-length : (font file : List ℕ) → lengthsFit font file ≡ false
     → (writeFont font file ≡ record { file = file; reply = fileRefused Length }) × (readFont file font ≡ record { font = font; reply = fileRefused Length })
 unfolding writeFont writtenBy readFont readBy
 wrong-length font file e = (rw e, rw e)
@@ -82,7 +82,7 @@ font-files = record {
   wrong-length = wrong-length;
   first-bad = λ file buffer p r l k m good bad. read-by file buffer (Refused r) l k (files.first-bad file blockCount 0 p p r (omega arith) m good bad);
   all-good = λ file buffer l k good. rw (read-by file buffer Done l k (files.all-good file blockCount 0 (λ q m. good q (omega arith))));
-  place-range = λ file buffer. read-cases (λ o. o .reply .value ≤ 9) file buffer (λ b l p. omega arith) (λ r h. h);
+  place-range = λ file buffer. read-cases (λ o. o .reply .value ≤ lastBlock) file buffer (λ b l p. omega arith) (λ r h. h);
 }
 
 pub file-example : FileExample

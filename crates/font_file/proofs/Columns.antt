@@ -108,7 +108,7 @@ columns-whole zero p xs h =
     -- a sum that is twice itself is 0
     let none : List ℕ → ℕ = λ ys. 0 in
     let s : sum (across none columnCount xs) ≡ 0 = omega (arith, across-sum none none columnCount xs) in
-    (s, omega (arith, s, across-weighted none none p columnCount xs))
+    (s, omega (arith, across-weighted none none p columnCount xs))
 columns-whole (suc n) p xs h =
     let rest : List ℕ = take (columnCount * n) (drop columnCount xs) in
     let more : columnCount * suc n ≡ columnCount + columnCount * n = omega arith in
@@ -121,4 +121,4 @@ columns-whole (suc n) p xs h =
     let appended = rw (length-take-le columnCount xs (omega arith)) at (weighted-append p (take columnCount xs) rest) in
     let up = columns-whole n p (drop columnCount xs) (omega (arith, length-drop columnCount xs)) in
     rw (more, take-add columnCount (columnCount * n) xs)
-    (omega (arith, up, sums, sum-append (take columnCount xs) rest), omega (arith, up, by-column, by-row, appended))
+    (omega (arith, sum-append (take columnCount xs) rest), omega arith)

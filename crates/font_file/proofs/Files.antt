@@ -18,20 +18,20 @@ use Rattle.refusals.specs.declared.FileRefusal.the-variants.{Checks, Format}
 use Rattle.refusals.specs.Refusals.{placeIn}
 use Rattle.font_file.specs.declared.FileAnswer.{FileAnswer}
 use Rattle.font_file.specs.declared.FileAnswer.the-variants.{Done, Refused}
-use Rattle.font_file.specs.FontFile.{orLater, blockCount, blockLength, checkedLength, headingLength, payloadLength, usedLength, blocksOf, checksRight, formatRight, blockTest, blocksTest, fontFrom}
+use Rattle.font_file.specs.FontFile.{orLater, blockCount, lastBlock, blockLength, checkedLength, headingLength, payloadLength, usedLength, blocksOf, checksRight, formatRight, blockTest, blocksTest, fontFrom}
 use Rattle.font_file.specs.Checked.{Bytes, exchanged, payloadAt, blockAt}
 use Rattle.font_file.proofs.Blocks.{refused-not, bytes-append, bytes-take, bytes-drop, blockOf, used-most, block-bytes, block-length, block-passes, block-font, block-back, changed, swapped}
 
 -- a block has what is left of the font, and at most 504 bytes
-pub used-left : (place : ℕ) → place ≤ 9 → usedLength place ≡ min payloadLength (fontLength - payloadLength * place)
-used-left place h = by (ℕ-discrete place 9)
+pub used-left : (place : ℕ) → place ≤ lastBlock → usedLength place ≡ min payloadLength (fontLength - payloadLength * place)
+used-left place h = by (ℕ-discrete place lastBlock)
   where
-    by : Dec (place ≡ 9) → usedLength place ≡ min payloadLength (fontLength - payloadLength * place)
-    by (yes e) = rw (eq-eqb place 9 e) (omega arith)
-    by (no n) = rw (ne-eqb place 9 n) (omega arith)
+    by : Dec (place ≡ lastBlock) → usedLength place ≡ min payloadLength (fontLength - payloadLength * place)
+    by (yes e) = rw (eq-eqb place lastBlock e) (omega arith)
+    by (no n) = rw (ne-eqb place lastBlock n) (omega arith)
 
 -- and as many it takes
-pub first-long : (place : ℕ) (rest : List ℕ) → place ≤ 9 → length rest ≡ fontLength - payloadLength * place → length (take payloadLength rest) ≡ usedLength place
+pub first-long : (place : ℕ) (rest : List ℕ) → place ≤ lastBlock → length rest ≡ fontLength - payloadLength * place → length (take payloadLength rest) ≡ usedLength place
 first-long place rest h l = simp length-take (omega (arith, used-left place h))
 
 -- one step of n further
@@ -101,8 +101,8 @@ module _ (file : List ℕ) where
   each-good (suc count) place (suc j) q e f k =
       each-good count (suc place) j q (both-done _ _ (sym (from-next count place) ∙ e) .1) (omega arith) (omega arith)
 
--- what holds of passing, and of each refusal with a place up to 9, holds of what they find
-pub by-place : (P : FileAnswer → Type 0) (count place : ℕ) (file : List ℕ) → count + place ≡ blockCount → P Done → ((r : FileRefusal) → placeIn r ≤ 9 → P (Refused r))
+-- what holds of passing, and of each refusal with a place up to the last block's, holds of what they find
+pub by-place : (P : FileAnswer → Type 0) (count place : ℕ) (file : List ℕ) → count + place ≡ blockCount → P Done → ((r : FileRefusal) → placeIn r ≤ lastBlock → P (Refused r))
     → P (blocksTest count place file)
 unfolding blocksTest blockTest orLater
 by-place P zero place file n a b = a
@@ -129,7 +129,9 @@ cut xs (y ∷ ys) n e = let f : length xs ≡ n = omega arith in (take-at xs (y 
 
 -- a byte changed behind a block, and in it
 block-before : (file : List ℕ) (q at v : ℕ) → blockLength * q + blockLength ≤ at → blockAt q (set file at v) ≡ blockAt q file
-block-before file q at v h = rw (← drop-take (blockLength * q) blockLength (set file at v), take-set-le (blockLength * q + blockLength) file at v h) (drop-take (blockLength * q) blockLength file)
+block-before file q at v h =
+    rw (← drop-take (blockLength * q) blockLength (set file at v), take-set-le (blockLength * q + blockLength) file at v h)
+    (drop-take (blockLength * q) blockLength file)
 
 block-set : (file : List ℕ) (q r v : ℕ) → r < blockLength → blockAt q (set file (blockLength * q + r) v) ≡ set (blockAt q file) r v
 block-set file q r v h = rw (drop-set-add (blockLength * q) file r v) (take-set-lt blockLength (drop (blockLength * q) file) r v h)
@@ -142,7 +144,7 @@ module _ (file : List ℕ) (l : length file ≡ fontFileLength) (h : Bytes file)
   bytes-at q = bytes-take blockLength (drop (blockLength * q) file) (bytes-drop (blockLength * q) file h)
 
   -- one step of the next law: the bytes of font of the block at a place, before those of the later blocks
-  font-next : (count place : ℕ) (later : List ℕ) → place ≤ 9 → length later ≡ fontLength - payloadLength * suc place
+  font-next : (count place : ℕ) (later : List ℕ) → place ≤ lastBlock → length later ≡ fontLength - payloadLength * suc place
       → blocksOf count (suc place) later ≡ drop (blockLength * suc place) file
       → blocksOf (suc count) place (take (usedLength place) (drop headingLength (drop (blockLength * place) file)) ++ later) ≡ drop (blockLength * place) file
   unfolding blocksOf
@@ -152,7 +154,8 @@ module _ (file : List ℕ) (l : length file ≡ fontFileLength) (h : Bytes file)
       let first : List ℕ = take u (drop headingLength rest) in
       let long : length first ≡ u = simp (length-take, length-drop) (omega (arith, used-most place)) in
       let (a, b) = cut first later payloadLength (omega (arith, used-left place n)) in
-      let part : take u (drop headingLength (blockAt place file)) ≡ first = rw (drop-take headingLength checkedLength rest, take-take u checkedLength (drop headingLength rest) (omega (arith, used-most place))) in
+      let part : take u (drop headingLength (blockAt place file)) ≡ first =
+      rw (drop-take headingLength checkedLength rest, take-take u checkedLength (drop headingLength rest) (omega (arith, used-most place))) in
       let block = rw part at (block-back place (blockAt place file) (block-long place (omega arith)) (bytes-at place) (good place (omega arith))) in
       rw (a, b, s, block, ← next blockLength place file) (take-append-drop blockLength rest)
 

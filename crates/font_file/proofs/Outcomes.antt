@@ -13,26 +13,26 @@ use Rattle.refusals.specs.declared.FileRefusal.{FileRefusal}
 use Rattle.refusals.specs.declared.FileRefusal.the-variants.{Length}
 use Rattle.refusals.specs.Refusals.{placeIn, accepted, fileRefused}
 use Rattle.font_file.specs.declared.FileAnswer.the-variants.{Done, Refused}
-use Rattle.font_file.specs.FontFile.{blockCount, fileOf, blocksTest, fontIn, rightLengths, WriteOutcome, writtenBy, writeFont, ReadOutcome, readBy, readFont}
+use Rattle.font_file.specs.FontFile.{blockCount, lastBlock, fileOf, blocksTest, fontIn, lengthsFit, WriteOutcome, writtenBy, writeFont, ReadOutcome, readBy, readFont}
 use Rattle.font_file.proofs.Files.{blocks-read, by-place, font-long}
 
 module _ (P : WriteOutcome → Type 0) (font file : List ℕ) where
   pub write-cases : (length font ≡ fontLength → length file ≡ fontFileLength → P (record { file = fileOf font; reply = accepted 0 }))
       → P (record { file = file; reply = fileRefused Length }) → P (writeFont font file)
   unfolding writeFont writtenBy
-  write-cases done bad = by (rightLengths font file) refl
+  write-cases done bad = by (lengthsFit font file) refl
     where
-      by : (t : Bool) → rightLengths font file ≡ t → P (writtenBy (cond (not t) (Refused Length) Done) font file)
+      by : (t : Bool) → lengthsFit font file ≡ t → P (writtenBy (cond (not t) (Refused Length) Done) font file)
       by true e = let (f, l) = and-both _ _ e in done (eqb-true _ _ f) (eqb-true _ _ l)
       by false e = bad
 
 module _ (P : ReadOutcome → Type 0) (file font : List ℕ) where
   pub read-cases : (length font ≡ fontLength → length file ≡ fontFileLength → blocksTest blockCount 0 file ≡ Done → P (record { font = fontIn file; reply = accepted 0 }))
-      → ((r : FileRefusal) → placeIn r ≤ 9 → P (record { font = font; reply = fileRefused r })) → P (readFont file font)
+      → ((r : FileRefusal) → placeIn r ≤ lastBlock → P (record { font = font; reply = fileRefused r })) → P (readFont file font)
   unfolding readFont readBy
-  read-cases done bad = by (rightLengths font file) refl
+  read-cases done bad = by (lengthsFit font file) refl
     where
-      by : (t : Bool) → rightLengths font file ≡ t → P (readBy (cond (not t) (Refused Length) (blocksTest blockCount 0 file)) file font)
+      by : (t : Bool) → lengthsFit font file ≡ t → P (readBy (cond (not t) (Refused Length) (blocksTest blockCount 0 file)) file font)
       by true e =
           let (f, l) = and-both _ _ e in
           by-place (λ v. blocksTest blockCount 0 file ≡ v → P (readBy v file font)) blockCount 0 file refl (done (eqb-true _ _ f) (eqb-true _ _ l)) (λ r h q. bad r h) refl

@@ -41,11 +41,12 @@ module _ (m n : ℕ) (piece : ℕ → List ℕ → List ℕ) (f : ℕ → ℕ �
 module _ (k used : ℕ) (h : k < blockCount) (u : used ≡ usedLength k) where
   -- it lies in the font
   pub used-fits : payloadLength * k + used ≤ fontLength
-  used-fits = omega (arith, u, used-left k (omega arith))
+  used-fits = omega (arith, used-left k (omega arith))
 
   pub font-part : (font : List ℕ) → length font ≡ fontLength → let first : List ℕ = take payloadLength (drop (payloadLength * k) font) in
       (take (payloadLength * k + used - payloadLength * k) (drop (payloadLength * k) font) ≡ first) × (length first ≡ usedLength k)
   font-part font l =
       let rest : List ℕ = drop (payloadLength * k) font in
       let long : length (take payloadLength rest) ≡ usedLength k = first-long k rest (omega arith) (simp length-drop (omega arith)) in
-      (rw (add-sub-cancel-left (payloadLength * k) used, u) (rw (take-append-drop payloadLength rest) at (take-at (take payloadLength rest) (drop payloadLength rest) (usedLength k) long)), long)
+      let front = take-at (take payloadLength rest) (drop payloadLength rest) (usedLength k) long in
+      (rw (add-sub-cancel-left (payloadLength * k) used, u) (rw (take-append-drop payloadLength rest) at front), long)

@@ -10,7 +10,7 @@ use Rattle.refusals.specs.declared.FileRefusal.{FileRefusal}
 use Rattle.refusals.specs.declared.FileRefusal.the-variants.{Length, Checks}
 use Rattle.refusals.specs.Refusals.{accepted, fileRefused}
 use Rattle.font_file.specs.declared.FileAnswer.the-variants.{Done, Refused}
-use Rattle.font_file.specs.FontFile.{blockCount, blockLength, headingLength, payloadLength, contentOf, withChecks, blockTest, rightLengths, writeFont, ReadOutcome, readFont}
+use Rattle.font_file.specs.FontFile.{blockCount, lastBlock, blockLength, headingLength, payloadLength, contentOf, withChecks, blockTest, lengthsFit, writeFont, ReadOutcome, readFont}
 
 -- every number of the list is a byte, as in every buffer that the code is lent
 abbrev pub Bytes : List ℕ → Type 0
@@ -64,7 +64,7 @@ pub record FontFiles : Type 0 where
       → (getD (written font file) (payloadAt i) 0 ≡ getD (written font file) (payloadAt (i + 1)) 0 → ⊥)
       → readFont (exchanged (written font file) (payloadAt i) (payloadAt (i + 1))) buffer ≡ badChecks (i / payloadLength) buffer
   -- a wrong length, shorter or longer, of font or file is refused with 15 by both calls, which leave the buffer
-  pub wrong-length : (font file : List ℕ) → rightLengths font file ≡ false
+  pub wrong-length : (font file : List ℕ) → lengthsFit font file ≡ false
       → (writeFont font file ≡ record { file = file; reply = fileRefused Length }) × (readFont file font ≡ record { font = font; reply = fileRefused Length })
   -- the first bad block is named: what its tests find is the answer, whatever stands in later blocks
   pub first-bad : (file buffer : List ℕ) (p : ℕ) (r : FileRefusal) → length file ≡ fontFileLength → length buffer ≡ fontLength → p < blockCount
@@ -74,4 +74,4 @@ pub record FontFiles : Type 0 where
   pub all-good : (file buffer : List ℕ) → length file ≡ fontFileLength → length buffer ≡ fontLength
       → ((q : ℕ) → q < blockCount → blockTest q (blockAt q file) ≡ Done) → readFont file buffer .reply ≡ accepted 0
   -- 16 and 17 come with the block's place, 0 to 9: no answer has a larger number beside it
-  pub place-range : (file buffer : List ℕ) → readFont file buffer .reply .value ≤ 9
+  pub place-range : (file buffer : List ℕ) → readFont file buffer .reply .value ≤ lastBlock

@@ -41,9 +41,12 @@ headingLength = 4
 abbrev pub payloadLength : ℕ
 payloadLength = 504
 
--- how many of them are font
+-- how many of them are font: in the last block, what the others leave
+abbrev pub lastBlock : ℕ
+lastBlock = blockCount - 1
+
 abbrev pub usedLength : ℕ → ℕ
-usedLength number = cond (eqb number 9) 72 payloadLength
+usedLength number = cond (eqb number lastBlock) (fontLength - lastBlock * payloadLength) payloadLength
 
 -- ---- the checks
 
@@ -137,8 +140,8 @@ fontIn file = fontFrom blockCount 0 file
 -- ---- the calls: 15 comes first, and a refusal touches no buffer
 
 -- the font has 4,608 bytes, and the file 5,120
-abbrev pub rightLengths : (font file : List ℕ) → Bool
-rightLengths font file = eqb (length font) fontLength && eqb (length file) fontFileLength
+abbrev pub lengthsFit : (font file : List ℕ) → Bool
+lengthsFit font file = eqb (length font) fontLength && eqb (length file) fontFileLength
 
 -- an answer as the paper has it
 abbrev pub fileReply : FileAnswer → Reply
@@ -146,7 +149,7 @@ fileReply Done = accepted 0
 fileReply (Refused r) = fileRefused r
 
 abbrev pub lengthTest : (font file : List ℕ) → FileAnswer → FileAnswer
-lengthTest font file later = cond (not (rightLengths font file)) (Refused Length) later
+lengthTest font file later = cond (not (lengthsFit font file)) (Refused Length) later
 
 -- the file buffer after a call that writes, and the answer
 pub record WriteOutcome : Type 0 where

@@ -20,9 +20,9 @@ const HEADING_LENGTH: usize = 4;
 const PAYLOAD_LENGTH: usize = 504;
 
 // The last block, and the bytes of font that are left for it.
-const LAST_BLOCK: u8 = 9;
+const LAST_BLOCK: u8 = BLOCKS - 1;
 
-const LAST_LENGTH: usize = 72;
+const LAST_LENGTH: usize = limits::FONT_LENGTH - LAST_BLOCK as usize * PAYLOAD_LENGTH;
 
 // Rows and columns of a payload, as its checks are summed up.
 const ROWS: u16 = 7;

@@ -40,7 +40,7 @@ loop-holds c =
     let block = now (c .before .args .block) in
     let all = columns-whole rowCount (headingLength + 1) (drop headingLength block) (omega (arith, length-drop headingLength block)) in
     let b = c .shared-slice-known .given in
-    (search needs, omega (arith, all), omega (arith, all), b 0 .fits, b 1 .fits, b 2 .fits, b 3 .fits)
+    (search needs, omega arith, omega arith, b 0 .fits, b 1 .fits, b 2 .fits, b 3 .fits)
 
 -- a column's sum times its position
 wrapped-requires-3 : tie.Need-wrapped-requires-3 Inv-loop μ-loop

@@ -31,7 +31,7 @@ loop-again c =
     let l = c .before .before .loop in
     let a = c .before .before .before .args in
     let up = row-up (a .first) (l .row) (now (a .block)) (omega arith) (omega arith) in
-    (search needs, omega (arith, up), omega (arith, up), omega (arith, c .shared-slice-known .given (a .first + columnCount * (l .row - 1))), search needs)
+    (search needs, omega arith, omega arith, omega (arith, c .shared-slice-known .given (a .first + columnCount * (l .row - 1))), search needs)
 
 returns : tie.Need-returns Inv-loop μ-loop
 returns c =

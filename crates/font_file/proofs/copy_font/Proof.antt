@@ -49,12 +49,14 @@ loop-again c =
     let part : List ℕ = take (from + u .result - from) (drop from file) in
     let same : part ≡ take (usedLength (l .place)) (drop headingLength (drop (blockLength * l .place) file)) =
     rw (add-sub-cancel-left from (u .result), u .ensures .0, drop-drop headingLength (blockLength * l .place) file) in
-    let used : length part ≡ usedLength (l .place) = simp (length-take, length-drop) (omega (arith, u .ensures, a .pre .0)) in
-    let left = font-long (blockCount - (l .place + 1)) (l .place + 1) (drop (blockLength * (l .place + 1)) file) (omega arith) (simp length-drop (omega (arith, a .pre .0))) in (
+    let used : length part ≡ usedLength (l .place) = simp (length-take, length-drop) (omega arith) in
+    let next = l .place + 1 in
+    let left = font-long (blockCount - next) next (drop (blockLength * next) file) (omega arith) (simp length-drop (omega arith)) in (
       search needs,
       search needs,
       rw (p .put .ensures)
-          (put-turn blockLength payloadLength (λ k xs. take (usedLength k) (drop headingLength xs)) fontFrom (λ count k xs. refl) (l .place) file (l .font) part _ (omega arith) same (omega (arith, used, left, used-left (l .place) (omega arith))) (l .inv .2)),
+          (put-turn blockLength payloadLength (λ k xs. take (usedLength k) (drop headingLength xs)) fontFrom (λ count k xs. refl) (l .place)
+          file (l .font) part _ (omega arith) same (omega (arith, used-left (l .place) (omega arith))) (l .inv .2)),
     )
 
 returns : tie.Need-returns Inv-loop μ-loop

@@ -19,7 +19,7 @@ returns c =
     let p = c .before .before .before .before .before .before .before .before .before in
     let block = now (p .before .before .before .args .block) in
     c .before .before .put .ensures
-    ∙ sets-end block _ checkedLength (omega (arith, p .before .before .before .pre))
+    ∙ sets-end block _ checkedLength (omega arith)
     ∙ ap (λ (r : CheckSums). take checkedLength block ++ (r .sum % 256 ∷ r .sum / 256 ∷ r .weighted % 256 ∷ r .weighted / 256 ∷ [])) (p .checks-of .ensures)
 
 pub put-checks-spec : {M : Type 1} → statement M

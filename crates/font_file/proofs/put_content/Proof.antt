@@ -34,7 +34,7 @@ content-put block font number f l =
 
 put-requires-2 : tie.Need-put-requires-2
 put-requires-2 c κs =
-    let p = c .before .before .before in omega (arith, used-most (p .before .before .before .before .before .args .number), p .put .kept)
+    let p = c .before .before .before in omega (arith, used-most (p .before .before .before .before .before .args .number))
 
 sub-fill : tie.Need-sub-fill
 sub-fill c =
@@ -51,10 +51,12 @@ returns c =
     let at : ℕ = headingLength + length font in
     let k : ℕ = checkedLength - at in
     let most = used-most (a .args .number) in
-    let puts : filled ≡ sets (sets block 0 (heading (a .args .number) font)) headingLength font = second .put2 .ensures ∙ ap (λ (xs : List ℕ). sets xs headingLength font) (first .put .ensures) in
-    let long : length filled ≡ blockLength = omega (arith, second .put2 .kept, first .put .kept, a .pre .0) in
+    let puts : filled ≡ sets (sets block 0 (heading (a .args .number) font)) headingLength font =
+    second .put2 .ensures ∙ ap (λ (xs : List ℕ). sets xs headingLength font) (first .put .ensures) in
+    let long : length filled ≡ blockLength = omega arith in
     let zeros : length (take k (drop at filled)) ≡ k = simp (length-take, length-drop) (omega arith) in
-    put-part filled (replicate k 0) _ at checkedLength (c .before .before .fill .ensures ∙ ap (λ (n : ℕ). replicate n 0) zeros) (omega (arith, a .pre .1, most, length-replicate {A = ℕ} k 0)) (omega arith)
+    put-part filled (replicate k 0) _ at checkedLength (rw zeros at (c .before .before .fill .ensures))
+    (omega (arith, length-replicate {A = ℕ} k 0)) (omega arith)
     ∙ ap (λ (xs : List ℕ). sets xs at (replicate k 0)) puts
     ∙ content-put block font (a .args .number) (a .fits .number .fits) (a .pre .1)
 

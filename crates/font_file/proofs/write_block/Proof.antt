@@ -19,7 +19,7 @@ returns c =
     let a = p .before .before .before .before in
     c .before .before .put-checks .ensures
     ∙ ap (λ (xs : List ℕ). withChecks (take checkedLength xs)) (p .put-content .ensures)
-    ∙ ap withChecks (part-put (now (a .args .block)) _ 0 checkedLength 0 checkedLength (content-length (a .args .number) (now (a .args .font)) (a .pre .1)) (omega (arith, a .pre .0)) tt)
+    ∙ ap withChecks (part-put (now (a .args .block)) _ 0 checkedLength 0 checkedLength (content-length _ _ (a .pre .1)) (omega arith) tt)
 
 pub write-block-spec : {M : Type 1} → statement M
 write-block-spec =

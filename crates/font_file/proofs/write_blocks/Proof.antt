@@ -56,11 +56,13 @@ loop-again c =
     let block : List ℕ = blockOf (l .number) (take payloadLength (drop (payloadLength * l .number) font)) in
     let (same, used) = font-part (l .number) (u .result) (omega arith) (u .ensures .0) font (a .pre .0) in
     let long : length block ≡ blockLength = block-length (l .number) _ used in
-    let put : _ ≡ sets (l .file) at block = put-part (l .file) block _ at (at + blockLength) (p .write-block .ensures ∙ ap (blockOf (l .number)) same) (omega (arith, long)) (omega (arith, l .inv .1)) in (
+    let put =
+    put-part (l .file) block _ at (at + blockLength) (p .write-block .ensures ∙ ap (blockOf (l .number)) same) (omega arith) (omega arith) in (
       search needs,
       search needs,
       rw put
-          (put-turn payloadLength blockLength (λ k xs. blockOf k (take payloadLength xs)) blocksOf (λ count k xs. refl) (l .number) font (l .file) block _ (omega arith) refl (omega (arith, long)) (l .inv .2)),
+          (put-turn payloadLength blockLength (λ k xs. blockOf k (take payloadLength xs)) blocksOf (λ count k xs. refl) (l .number) font
+          (l .file) block _ (omega arith) refl (omega arith) (l .inv .2)),
     )
 
 returns : tie.Need-returns Inv-loop μ-loop
