@@ -1,9 +1,9 @@
-// What a depot's programs (font_check, font_unpack) say of a font file, in one line.
+// What a depot's programs (font_check, font_unpack, font_pack) say of their input, in one line.
 ghost use mathlib.Core.Path.{_≡_};
 ghost use Prim.Native.Nat.{_+_, _%_, _≤_, _<_};
 ghost use lib.ListN.{length, set};
 ghost use Rattle.font_file.specs.declared.FileAnswer.the-variants.{Refused};
-ghost use Rattle.depot.specs.Depot.{lineOf, textOf};
+ghost use Rattle.depot.specs.Depot.{placeAt, lineOf, notFont, textOf};
 use font_file::FileAnswer;
 use refusals::FileRefusal;
 
@@ -29,8 +29,8 @@ fn line_of(text: &[u8]) -> Line
 }
 
 fn line_with(text: &[u8], place: u8) -> Line
-    requires { ⌜ (18 < length (now text)) × (length (now text) ≤ 64) ⌝ }
-    ensures { λ r. ⌜ textOf r ≡ set (now (text .entry)) 18 (48 + place % 10) ⌝ }
+    requires { ⌜ (placeAt < length (now text)) × (length (now text) ≤ 64) ⌝ }
+    ensures { λ r. ⌜ textOf r ≡ set (now (text .entry)) placeAt (48 + place % 10) ⌝ }
     ensures { λ r. ⌜ r .length ≤ length (r .bytes) ⌝ }
 {
     let mut line = line_of(text);
@@ -66,7 +66,23 @@ fn told(answer: FileAnswer) -> Line
 
 // Printed here, so that font_check and font_unpack say the same.
 pub fn tell(answer: FileAnswer) {
-    let line = told(answer);
+    print(told(answer));
+}
+
+fn not_font() -> Line
+    ensures { λ r. ⌜ textOf r ≡ notFont ⌝ }
+    ensures { λ r. ⌜ r .length ≤ length (r .bytes) ⌝ }
+{
+    line_of(b"refused 15: not 4608 bytes\n")
+}
+
+pub fn tell_not_font() {
+    print(not_font());
+}
+
+fn print(line: Line)
+    requires { ⌜ line .length ≤ length (line .bytes) ⌝ }
+{
     let bytes = line.bytes;
     let length = line.length;
     io::write_all(1, &bytes[..length]);

@@ -17,7 +17,7 @@ fn pack(font: &[u8]) {
             io::write_all(1, &file);
         }
         FileAnswer::Refused(_) => {
-            io::write_all(1, b"refused 15: not 4608 bytes\n");
+            depot::tell_not_font();
         }
     }
 }

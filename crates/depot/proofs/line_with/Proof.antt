@@ -1,11 +1,10 @@
 -- `line_with`: one byte of the text is another.
 -- Assumes nothing.
 use Prim.Native.Nat.{ℕ, _+_, _%_}
-use mathlib.Core.Path.{ap, _∙_}
-use mathlib.Core.List.{List}
 use native.Mathlib.Omega.{arith}
-use lib.ListN.{set, length-set}
+use lib.ListN.{length-set}
 use lib.Seq.{take-set-lt}
+use Rattle.depot.specs.Depot.{placeAt}
 use borrow.Author.Needs.{needs}
 use Rattle.depot.proofs.line_with.Statement.{statement}
 use Rattle.depot.proofs.line_with.Tie as tie
@@ -15,8 +14,8 @@ returns c =
     let a = c .before .before in
     let l = c .line-of in
     let place : ℕ = 48 + a .args .place % 10 in (
-      take-set-lt (l .result .length) (l .result .bytes) 18 place (omega arith) ∙ ap (λ (xs : List ℕ). set xs 18 place) (l .ensures .0),
-      omega (arith, length-set (l .result .bytes) 18 place),
+      rw (← l .ensures .0) (take-set-lt (l .result .length) (l .result .bytes) placeAt place (omega arith)),
+      omega (arith, length-set (l .result .bytes) placeAt place),
     )
 
 pub line-with-spec : {M : Type 1} → statement M
