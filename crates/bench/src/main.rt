@@ -4,7 +4,7 @@ use device::StartAnswer;
 
 fn main() {
     // one byte more than an input has, so that a longer one shows
-    let mut input = [0u8; 5651];
+    let mut input = [0u8; report::INPUT_LENGTH + 1];
     let n = io::read_full(0, &mut input);
     run(&input[..n]);
 }

@@ -2,7 +2,7 @@
 -- Assumes nothing.
 use Prim.Native.Nat.{ℕ, zero, suc, _+_, _-_, _/_, _≤_, _<_, min}
 use mathlib.Core.Path.{_≡_, refl, sym, ap, ap₂, _∙_}
-use mathlib.Core.List.{List, [], _∷_, _++_}
+use mathlib.Core.List.{List, [], _++_}
 use native.Mathlib.Nat.{zero-add}
 use native.Mathlib.Decide.{decLe}
 use native.Mathlib.Omega.{arith}
@@ -69,9 +69,9 @@ module _ {out₀ text : List ℕ} {a : ℕ} {out : List ℕ} (u : Upto out₀ te
   -- one part more
   pub upto-part : {part : List ℕ} {n e : ℕ} {out′ : List ℕ} → Put part n a out e out′ → Upto out₀ (text ++ part) e out′
   upto-part {part} p =
-      let at : a ≡ 0 + length text = omega (arith, u .long) in
+      let at : a ≡ 0 + length text = omega arith in
       record {
-        long = simp length-append (omega (arith, u .long, p .next, p .long));
+        long = simp length-append (omega arith);
         is = rw (p .written, u .is, at) (sets-append out₀ text part 0);
       }
 
@@ -79,8 +79,8 @@ module _ {out₀ text : List ℕ} {a : ℕ} {out : List ℕ} (u : Upto out₀ te
   pub upto-whole : a ≤ length out₀ → textOutcome a out ≡ writeText text out₀
   unfolding writeText
   upto-whole h =
-      rw (le-ltb (length out₀) (length text) (omega (arith, u .long)), u .long)
-      (ap (textOutcome a) (u .is ∙ sets-eq text out₀ 0 (omega (arith, u .long)) ∙ rw (zero-add, u .long)))
+      rw (le-ltb (length out₀) (length text) (omega arith), u .long)
+      (ap (textOutcome a) (u .is ∙ sets-eq text out₀ 0 (omega arith) ∙ rw (zero-add, u .long)))
 
 -- there is no room for the text
 pub too-short : (text out : List ℕ) → length out < length text → textOutcome 0 out ≡ writeText text out

@@ -30,7 +30,8 @@ returns c =
     let out = now (w .before .before .before .before .args .out) in
     let n = w .width-of .result in
     rw (← w .width-of .ensures .0, ← filled-front n lineMax 0 (omega arith))
-    (ap (λ (m : LineOutcome). lineOutcome (m .device) (m .out ++ drop (3 * n) out)) (c .before .before .before .draw-mixed .ensures .0))
+    (ap (λ (m : LineOutcome). lineOutcome (m .device) (m .out ++ drop (3 * n) out))
+    (c .before .before .before .draw-mixed .ensures .0))
 
 pub picture-line-spec : {M : Type 1} → statement M
 picture-line-spec =

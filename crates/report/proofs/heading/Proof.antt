@@ -26,7 +26,7 @@ returns-2 c =
     let a = t .before .before .before .before .args in
     let u₂ = upto-part (upto-part (upto-none (now (a .out))) (p₁ .put-word .ensures)) (p₂ .put-number .ensures) in
     let u₅ = upto-part (upto-part (upto-part u₂ (p₃ .put-word2 .ensures)) (p₄ .put-number2 .ensures)) (p₅ .put-word3 .ensures) in
-    upto-whole u₅ (omega (arith, t .if1 .left, t .before .places2 .ensures .0, t .before .before .places .ensures .0))
+    upto-whole u₅ (omega arith)
 
 pub heading-spec : {M : Type 1} → statement M
 heading-spec =

@@ -20,7 +20,7 @@ returns c =
     let e = t .places .result in
     let long = decimal-length (a .number) in
     let room = mid-len (a .at) (a .at + e) (now (a .out)) (omega arith) in
-    let all : length (take (a .at + e - a .at) (drop (a .at) (now (a .out)))) ≡ placesOf (a .number) = omega (arith, room) in
+    let all : length (take (a .at + e - a .at) (drop (a .at) (now (a .out)))) ≡ placesOf (a .number) = omega arith in
     record {
       long = long;
       next = search needs;

@@ -17,7 +17,7 @@ returns c =
       long = digits;
       next = search needs;
       written =
-          put-part (now (a .out)) _ _ (a .at) _ (c .before .before .copy-pixels .ensures) (omega (arith, digits)) (omega arith);
+          put-part (now (a .out)) _ _ (a .at) _ (c .before .before .copy-pixels .ensures) (omega arith) (omega arith);
     }
 
 pub put-pixels-spec : {M : Type 1} → statement M
