@@ -167,20 +167,13 @@ frameIn bytes =
 abbrev pub putBus : Bus → List ℕ → List ℕ
 putBus b xs = put busAt (busBytes b) xs
 
--- with another number for its state, and no other byte; and the number that stands there
+-- with another number for its state, and no other byte
 abbrev pub putState : BusState → List ℕ → List ℕ
 putState s xs = set xs busAt (stateNumber s)
-
-abbrev pub stateByte : List ℕ → ℕ
-stateByte xs = getD xs busAt 0
 
 -- with other registers
 abbrev pub putRegisters : Registers → List ℕ → List ℕ
 putRegisters r xs = put registersAt (r .bytes) xs
-
--- the registers' bytes in a record
-abbrev pub registerBytes : List ℕ → List ℕ
-registerBytes xs = part registersAt registersLength xs
 
 -- with another next frame number
 abbrev pub putNext : ℕ → List ℕ → List ℕ
@@ -189,6 +182,16 @@ putNext n xs = put nextAt (nextBytes n) xs
 -- with another frame
 abbrev pub putFrame : Frame → List ℕ → List ℕ
 putFrame f xs = put frameAt (frameBytes f) xs
+
+-- ---- bytes looked at in their places
+
+-- the number of the bus's state
+abbrev pub stateByte : List ℕ → ℕ
+stateByte xs = getD xs busAt 0
+
+-- the registers' bytes
+abbrev pub registerBytes : List ℕ → List ℕ
+registerBytes xs = part registersAt registersLength xs
 
 -- ---- the whole record
 
