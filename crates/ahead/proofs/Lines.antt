@@ -9,6 +9,7 @@ use native.Mathlib.Omega.{arith}
 use borrow.Author.Tests.{eq-eqb, ne-eqb}
 use lib.Dec.{eqb}
 use lib.ListN.{getD}
+use Rattle.buffers.specs.Buffers.{Bytes}
 use Rattle.facts.proofs.Pairs.{pair-is}
 use Rattle.cells.specs.Reading.{Reading, value, cells, among}
 use Rattle.cells.proofs.Laws.{cells-bind, among-append}
@@ -30,7 +31,7 @@ use Rattle.line.specs.Line.{Place, shownRow, scanBy, scan}
 use Rattle.line.proofs.Strips.{hasRow, still-row, row-off, no-row, row-shown, scan-value, scan-cells}
 use Rattle.ahead.specs.Ahead.{remaining}
 use Rattle.ahead.specs.Looking.{rowReads, userShown, rowCells, stripReads, pairOf, codesAtMost}
-use Rattle.ahead.proofs.Rows.{Bytes, row-reads, rows-merge, first-two}
+use Rattle.ahead.proofs.Rows.{row-reads, rows-merge, first-two}
 
 -- ---- the rows of a strip
 

@@ -7,6 +7,7 @@ use mathlib.Core.List.{List}
 use native.Mathlib.Omega.{arith}
 use borrow.Author.Tests.{lt-ltb, le-ltb}
 use lib.ListN.{getD, replicate}
+use Rattle.buffers.specs.Buffers.{Bytes}
 use Rattle.cells.specs.Reading.{cells, among}
 use Rattle.raster.specs.declared.ScanLine.{ScanLine}
 use Rattle.raster.specs.Raster.{beforeFirst, linesAfter}
@@ -23,7 +24,7 @@ use Rattle.ahead.specs.Ahead.{remaining}
 use Rattle.ahead.specs.declared.Sought.{Sought}
 use Rattle.ahead.specs.declared.Looked.{Looked}
 use Rattle.ahead.specs.Looking.{codesTo, userShown, rowReads, userReads, Starts, Far, Kept, Marks, anyRow, rowRead, stripRead, wholeRead, linesRead, Posed, Adds}
-use Rattle.ahead.proofs.Rows.{Bytes, reads-split, all-far, code-even, code-of, code-next}
+use Rattle.ahead.proofs.Rows.{reads-split, all-far, code-even, code-of, code-next}
 use Rattle.ahead.proofs.Lines.{or-with, strip-spacing, strip-disabled, strip-characters, from-even, none-left, descriptor-here, descriptor-on, strip-passed}
 use Rattle.ahead.proofs.Marks.{no-row}
 

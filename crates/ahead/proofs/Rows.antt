@@ -10,6 +10,7 @@ use native.Mathlib.Omega.{arith}
 use borrow.Author.Tests.{eq-eqb, ne-eqb, lt-ltb, le-ltb}
 use lib.Dec.{eqb, ltb}
 use lib.ListN.{getD}
+use Rattle.buffers.specs.Buffers.{Bytes}
 use Rattle.facts.proofs.Choice.{cond-same}
 use Rattle.facts.proofs.Pairs.{pair-is}
 use Rattle.cells.specs.Reading.{Reading, done, bind, fmap, cells, among}
@@ -24,10 +25,6 @@ use Rattle.line.specs.Line.{Place, codesBy, codes}
 use Rattle.ahead.specs.Looking.{pairOf, rowReads, userReads, codesTo, Starts}
 
 -- ---- the cells of a row
-
--- every cell of the RAM holds a byte
-abbrev pub Bytes : List ℕ → Type 0
-Bytes ram = (i : ℕ) → getD ram i 0 < 256
 
 pub first-two : (x y z : Bool) → x || (y || z) ≡ (x || (y || false)) || z
 first-two true y z = refl

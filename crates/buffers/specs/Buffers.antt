@@ -1,12 +1,16 @@
 -- Bytes in buffers: numbers of two bytes, low byte first, hexadecimal digits, and texts.
 -- Assumes nothing.
-use Prim.Native.Nat.{ℕ, _+_, _*_, _/_, _%_}
+use Prim.Native.Nat.{ℕ, _+_, _*_, _/_, _%_, _<_}
 use Prim.Native.Char.{code}
 use Prim.Native.String.{String, [] as empty, _∷_ as _then_}
 use mathlib.Core.Bool.{cond}
 use mathlib.Core.List.{List, [], _∷_}
 use lib.Dec.{ltb}
 use lib.ListN.{getD}
+
+-- every number of a list is a byte, as in every buffer that code is lent
+abbrev pub Bytes : List ℕ → Type 0
+Bytes xs = (i : ℕ) → getD xs i 0 < 256
 
 -- the number that stands in two bytes of a list, from place i on
 abbrev pub word : List ℕ → ℕ → ℕ

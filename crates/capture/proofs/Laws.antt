@@ -8,7 +8,7 @@ use native.Mathlib.Decide.{decLt}
 use native.Mathlib.Nat.{add-zero, zero-add}
 use native.Mathlib.Numerals.{sub-one}
 use native.Mathlib.Omega.{arith}
-use borrow.Author.Tests.{eq-eqb, ne-eqb, lt-ltb, le-ltb, eqb-true, ltb-false}
+use borrow.Author.Tests.{ne-eqb, lt-ltb, le-ltb, eqb-true, ltb-false}
 use lib.Dec.{eqb, ltb}
 use lib.ListN.{length, getD, drop, drop-of-length-le}
 use lib.Seq.{sets, drop-cons, sets-eq}
@@ -16,6 +16,7 @@ use Rattle.limits.specs.Limits.{ramLength}
 use Rattle.runs.specs.Runs.{Machine, log, end}
 use Rattle.facts.proofs.Choice.{either}
 use Rattle.refusals.specs.declared.Refusal.the-variants.{RamLength, FeedShut, OutputRoom}
+use Rattle.refusals.proofs.Laws.{failed-not}
 use Rattle.refusals.specs.Refusals.{Reply, accepted, Verdict, passed, failed, refuseIf}
 use Rattle.bus.specs.Bus.{eventOf, badKind}
 use Rattle.device.specs.Device.{EventOutcome, hearEvent}
@@ -156,23 +157,11 @@ by-verdict P f ram chunk out h i j k = by (eqb ram ramLength) (isShut f) (ltb ou
     by true false true p q r = j
     by true false false p q r = k (record { ram-length = eqb-true _ _ p; not-shut = q; room = ltb-false _ _ r })
 
--- each test's finding
-module _ (f : Feed) (ram chunk out : ℕ) where
-  pub finds-ram : (ram ≡ ramLength → ⊥) → feedVerdict f ram chunk out ≡ failed RamLength
-  unfolding feedVerdict
-  finds-ram n = rw (ne-eqb _ _ n)
-
-  pub finds-shut : ram ≡ ramLength → isShut f ≡ true → feedVerdict f ram chunk out ≡ failed FeedShut
-  unfolding feedVerdict
-  finds-shut r s = rw (eq-eqb _ _ r, s)
-
-  pub finds-room : ram ≡ ramLength → isShut f ≡ false → out < 2 * wouldComplete f chunk → feedVerdict f ram chunk out ≡ failed OutputRoom
-  unfolding feedVerdict
-  finds-room r s l = rw (eq-eqb _ _ r, s, lt-ltb _ _ l)
-
-  pub finds-none : Takes f ram chunk out → feedVerdict f ram chunk out ≡ passed
-  unfolding feedVerdict
-  finds-none t = rw (eq-eqb _ _ (t .ram-length), t .not-shut, le-ltb _ _ (t .room))
+-- where they find nothing it is taken
+pub passed-takes : (f : Feed) (ram chunk out : ℕ) → feedVerdict f ram chunk out ≡ passed → Takes f ram chunk out
+passed-takes f ram chunk out =
+    by-verdict (λ (v : Verdict). v ≡ passed → Takes f ram chunk out) f ram chunk out
+    (λ e. absurd (failed-not RamLength e)) (λ s e. absurd (failed-not FeedShut e)) (λ e. absurd (failed-not OutputRoom e)) (λ t e. t)
 
 -- ---- the device's chunk
 

@@ -18,6 +18,8 @@ use Rattle.capture.specs.declared.Feed.{Feed}
 use Rattle.capture.specs.declared.Feed.the-variants.{Open, Half, Shut}
 use Rattle.capture.specs.declared.FeedAnswer.{FeedAnswer}
 use Rattle.capture.specs.declared.FeedAnswer.the-variants as answer
+use Rattle.capture.specs.declared.FeedTest.{FeedTest}
+use Rattle.capture.specs.declared.FeedTest.the-variants as test
 use Rattle.capture.specs.declared.FeedDone.{FeedDone}
 
 -- ---- the events of a capture
@@ -113,6 +115,11 @@ feedVerdict f ram chunk out =
     refuseIf (not (eqb ram ramLength)) RamLength
     (refuseIf (isShut f) FeedShut
     (refuseIf (ltb out (2 * wouldComplete f chunk)) OutputRoom passed))
+
+-- what the code's tests found, in the same form
+abbrev pub verdictIn : FeedTest → Verdict
+verdictIn test.Passed = passed
+verdictIn (test.Failed r) = failed r
 
 -- the paper's numbers for an answer: the value is the number of output bytes that this chunk wrote, also with a refusal
 abbrev pub feedReply : FeedAnswer → Reply

@@ -1,12 +1,13 @@
 // A logger's capture, fed in chunks: two bytes an event go in, two bytes for each finished event come out.
 ghost use mathlib.Core.Path.{_≡_};
 ghost use mathlib.Core.Bool.{false, cond};
-ghost use Prim.Native.Nat.{_+_, _-_, _*_, _≤_, _<_};
+ghost use Prim.Native.Nat.{_+_, _-_, _*_, _^_, _≤_, _<_};
 ghost use lib.Dec.{eqb};
 ghost use lib.ListN.{length};
 ghost use lib.Seq.{sets};
+ghost use Rattle.refusals.specs.Refusals.{valueIn};
 ghost use Rattle.bus.specs.Bus.{busReply};
-ghost use Rattle.capture.specs.Capture.{freshFeed, isShut, heldBytes, heldKind, wouldComplete, outputOf, chip, chunkFed, feedChunk, feedOutcome, feedReply};
+ghost use Rattle.capture.specs.Capture.{freshFeed, isShut, heldBytes, heldKind, wouldComplete, outputOf, feedVerdict, verdictIn, chip, chunkFed, feedChunk, feedOutcome, feedReply};
 ghost use Rattle.capture.specs.Places.{kindAt, feedAt};
 use bus::BusAnswer;
 use bus::Event;
@@ -27,6 +28,12 @@ pub enum FeedAnswer {
     Fed(usize),
     // with the number of output bytes written all the same: before a bad kind, else 0
     Refused(Refusal, usize),
+}
+
+// What the tests before any event find.
+pub enum FeedTest {
+    Passed,
+    Failed(Refusal),
 }
 
 // What a feed leaves and answers.
@@ -76,29 +83,41 @@ impl Feed {
         }
     }
 
+    // The tests before any event, by the lengths that are lent. Refusals 1, 9, 10.
+    pub fn test(self, ram: usize, chunk: usize, out: usize) -> FeedTest
+        requires { ⌜ chunk < 2 ^ 63 ⌝ }
+        ensures { λ r. ⌜ verdictIn r ≡ feedVerdict self ram chunk out ⌝ }
+    {
+        if ram != limits::RAM_LENGTH {
+            return FeedTest::Failed(Refusal::RamLength);
+        }
+        if self.shut() {
+            return FeedTest::Failed(Refusal::FeedShut);
+        }
+        if out < 2 * ((self.held_bytes() + chunk) / 2) {
+            return FeedTest::Failed(Refusal::OutputRoom);
+        }
+        FeedTest::Passed
+    }
+
     // Takes a chunk. Refusals 1, 9, 10; then 9 for a bad kind.
     pub fn take(self, device: Device, ram: &mut [u8], chunk: &[u8], out: &mut [u8]) -> FeedDone
         ensures { λ r. ⌜ feedOutcome r (now (ram .exit)) (now (out .exit)) ≡ feedChunk (chip device (now (ram .entry))) self (now (chunk .entry)) (now (out .entry)) ⌝ }
     {
-        if ram.len() != limits::RAM_LENGTH {
-            return self.not_fed(device, Refusal::RamLength);
+        let test = self.test(ram.len(), chunk.len(), out.len());
+        match test {
+            FeedTest::Passed => self.take_events(device, ram, chunk, out),
+            FeedTest::Failed(refusal) => self.not_fed(device, refusal),
         }
-        if self.shut() {
-            return self.not_fed(device, Refusal::FeedShut);
-        }
-        if out.len() < 2 * ((self.held_bytes() + chunk.len()) / 2) {
-            return self.not_fed(device, Refusal::OutputRoom);
-        }
-        self.take_events(device, ram, chunk, out)
     }
 
     fn not_fed(self, device: Device, refusal: Refusal) -> FeedDone
-        ensures { λ r. ⌜ r ≡ record { device = device; feed = self; answer = FeedAnswer.Refused refusal 0 } ⌝ }
+        ensures { λ r. ⌜ r ≡ record { device = device; feed = self; answer = FeedAnswer.Refused refusal (valueIn refusal) } ⌝ }
     {
         FeedDone {
             device: device,
             feed: self,
-            answer: FeedAnswer::Refused(refusal, 0),
+            answer: FeedAnswer::Refused(refusal, refusal.value() as usize),
         }
     }
 

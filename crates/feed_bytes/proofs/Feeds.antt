@@ -11,7 +11,7 @@ use lib.Seq.{sets}
 use Rattle.refusals.specs.declared.Refusal.{Refusal}
 use Rattle.refusals.specs.Refusals.{Reply, refused, Verdict, passed, failed}
 use Rattle.bus.specs.Bus.{eventOf, badKind, lastKind}
-use Rattle.font_file.specs.Checked.{Bytes}
+use Rattle.buffers.specs.Buffers.{Bytes}
 use Rattle.device.specs.Device.{hearEvent}
 use Rattle.capture.specs.Capture.{outputOf, takenReply, Played, playChunk}
 use Rattle.capture.specs.Places.{kindAt, from}

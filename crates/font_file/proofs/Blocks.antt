@@ -11,7 +11,7 @@ use borrow.Author.Tests.{eq-eqb, eqb-true, eqb-false}
 use lib.Dec.{eqb}
 use lib.ListN.{length, getD, take, drop, set, replicate, length-append, length-take, length-drop, length-replicate, length-set, take-append-drop, drop-of-length-le}
 use lib.Seq.{drop-cons, drop-drop, drop-at, take-at, take-take, take-set-le, take-set-lt, drop-set-lt, getD-take, getD-drop, getD-set-same}
-use Rattle.buffers.specs.Buffers.{word, wordBytes}
+use Rattle.buffers.specs.Buffers.{Bytes, word, wordBytes}
 use Rattle.buffers.proofs.Laws.{word-read}
 use Rattle.facts.proofs.Choice.{either}
 use Rattle.facts.proofs.Lists.{set-at}
@@ -24,7 +24,7 @@ use Rattle.refusals.proofs.Laws.{file-not-zero}
 use Rattle.font_file.specs.declared.FileAnswer.{FileAnswer}
 use Rattle.font_file.specs.declared.FileAnswer.the-variants.{Done, Refused}
 use Rattle.font_file.specs.FontFile.{lastBlock, blockLength, checkedLength, headingLength, payloadLength, usedLength, sumCheck, weightedCheck, contentOf, withChecks, checksRight, allZero, unusedIn, formatRight, blockTest, fileReply}
-use Rattle.font_file.specs.Checked.{Bytes, exchanged}
+use Rattle.font_file.specs.Checked.{exchanged}
 use Rattle.font_file.proofs.Sums.{sum-set, weighted-exchanged}
 
 -- a refusal is not the answer that all is done

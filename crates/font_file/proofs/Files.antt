@@ -10,6 +10,7 @@ use native.Mathlib.Omega.{arith}
 use borrow.Author.Tests.{eq-eqb, ne-eqb}
 use lib.ListN.{length, getD, take, drop, set, length-append, length-take, length-drop, length-set, take-append-drop, drop-of-length-le}
 use lib.Seq.{take-all, take-at, drop-at, drop-drop, take-take, take-set-le, take-set-lt, drop-set-add, set-out}
+use Rattle.buffers.specs.Buffers.{Bytes}
 use Rattle.facts.proofs.Choice.{either}
 use Rattle.facts.proofs.Parts.{drop-take, getD-part}
 use Rattle.limits.specs.Limits.{fontLength, fontFileLength}
@@ -19,7 +20,7 @@ use Rattle.refusals.specs.Refusals.{placeIn}
 use Rattle.font_file.specs.declared.FileAnswer.{FileAnswer}
 use Rattle.font_file.specs.declared.FileAnswer.the-variants.{Done, Refused}
 use Rattle.font_file.specs.FontFile.{orLater, blockCount, lastBlock, blockLength, checkedLength, headingLength, payloadLength, usedLength, blocksOf, checksRight, formatRight, blockTest, blocksTest, fontFrom}
-use Rattle.font_file.specs.Checked.{Bytes, exchanged, payloadAt, blockAt}
+use Rattle.font_file.specs.Checked.{exchanged, payloadAt, blockAt}
 use Rattle.font_file.proofs.Blocks.{refused-not, bytes-append, bytes-take, bytes-drop, blockOf, used-most, block-bytes, block-length, block-passes, block-font, block-back, changed, swapped}
 
 -- a block has what is left of the font, and at most 504 bytes

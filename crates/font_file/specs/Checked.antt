@@ -5,16 +5,13 @@ use mathlib.Core.Path.{_≡_}
 use mathlib.Core.Bool.{false}
 use mathlib.Core.List.{List, [], _∷_, _++_}
 use lib.ListN.{length, getD, set, take, drop, replicate}
+use Rattle.buffers.specs.Buffers.{Bytes}
 use Rattle.limits.specs.Limits.{fontLength, fontFileLength}
 use Rattle.refusals.specs.declared.FileRefusal.{FileRefusal}
 use Rattle.refusals.specs.declared.FileRefusal.the-variants.{Length, Checks}
 use Rattle.refusals.specs.Refusals.{accepted, fileRefused}
 use Rattle.font_file.specs.declared.FileAnswer.the-variants.{Done, Refused}
 use Rattle.font_file.specs.FontFile.{blockCount, lastBlock, blockLength, headingLength, payloadLength, contentOf, withChecks, blockTest, lengthsFit, writeFont, ReadOutcome, readFont}
-
--- every number of the list is a byte, as in every buffer that the code is lent
-abbrev pub Bytes : List ℕ → Type 0
-Bytes xs = (i : ℕ) → getD xs i 0 < 256
 
 -- the list with what stands at i and at j exchanged
 abbrev pub exchanged : List ℕ → (i j : ℕ) → List ℕ

@@ -7,11 +7,11 @@ use mathlib.Core.List.{List, [], _∷_, _++_}
 use native.Mathlib.Decide.{ℕ-discrete, decLt}
 use native.Mathlib.Omega.{arith}
 use borrow.Author.Tests.{eq-eqb, le-ltb, eqb-true, eqb-false, ltb-false, leb-false}
-use lib.Dec.{T, eqb, leb, ltb}
+use lib.Dec.{T, eqb, leb}
 use lib.ListN.{length, getD, drop, length-append, length-set, length-take, length-drop, List·getD-eq-default}
 use Rattle.facts.proofs.Choice.{either}
 use Rattle.facts.proofs.Parts.{getD-part}
-use Rattle.limits.specs.Limits.{ramLength, fontLength, badLineCount, lineCells}
+use Rattle.limits.specs.Limits.{ramLength, fontLength, badLineCount}
 use Rattle.runs.specs.Runs.{end, AsMade}
 use Rattle.runs.proofs.Laws.{kept-by-each, end-read, log-read}
 use Rattle.cells.specs.Reading.{value, among}
@@ -21,7 +21,7 @@ use Rattle.refusals.specs.declared.Unheard.the-variants as unheard
 use Rattle.refusals.specs.declared.Refusal.{Refusal}
 use Rattle.refusals.specs.declared.Refusal.the-variants.{NotAcknowledged, PixelRange}
 use Rattle.refusals.proofs.Laws.{not-zero, at-least-five}
-use Rattle.font_file.specs.Checked.{Bytes}
+use Rattle.buffers.specs.Buffers.{Bytes}
 use Rattle.font_file.specs.FontFile.{blockCount, WriteOutcome, ReadOutcome}
 use Rattle.font_file.proofs.Outcomes.{write-cases, read-cases, write-silent, read-silent, write-length, read-length}
 use Rattle.registers.specs.declared.Registers.{Registers}
@@ -37,11 +37,12 @@ use Rattle.bus.proofs.Claims.{reasons}
 use Rattle.bus.proofs.Unheard.{bus}
 use Rattle.bus.proofs.Laws.{busEvent-refused, busEvent-length, busEvent-sixteen, value-byte}
 use Rattle.raster.specs.Raster.{widthOf}
-use Rattle.line.proofs.Claims.{most-cells, line-pixels}
+use Rattle.line.proofs.Claims.{line-pixels}
 use Rattle.line.proofs.Laws.{paint-length}
 use Rattle.device.specs.declared.Device.{Device}
-use Rattle.device.specs.Device.{freshDevice, EventOutcome, hearEvent, StartOutcome, inFrame, startFrame, DrawOutcome, notDrawn, nextScan, pixelsOf, lineOn, lineWidth, lineDrawn, drawVerdict, drawBy, drawLine, cellsLeft, askCell}
+use Rattle.device.specs.Device.{freshDevice, EventOutcome, hearEvent, StartOutcome, inFrame, startFrame, DrawOutcome, notDrawn, nextScan, pixelsOf, lineOn, lineWidth, lineDrawn, drawLine, cellsLeft, askCell}
 use Rattle.device.proofs.Laws.{by-start, by-draw}
+use Rattle.device.proofs.ReadCount.{read-count}
 use Rattle.capture.specs.declared.Feed.{Feed}
 use Rattle.capture.specs.declared.Feed.the-variants.{Open, Half, Shut}
 use Rattle.capture.specs.Capture.{Logged, freshFeed, finished, feedAfter, outputs, outputFrom, Chip, chip, busEvents, takenReply, FeedOutcome, chunkFed, feedBy, feedChunk}
@@ -459,15 +460,6 @@ unfolding hearEvent
 bus-value xs ram kind byte h k =
     value-byte (deviceIn xs .bus) (deviceIn xs .registers) ram (eventOf kind byte) (part-bytes xs registersAt registersLength h) k
 
-draw-value : (d : Device) (ram font line : List ℕ) → drawLine d ram font line .reply .value ≤ lineCells
-unfolding drawLine drawVerdict drawBy lineDrawn
-draw-value d ram font line =
-    let P : Verdict → Type 0 = λ v. drawBy v d ram font line .reply .value ≤ lineCells in
-    either P (not (eqb (length ram) ramLength)) _ _ (omega arith)
-    (either P (not (eqb (length font) fontLength)) _ _ (omega arith)
-    (either P (eqb (d .frame .left) 0) _ _ (omega arith)
-    (either P (ltb (length line) (lineWidth d)) _ _ (omega arith) (most-cells (d .registers) (d .frame .walk) ram .most))))
-
 cell-value : (d : Device) (ram : List ℕ) (c : ℕ) → askCell d ram c .value ≤ 1
 unfolding askCell
 cell-value d ram c =
@@ -542,7 +534,7 @@ crossing =
       apart = λ r h. let a : replyIn (answerOf r) .refusal ≡ r .refusal = omega arith in let b : replyIn (answerOf r) .value ≡ r .value = omega arith in λ i. record { refusal = a i; value = b i };
       value-bus = bus-value;
       value-start = λ xs lines. by-start (λ (o : StartOutcome). o .reply .value ≡ 0) (deviceIn xs) lines refl refl;
-      value-draw = λ xs. draw-value (deviceIn xs);
+      value-draw = λ xs. read-count (deviceIn xs);
       value-cell = λ xs. cell-value (deviceIn xs);
       value-pixel = λ xs. pixel-value (deviceIn xs .registers);
       value-feed = value-most;

@@ -1,23 +1,18 @@
 -- The proof that osd_pixel answers what osd_draw writes (specs/Pixels.antt): on the device that the bytes are read as each call that is taken brings
 -- the frame on as the device's call does, and any other leaves it.
 -- Assumes nothing.
-use Prim.Native.Nat.{ℕ, _+_, _<_}
+use Prim.Native.Nat.{ℕ, _+_}
 use mathlib.Core.Path.{_≡_, refl, sym, ap, _∙_, subst}
 use mathlib.Core.Bool.{Bool, true, false, cond, and-false}
 use mathlib.Core.List.{List}
 use native.Mathlib.Nat.{zero-add, add-zero}
 use native.Mathlib.Omega.{arith}
-use borrow.Author.Tests.{eqb-false}
 use lib.ListN.{length, getD}
 use Rattle.runs.specs.Runs.{end}
 use Rattle.runs.proofs.Laws.{kept-by-each, counted}
-use Rattle.refusals.specs.Refusals.{numberOf}
-use Rattle.refusals.proofs.Laws.{not-zero}
 use Rattle.registers.specs.declared.Registers.{Registers}
-use Rattle.line.proofs.Counts.{line-most}
-use Rattle.device.specs.declared.Device.{Device}
-use Rattle.device.specs.Device.{DrawOutcome, lineDrawn, drawLine}
-use Rattle.device.proofs.Laws.{by-draw}
+use Rattle.device.specs.Device.{drawLine}
+use Rattle.device.proofs.ReadCount.{read-count}
 use Rattle.capture.specs.Capture.{Logged}
 use Rattle.calls.specs.Calls.{Call, Answer, Kept, isDraw, drew}
 use Rattle.calls.specs.OnePage as device
@@ -35,20 +30,13 @@ use Rattle.interface.proofs.Crossing.{crossing}
 
 -- ---- answers
 
--- the read count of a draw has 16 bits
-draw-value : (d : Device) (ram font line : List ℕ) → drawLine d ram font line .reply .refusal ≡ 0 → drawLine d ram font line .reply .value < 65536
-unfolding lineDrawn
-draw-value d ram font line =
-    by-draw d ram font line (λ (o : DrawOutcome). o .reply .refusal ≡ 0 → o .reply .value < 65536)
-    (λ r e. absurd (eqb-false (numberOf r) 0 (not-zero r) e)) (λ ready e. omega (arith, line-most (d .registers) (d .frame .walk) ram))
-
 -- what a call that is taken draws, the device's does
 same-drew : (font : List ℕ) (u : device.State) {c : Call Logged} → View c
     → drew isAccepted (record { call = c; answer = inBytes (device.answer font u (heard c)) })
     ≡ drew pixels.accepts (record { call = heard c; answer = device.answer font u (heard c) })
 unfolding isDraw heard device.make
 same-drew font u (draws line) =
-    ap (λ (b : Bool). cond b 1 0) (refusal-zero (drawLine (u .device) (u .ram) font line .reply) (draw-value (u .device) (u .ram) font line))
+    ap (λ (b : Bool). cond b 1 0) (refusal-zero (drawLine (u .device) (u .ram) font line .reply) (λ e. omega (arith, read-count (u .device) (u .ram) font line)))
 same-drew font u (asks cell) = refl
 same-drew font u (acts {c = c} t d) = rw (same-kind c .1, d)
 
@@ -100,7 +88,7 @@ pixels-agree-bytes font s lines frame x y cs line long a b h k number put count 
     (started s lines) cs put (crossing .length-start (s .device) lines ∙ long) in
     let done = crossing .draw (u .device) (u .ram) font line still in
     record {
-      drawn = omega (arith, done .2, same .drawn, draw-value (reads u .device) (u .ram) font line (same .drawn));
+      drawn = omega (arith, done .2, same .drawn, read-count (reads u .device) (u .ram) font line);
       pixel =
           crossing .pixel (s .device) (s .ram) font lines frame x y long
           ∙ ap answerOf (same .pixel)

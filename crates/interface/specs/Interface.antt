@@ -13,7 +13,7 @@ use Rattle.refusals.specs.declared.Unheard.{Unheard}
 use Rattle.refusals.specs.declared.Refusal.{Refusal}
 use Rattle.refusals.specs.declared.Refusal.the-variants.{NotAcknowledged}
 use Rattle.refusals.specs.Refusals.{numberOf, Reply, refused, Verdict, passed, failed}
-use Rattle.font_file.specs.Checked.{Bytes}
+use Rattle.buffers.specs.Buffers.{Bytes}
 use Rattle.font_file.specs.FontFile.{blockCount, WriteOutcome, writeFont, ReadOutcome, readFont}
 use Rattle.bus.specs.declared.BusState.the-variants.{Deaf, Slave}
 use Rattle.bus.specs.Bus.{eventOf, lastKind, badKind, BusOutcome}

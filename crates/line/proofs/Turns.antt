@@ -9,6 +9,7 @@ use mir.Syntax.{w32}
 use mir.Val.{Fits}
 use lib.ListN.{length, getD, take, drop, replicate, length-append, length-take, take-append-drop}
 use borrow.Rule.Slice.PartMut.{putMid, same-len-mid, post-is, mid-len, drop-put}
+use Rattle.limits.specs.Limits.{lineMax}
 use Rattle.raster.proofs.Laws.{characters-more}
 use borrow.Author.Tests.{eqb-true}
 use lib.Seq.{take-all, take-at}
@@ -168,7 +169,7 @@ module _ (ram font : List ℕ) (address : ℕ) (pen : Pen) (first w : ℕ) (out�
       record { upto = h; long = refl; paired = omega arith; front = rw (e, codes-even); back = refl; count = rw (e, codes-even) (omega arith) }
 
   -- no row reads more than 256 cells
-  pub row-bound : (x a n bits : ℕ) (out : List ℕ) → w ≤ 768 → RowUpTo ram font address pen first w out₀ x a n bits out → n ≤ 256
+  pub row-bound : (x a n bits : ℕ) (out : List ℕ) → w ≤ lineMax → RowUpTo ram font address pen first w out₀ x a n bits out → n ≤ 256
   row-bound x a n bits out h i = omega (arith, i .count, codes-most ((w - first + 11) / 12) (pen .slice) address ram)
 
   -- the room is full

@@ -3,7 +3,7 @@ ghost use mathlib.Core.Path.{_≡_};
 ghost use Prim.Native.Nat.{_+_, _≤_, _<_, min};
 ghost use mathlib.Core.List.{_++_};
 ghost use lib.ListN.{length, drop, replicate};
-ghost use Rattle.limits.specs.Limits.{ramLength};
+ghost use Rattle.limits.specs.Limits.{ramLength, lineMax};
 ghost use Rattle.registers.specs.Registers.{settingsOf};
 ghost use Rattle.raster.specs.Raster.{OnScreen, widthOf};
 ghost use Rattle.walk.specs.Walk.{OnLine};
@@ -81,7 +81,7 @@ fn draw_row<'a>(
     first: usize,
     w: usize,
 ) -> u32
-    requires { ⌜ (first ≤ w) × (w ≤ length (now out)) × (w ≤ 768) ⌝ }
+    requires { ⌜ (first ≤ w) × (w ≤ length (now out)) × (w ≤ lineMax) ⌝ }
     requires { ⌜ Lent (now ram) (now font) ⌝ }
     requires { ⌜ OnScreen (pen .slice) × IsPlain (pen .plain) ⌝ }
     ensures { λ r. ⌜ RowDrawn (now (ram .entry)) (now (font .entry)) address pen first w (now (out .entry)) r (now (out .exit)) ⌝ }
@@ -133,7 +133,7 @@ fn draw_characters<'a>(
     first: usize,
     w: usize,
 ) -> u32
-    requires { ⌜ (w ≤ length (now out)) × (w ≤ 768) ⌝ }
+    requires { ⌜ (w ≤ length (now out)) × (w ≤ lineMax) ⌝ }
     requires { ⌜ Lent (now ram) (now font) ⌝ }
     requires { ⌜ OnScreen (pen .slice) × IsPlain (pen .plain) ⌝ }
     ensures { λ r. ⌜ CharactersDrawn (now (ram .entry)) (now (font .entry)) address pen first w (now (out .entry)) r (now (out .exit)) ⌝ }

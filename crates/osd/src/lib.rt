@@ -5,6 +5,7 @@ ghost use Rattle.layout.specs.Layout.{recordLength};
 ghost use Rattle.layout.specs.FeedLayout.{feedLength};
 ghost use Rattle.interface.specs.Interface.{freshOn, busOn, startOn, drawOn, cellOn, pixelOn, feedFreshOn, feedOn, fontWriteOn, fontReadOn};
 use capture::Feed;
+use capture::FeedTest;
 use device::Device;
 use device::DrawAnswer;
 use device::StartAnswer;
@@ -186,20 +187,17 @@ pub extern "C" fn osd_feed(
     if chunk.len() > CHUNK_MAX {
         return NOT_TAKEN;
     }
-    if ram.len() != limits::RAM_LENGTH {
-        return interface::refuse(Refusal::RamLength);
-    }
     let before = layout::feed_in(feed);
-    if before.shut() {
-        return interface::refuse(Refusal::FeedShut);
+    let test = before.test(ram.len(), chunk.len(), out.len());
+    match test {
+        FeedTest::Passed => {
+            let taken = feed_bytes::take_events(device, ram, chunk, out, before);
+            let after = taken.feed;
+            layout::write_feed(feed, after);
+            feed_bytes::fed(after, taken.written)
+        }
+        FeedTest::Failed(refusal) => interface::refuse(refusal),
     }
-    if out.len() < 2 * ((before.held_bytes() + chunk.len()) / 2) {
-        return interface::refuse(Refusal::OutputRoom);
-    }
-    let taken = feed_bytes::take_events(device, ram, chunk, out, before);
-    let after = taken.feed;
-    layout::write_feed(feed, after);
-    feed_bytes::fed(after, taken.written)
 }
 
 #[no_mangle]

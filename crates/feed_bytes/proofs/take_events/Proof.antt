@@ -11,7 +11,7 @@ use denote.Ref.{now}
 use lib.ListN.{length}
 use Rattle.bus.specs.Bus.{badKind}
 use Rattle.capture.specs.declared.Feed.{Feed}
-use Rattle.font_file.specs.Checked.{Bytes}
+use Rattle.buffers.specs.Buffers.{Bytes}
 use Rattle.capture.specs.Places.{from}
 use Rattle.capture.proofs.Laws.{from-bad, from-end, from-first, held-one, rest-whole}
 use Rattle.interface.specs.Interface.{lent, busCalls}
