@@ -278,17 +278,28 @@ fn pass_zeros(low: Passed, h: u32) -> Passed
     low
 }
 
-// The place of the lowest bit that is set.
+// The place of the lowest bit that is set, where it is one of the first eight that are left.
+fn lowest_of_8(low: Passed) -> usize
+    requires { ⌜ low .zeros ≤ 24 ⌝ }
+    ensures { λ r. ⌜ ((x : ℕ) → ZerosOf x 8 low → Lowest x r) ⌝ }
+{
+    let by_4 = pass_zeros(low, 4);
+    let by_2 = pass_zeros(by_4, 2);
+    let by_1 = pass_zeros(by_2, 1);
+    by_1.zeros
+}
+
+// The place of the lowest bit that is set. Where many rows are marked it is mostly near.
 fn lowest(x: u32) -> usize
     requires { ⌜ (x ≡ 0 → ⊥) ⌝ }
     ensures { λ r. ⌜ Lowest x r ⌝ }
 {
-    let by_16 = pass_zeros(Passed { zeros: 0, rest: x }, 16);
-    let by_8 = pass_zeros(by_16, 8);
-    let by_4 = pass_zeros(by_8, 4);
-    let by_2 = pass_zeros(by_4, 2);
-    let by_1 = pass_zeros(by_2, 1);
-    by_1.zeros
+    let low = Passed { zeros: 0, rest: x };
+    if x % 256 != 0 {
+        return lowest_of_8(low);
+    }
+    let by_16 = pass_zeros(low, 16);
+    lowest_of_8(pass_zeros(by_16, 8))
 }
 
 // The first marked row from a row on, or 512.

@@ -1,29 +1,30 @@
--- `lowest`: after the last pass the first digit left is set.
+-- `lowest`: as long as no bit was passed that is set, the first that is left is the lowest.
 -- Assumes nothing.
 use native.Mathlib.Omega.{arith}
 use borrow.Author.Needs.{needs}
-use Rattle.ahead.proofs.Marks.{no-zeros, all-zeros}
+use Rattle.ahead.proofs.Marks.{no-zeros}
 use Rattle.ahead.proofs.lowest.Statement.{statement}
 use Rattle.ahead.proofs.lowest.Tie as tie
 
 returns : tie.Need-returns
 returns c =
-    let d = c .before in
-    let b = d .before .before in
-    let s = b .before .before in
+    let s = c .before .before in
+    let z = no-zeros (s .args .x) (s .fits .x .fits) (s .pre) in
+    c .lowest-of-8 .ensures (s .args .x) (record { zeros = z .zeros; after = z .after; some = c .before .if1 .taken })
+
+returns-2 : tie.Need-returns-2
+returns-2 c =
+    let s = c .before .before .before .before in
     let x = s .args .x in
-    all-zeros x (c .pass-zeros5 .result)
-    (omega (arith, c .pass-zeros5 .ensures .0, d .pass-zeros4 .ensures .0, d .before .pass-zeros3 .ensures .0, b .pass-zeros2 .ensures .0, b .before .pass-zeros .ensures .0))
-    (c .pass-zeros5 .ensures .1 x (d .pass-zeros4 .ensures .1 x (d .before .pass-zeros3 .ensures .1 x
-    (b .pass-zeros2 .ensures .1 x (b .before .pass-zeros .ensures .1 x (no-zeros x (s .fits .x .fits) (s .pre)))))))
+    c .lowest-of-82 .ensures x (c .before .pass-zeros2 .ensures .1 x (c .before .before .pass-zeros .ensures .1 x (no-zeros x (s .fits .x .fits) (s .pre))))
 
 pub lowest-spec : {M : Type 1} → statement M
 lowest-spec =
     tie.close
     (tie.spec
     (λ c κs. search needs)
+    returns
     (λ c κs. search needs)
     (λ c κs. search needs)
     (λ c κs. search needs)
-    (λ c κs. search needs)
-    returns)
+    returns-2)
