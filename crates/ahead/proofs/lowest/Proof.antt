@@ -1,6 +1,5 @@
 -- `lowest`: as long as no bit was passed that is set, the first that is left is the lowest.
 -- Assumes nothing.
-use native.Mathlib.Omega.{arith}
 use borrow.Author.Needs.{needs}
 use Rattle.ahead.proofs.Marks.{no-zeros}
 use Rattle.ahead.proofs.lowest.Statement.{statement}
