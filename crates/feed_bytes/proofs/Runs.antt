@@ -156,36 +156,48 @@ module _ (ys ram chunk : List ℕ) (held j : ℕ) (out : List ℕ) (n a : ℕ) (
 pub kind-before : (chunk : List ℕ) (held j k : ℕ) → 0 < j → getD chunk (j - 1) 0 ≡ k → kindAt chunk held j ≡ k
 kind-before chunk held j k h e = rw (ne-eqb j 0 (λ z. omega arith)) e
 
+pub kind-at : (chunk : List ℕ) (held j k : ℕ) → getD chunk j 0 ≡ k → kindAt chunk held (j + 1) ≡ k
+kind-at chunk held j k e =
+    let one : j + 1 - 1 ≡ j = omega arith in
+    kind-before chunk held (j + 1) k (omega arith) (ap (λ (i : ℕ). getD chunk i 0) one ∙ e)
+
 -- no event
 pub ran-none : (chunk : List ℕ) (first : ℕ) (b : ChipBytes) (out : List ℕ) (i : ℕ) → Ran chunk first b out i b out i
 ran-none chunk first b out i = record { forth = omega arith; events = omega arith; within = λ h. h; left = λ held. refl }
 
--- an event of a run that began at place i: its byte at place j is in the chunk of n bytes, and the run goes on two places further
-pub record InRun (i j n : ℕ) : Type 0 where
-  pub behind : 0 < j
-  pub inside : j < n
-  pub events : (j + 2 - i) % 2 ≡ 0
-  pub within : j + 2 ≤ n + 1
-  pub less : n + 1 - (j + 2) < n + 1 - j
-  pub output : (first : ℕ) → first ≤ i → j + 2 - first ≡ suc (suc (j - first))
+-- runs one behind the other
+pub both-run : (i j k : ℕ) → i ≤ j → (j - i) % 2 ≡ 0 → j ≤ k → (k - j) % 2 ≡ 0 → (k - i) % 2 ≡ 0
+both-run i j k g d h e = omega (arith, d, e)
 
-pub in-run : (i j n : ℕ) → 0 < i → i ≤ j → (j - i) % 2 ≡ 0 → j - 1 < n - 1 → InRun i j n
-in-run i j n b f e h =
-    let l : j < n = omega arith in
+-- an event of a run that began at place i, with its kind at place k: its byte is in the chunk, its output has room, and the run goes on behind it
+pub record InRun (chunk out : List ℕ) (first i k : ℕ) : Type 0 where
+  pub inside : k + 1 < length chunk
+  pub forth : i ≤ k + 2 + 1
+  pub events : (k + 2 + 1 - i) % 2 ≡ 0
+  pub within : k + 2 + 1 ≤ length chunk + 1
+  pub less : length chunk + 1 - (k + 2) < length chunk + 1 - k
+  pub second : k + 2 - first ≡ suc (k + 1 - first)
+  pub output : k + 2 + 1 - first ≡ suc (suc (k + 1 - first))
+  pub room : k + 2 - first < length out
+
+pub in-run : (chunk out : List ℕ) (first i k : ℕ) → Place chunk out first i → i ≤ k + 1 → (k + 1 - i) % 2 ≡ 0 → k < length chunk - 1 → InRun chunk out first i k
+in-run chunk out first i k p f e h =
+    let l : k + 1 < length chunk = omega arith in
+    let r : first ≤ k + 1 = omega (arith, p .reached, f) in
+    let d : (k + 1 - first) % 2 ≡ 0 = both-run first i (k + 1) (p .reached) (p .events) f e in
     record {
-      behind = omega arith;
       inside = l;
-      events = omega (arith, e);
+      forth = omega (arith, f);
+      events = omega (arith, e, f);
       within = omega (arith, l);
       less = omega (arith, l);
-      output = λ first r. omega (arith, r);
+      second = omega (arith, r);
+      output = omega (arith, r);
+      room = fits (length chunk) (length out) first k l r d (p .room);
     }
-
--- the second output byte of an event has room
-pub second-fits : (chunk out₀ out : List ℕ) (first i j v : ℕ) → Place chunk out₀ first i → length out ≡ length out₀ → i ≤ j → (j - i) % 2 ≡ 0
-    → j < length chunk → j - first + 1 < length (set out (j - first) v)
-second-fits chunk out₀ out first i j v p l f e t =
-    rw (length-set out (j - first) v) (omega (arith, l, p .reached, p .events, p .room))
+  where
+    fits : (n m first k : ℕ) → k + 1 < n → first ≤ k + 1 → (k + 1 - first) % 2 ≡ 0 → 2 * ((n + 1 - first) / 2) ≤ m → k + 2 - first < m
+    fits n m first k l r d h = omega (arith, d, h)
 
 -- the place behind an event, and the place behind the runs that follow it
 pub next-place : (chunk out out′ : List ℕ) (first i j : ℕ) → first ≤ i → (i - first) % 2 ≡ 0 → 2 * ((length chunk + 1 - first) / 2) ≤ length out
@@ -195,9 +207,6 @@ next-place chunk out out′ first i j f e r l g d =
 
 pub goes-on : (n i j k : ℕ) → i < n → i + 2 ≤ j → j ≤ k → n + 1 - k < n + 1 - i
 goes-on n i j k l g h = omega arith
-
-pub both-run : (i j k : ℕ) → i ≤ j → (j - i) % 2 ≡ 0 → j ≤ k → (k - j) % 2 ≡ 0 → (k - i) % 2 ≡ 0
-both-run i j k g d h e = omega (arith, d, e)
 
 pub two-more : (i first : ℕ) → first ≤ i → i + 2 - first ≡ suc (suc (i - first))
 two-more i first h = omega arith

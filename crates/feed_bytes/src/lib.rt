@@ -48,8 +48,8 @@ fn end_run(device: &mut [u8], state: BusState, counter: u16)
 }
 
 // A run of data bytes, where a byte at place i would complete the next event; answers the place behind the run. Most of a capture's
-// events are such, so the counter is kept apart from the record until the run ends. The loop's test is of the kind's place: then the
-// compiler counts by that place alone, with three instructions less an event.
+// events are such, so the counter is kept apart from the record until the run ends. It is gone through by the places of kinds, at 32 bits,
+// which small processors count by in one instruction.
 fn write_run(
     device: &mut [u8],
     ram: &mut [u8],
@@ -58,7 +58,7 @@ fn write_run(
     i: usize,
     first: usize,
 ) -> usize
-    requires { ⌜ (length (now device) ≡ recordLength) × (length (now ram) ≡ ramLength) ⌝ }
+    requires { ⌜ (length (now device) ≡ recordLength) × (length (now ram) ≡ ramLength) × (length (now chunk) ≤ chunkMax) ⌝ }
     requires { ⌜ Place (now chunk) (now out) first i ⌝ }
     ensures { λ r. ⌜ Ran (now (chunk .entry)) first (lent (now (device .entry)) (now (ram .entry))) (now (out .entry)) i (lent (now (device .exit)) (now (ram .exit))) (now (out .exit)) r ⌝ }
 {
@@ -72,20 +72,22 @@ fn write_run(
         return i;
     }
     let mut address = layout::counter_of(device) % limits::ADDRESS_SPACE;
-    let mut j = i;
-    while j - 1 < chunk.len() - 1 {
-        if chunk[j - 1] != bus::HOST_BYTE {
+    let last = (chunk.len() - 1) as u32;
+    let base = first as u32;
+    let mut k = (i - 1) as u32;
+    while k < last {
+        if chunk[k as usize] != bus::HOST_BYTE {
             end_run(device, BusState::Write, address);
-            return j;
+            return (k + 1) as usize;
         }
-        bus_bytes::store(device, ram, address, chunk[j]);
-        out[j - first] = 1;
-        out[j - first + 1] = 0;
+        bus_bytes::store(device, ram, address, chunk[(k + 1) as usize]);
+        out[(k + 1 - base) as usize] = 1;
+        out[(k + 2 - base) as usize] = 0;
         address = (address + 1) % limits::ADDRESS_SPACE;
-        j += 2;
+        k += 2;
     }
     end_run(device, BusState::Write, address);
-    j
+    (k + 1) as usize
 }
 
 // A run of fetches, likewise.
@@ -97,7 +99,7 @@ fn read_run(
     i: usize,
     first: usize,
 ) -> usize
-    requires { ⌜ (length (now device) ≡ recordLength) × (length (now ram) ≡ ramLength) ⌝ }
+    requires { ⌜ (length (now device) ≡ recordLength) × (length (now ram) ≡ ramLength) × (length (now chunk) ≤ chunkMax) ⌝ }
     requires { ⌜ Place (now chunk) (now out) first i ⌝ }
     ensures { λ r. ⌜ Ran (now (chunk .entry)) first (lent (now (device .entry)) (now (ram .entry))) (now (out .entry)) i (lent (now (device .exit)) (now (ram .exit))) (now (out .exit)) r ⌝ }
 {
@@ -111,20 +113,22 @@ fn read_run(
         return i;
     }
     let mut address = layout::counter_of(device) % limits::ADDRESS_SPACE;
-    let mut j = i;
-    while j - 1 < chunk.len() - 1 {
-        if chunk[j - 1] != bus::FETCH {
+    let last = (chunk.len() - 1) as u32;
+    let base = first as u32;
+    let mut k = (i - 1) as u32;
+    while k < last {
+        if chunk[k as usize] != bus::FETCH {
             end_run(device, BusState::Read, address);
-            return j;
+            return (k + 1) as usize;
         }
         let byte = bus_bytes::load(device, ram, address);
-        out[j - first] = 1;
-        out[j - first + 1] = byte;
+        out[(k + 1 - base) as usize] = 1;
+        out[(k + 2 - base) as usize] = byte;
         address = (address + 1) % limits::ADDRESS_SPACE;
-        j += 2;
+        k += 2;
     }
     end_run(device, BusState::Read, address);
-    j
+    (k + 1) as usize
 }
 
 // A turn is an event, and the run behind it: i is the place of the byte that completes it. Its kind stands before that byte, or is held.

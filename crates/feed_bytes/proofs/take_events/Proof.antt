@@ -71,7 +71,7 @@ write-run-requires : tie.Need-write-run-requires Inv-loop μ-loop
 write-run-requires c κs =
     let l = c .before .before .before .before .before .before .before .before .before .before .before .before .before .before .before .before .before .before .loop in
     let a = c .before .before .before .before .before .before .before .before .before .before .before .before .before .before .before .before .before .before .before .before .before .before .before .before .before in (
-      (c .before .before .before .before .before .before .before .before .before .before .before .hear .kept .0 ∙ l .inv .0 ∙ a .pre .0 .0, c .before .before .before .before .before .before .before .before .before .before .before .hear .kept .1 .0 ∙ l .inv .1 ∙ a .pre .0 .1),
+      (c .before .before .before .before .before .before .before .before .before .before .before .hear .kept .0 ∙ l .inv .0 ∙ a .pre .0 .0, c .before .before .before .before .before .before .before .before .before .before .before .hear .kept .1 .0 ∙ l .inv .1 ∙ a .pre .0 .1, a .pre .0 .2),
       next-place (now (a .args .chunk)) (l .out) _ (1 - c .before .before .before .before .before .before .before .before .before .before .before .before .before .before .before .before .before .before .before .held-bytes .result) (l .i) _ (l .inv .4) (l .inv .6) (l .inv .3) (c .before .before .before .before .before .put-output .kept .0) (omega arith) (omega arith),
     )
 
@@ -80,7 +80,7 @@ read-run-requires c κs =
     let w = c .before .before .before .before .before .before .before .before .before .write-run in
     let l = c .before .before .before .before .before .before .before .before .before .before .before .before .before .before .before .before .before .before .before .before .before .before .before .before .before .before .before .before .loop in
     let a = c .before .before .before .before .before .before .before .before .before .before .before .before .before .before .before .before .before .before .before .before .before .before .before .before .before .before .before .before .before .before .before .before .before .before .before in (
-      (w .kept .0 ∙ c .before .before .before .before .before .before .before .before .before .before .before .before .before .before .before .before .before .before .before .before .before .hear .kept .0 ∙ l .inv .0 ∙ a .pre .0 .0, w .kept .1 .0 ∙ c .before .before .before .before .before .before .before .before .before .before .before .before .before .before .before .before .before .before .before .before .before .hear .kept .1 .0 ∙ l .inv .1 ∙ a .pre .0 .1),
+      (w .kept .0 ∙ c .before .before .before .before .before .before .before .before .before .before .before .before .before .before .before .before .before .before .before .before .before .hear .kept .0 ∙ l .inv .0 ∙ a .pre .0 .0, w .kept .1 .0 ∙ c .before .before .before .before .before .before .before .before .before .before .before .before .before .before .before .before .before .before .before .before .before .hear .kept .1 .0 ∙ l .inv .1 ∙ a .pre .0 .1, a .pre .0 .2),
       next-place (now (a .args .chunk)) (l .out) _ (1 - c .before .before .before .before .before .before .before .before .before .before .before .before .before .before .before .before .before .before .before .before .before .before .before .before .before .before .before .before .before .held-bytes .result) (l .i) _ (l .inv .4) (l .inv .6) (l .inv .3)
           (w .kept .1 .1 .1 .0 ∙ c .before .before .before .before .before .before .before .before .before .before .before .before .before .before .before .put-output .kept .0) (w .ensures .forth) (w .ensures .events),
     )
