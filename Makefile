@@ -35,7 +35,7 @@ claims:
 references:
 	@python3 tests/references.py
 
-# every law is cited and every import used
+# every declaration is cited and every import used
 unused:
 	@python3 tools/unused.py
 

@@ -1,7 +1,7 @@
 /*
  * Firmware in small: the font comes from a card, as a font file. A host sends a page over the two-wire bus and the monitor shows it; its
  * settings come from a logger's capture, and each line of the second frame is held against the pixels asked for, as at the bench.
- * During the frame the host writes a second page to cells that the frame does not read, and changes to it; the frame goes on as it was,
+ * During the first frame the host writes a second page to cells that the frame does not read, and changes to it; the frame goes on as it was,
  * and the next one shows the new page. Then the host is out of step in each way that has a number, and the refusal says what to look for.
  * At the end the card is bad in each way that has a number.
  *
@@ -41,14 +41,17 @@ static int host_writes(uint16_t address, const uint8_t *bytes, size_t n)
     return refused;
 }
 
-/* The same transfer from a logger's capture, two bytes an event, which arrives in two chunks that are cut within an event. */
+/*
+ * Such a transfer as a logger's capture, two bytes an event, in two chunks; the first has `cut` bytes and may end within an event. Answers
+ * how many chunks and events were refused.
+ */
 static int capture_fed(const uint8_t *capture, size_t n, size_t cut)
 {
+    const size_t ends[] = {0, cut, n};
     uint8_t feed[OSD_FEED_LEN], out[64];
-    int refused = 0;
-    osd_feed_fresh(feed, sizeof feed);
-    for (size_t from = 0; from < n; from = cut, cut = n) {
-        uint32_t answer = osd_feed(device, sizeof device, feed, sizeof feed, ram, sizeof ram, capture + from, cut - from, out, sizeof out);
+    int refused = OSD_REFUSAL(osd_feed_fresh(feed, sizeof feed)) != OSD_ACCEPTED;
+    for (int c = 0; c < 2; c++) {
+        uint32_t answer = osd_feed(device, sizeof device, feed, sizeof feed, ram, sizeof ram, capture + ends[c], ends[c + 1] - ends[c], out, sizeof out);
         refused += OSD_REFUSAL(answer) != OSD_ACCEPTED;
         for (size_t i = 0; i < OSD_VALUE(answer); i += 2)
             refused += out[i] != 1;
@@ -165,7 +168,7 @@ int main(void)
     static const uint8_t to_page_1[] = {0x81};
     int refused = 0;
 
-    if (osd_device_len() != OSD_DEVICE_LEN)
+    if (osd_device_len() != OSD_DEVICE_LEN || osd_feed_len() != OSD_FEED_LEN)
         return 1;
     letter('O', o);
     letter('K', k);
@@ -191,13 +194,13 @@ int main(void)
     refused += host_writes(64, page_1, sizeof page_1);
     refused += host_writes(0x3FF3, to_page_1, sizeof to_page_1);
     printf("events refused: %d\n", refused);
-    for (int i = LINES / 2; i < LINES + 1; i++)
+    for (int i = LINES / 2; i < LINES + 1; i++) /* one more than the frame has: refused */
         draw();
 
     show("frame start", osd_frame_start(device, sizeof device, LINES));
     for (int i = 0; i < LINES; i++) {
         draw();
-        if (!as_asked(1, (uint32_t)i))
+        if (!as_asked(1, (uint32_t)i)) /* the second frame has number 1 */
             return 1;
     }
 

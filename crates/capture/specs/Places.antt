@@ -22,7 +22,8 @@ kindAt chunk held i = cond (eqb i 0) held (getD chunk (i - 1) 0)
 abbrev pub feedAt : List ℕ → ℕ → ℕ → Feed
 feedAt chunk held i = cond (ltb (length chunk) i) Open (Half (kindAt chunk held i))
 
--- what the bytes that are left do: their events, with their output in the buffer from n on, where n bytes were written before
+-- what the bytes that are left do: their events, with their output in the buffer from n on, where n bytes were written before and are
+-- counted too
 unfoldable pub rest : {S : Type 0} → Machine S Logged Reply → S → Feed → List ℕ → List ℕ → ℕ → Played S
 rest m s f xs out n =
     record {

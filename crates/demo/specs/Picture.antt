@@ -29,7 +29,8 @@ pub record Host : Type 0 where
 abbrev pub host : Played → List ℕ → Host
 host p ram = record { chip = chip (p .device) ram; traffic = p .traffic }
 
--- by the reply of a feed that had room: it refuses nothing but a bad kind. An event has two bytes of output, and is counted from 1
+-- by the reply of a feed with a RAM of 1,024 bytes and room: it refuses nothing but a bad kind. An event has two bytes of output, and is
+-- counted from 1
 abbrev pub endOf : Reply → Traffic
 endOf r = cond (eqb (r .refusal) 0) Whole (BadKind (r .value / 2 + 1))
 

@@ -326,8 +326,8 @@ pub record Crossing : Type 0 where
   pub value-pixel : (xs ram font : List ℕ) (lines frame x y : ℕ) → askPixel (deviceIn xs .registers) ram font lines frame x y .value < 16
   -- the output bytes written
   pub value-feed : (xs fs ram chunk out : List ℕ) → length chunk ≤ chunkMax → feedChunk (chip (deviceIn xs) ram) (feedIn fs) chunk out .reply .value ≤ chunkMax
-  -- a block's place
   pub value-font-write : (font file : List ℕ) → writeFont font file .reply .value ≡ 0
+  -- a block's place
   pub value-font-read : (file font : List ℕ) → readFont file font .reply .value < blockCount
   -- a frame start, a draw or a bus call that the device's function refuses writes no byte of any buffer ..
   pub silent-start : (xs : List ℕ) (lines : ℕ) → (startFrame (deviceIn xs) lines .reply .refusal ≡ 0 → ⊥) → startOn xs lines .device ≡ xs
