@@ -1,7 +1,7 @@
 -- The laws of one pixel: strip by strip to the line, code by code to the column.
 -- Assumes nothing.
 use Prim.Native.Nat.{ℕ, zero, suc, _+_, _-_, _/_, _%_, _≤_, _<_}
-use mathlib.Core.Path.{_≡_, refl, sym, ap, _∙_}
+use mathlib.Core.Path.{_≡_, refl, sym, ap, ap₂, _∙_}
 use mathlib.Core.Bool.{Bool, true, false, cond, _||_, false≢true}
 use mathlib.Core.List.{List}
 use native.Mathlib.Omega.{arith}
@@ -48,6 +48,13 @@ lines-left ch d = by (isSpacing (d .high))
 
 pub lines-some : (ch : ℕ) (d : Pair) → 1 ≤ linesOf ch d
 lines-some ch d = omega (arith, lines-left ch d, stripOf-some ch (d .low) (d .high))
+
+-- of spacing, and of characters
+pub lines-spacing : (ch : ℕ) (d : Pair) → isSpacing (d .high) ≡ true → linesOf ch d ≡ spacingLines (d .low)
+lines-spacing ch d e = ap (λ (t : Bool). cond t (spacingLines (d .low)) (stripLines (heightOf ch) (zoomedBy (d .high)))) e
+
+pub lines-characters : (ch : ℕ) (d : Pair) (z : Bool) → isSpacing (d .high) ≡ false → zoomedBy (d .high) ≡ z → linesOf ch d ≡ stripLines (heightOf ch) z
+lines-characters ch d z e f = ap₂ (λ (t z : Bool). cond t (spacingLines (d .low)) (stripLines (heightOf ch) z)) e f
 
 -- ---- strip by strip
 

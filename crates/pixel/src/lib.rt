@@ -1,14 +1,14 @@
 // One pixel of a frame, asked for by column and line: document 01 as plainly as it can be read, for the bench. Nothing is kept between
 // calls, so every call walks from the frame's first descriptor. A line is drawn faster by the device's own draw.
 ghost use mathlib.Core.Path.{_≡_};
-ghost use Prim.Native.Nat.{_<_};
+ghost use Prim.Native.Nat.{_+_, _<_};
 ghost use lib.ListN.{length};
 ghost use Rattle.limits.specs.Limits.{ramLength, frameLines};
 ghost use Rattle.raster.specs.Raster.{InStrip, OnScreen};
-ghost use Rattle.walk.specs.Walk.{zoomedBy, heightOf};
+ghost use Rattle.walk.specs.Walk.{next, zoomedBy, heightOf};
 ghost use Rattle.glyph.specs.Glyph.{Lent};
 ghost use Rattle.paint.specs.Pixels.{foreground, background};
-ghost use Rattle.pixel.specs.Pixel.{pairAt, linesOf, fallsIn, sliceOf, ended, isForeground, codeOf, foregroundAt, besideAt, rowPixel, pixelAt};
+ghost use Rattle.pixel.specs.Pixel.{pairAt, fallsIn, sliceOf, ended, isForeground, codeOf, foregroundAt, besideAt, rowPixel, pixelAt};
 ghost use Rattle.pixel.specs.Ask.{pixelReply, askPixel};
 use device::Device;
 use raster::ScanLine;
@@ -44,43 +44,68 @@ pub enum PixelAnswer {
     Refused(Refusal),
 }
 
-fn pair_at(ram: &[u8], address: u16) -> Pair
+fn pair_at(ram: &[u8], address: usize) -> Pair
     requires { ⌜ length (now ram) ≡ ramLength ⌝ }
     ensures { λ r. ⌜ r ≡ pairAt (now (ram .entry)) address ⌝ }
 {
-    let at = walk::even_address(address) as usize;
+    let at = address / 2 % 512 * 2;
     Pair {
         low: ram[at],
         high: ram[at + 1],
     }
 }
 
-// How many lines a descriptor's strip has.
-fn lines_of(ch: u8, descriptor: Pair) -> u16
-    ensures { λ r. ⌜ r ≡ linesOf ch descriptor ⌝ }
+// The address behind two bytes.
+fn next_address(address: usize) -> usize
+    requires { ⌜ address < ramLength ⌝ }
+    ensures { λ r. ⌜ r ≡ next address ⌝ }
 {
-    walk::descriptor_lines(ch, descriptor.low, descriptor.high)
+    (address + 2) / 2 % 512 * 2
 }
 
-// Strip by strip: the strip that line y falls in, of those from a descriptor on.
+// A line of a descriptor's strip, counted from 0.
+fn line_of(descriptor: Pair, number: u32) -> StripLine
+    requires { ⌜ number < frameLines ⌝ }
+    ensures { λ r. ⌜ r ≡ record { descriptor = descriptor; line = record { 0 = number + 1 } } ⌝ }
+{
+    StripLine {
+        descriptor: descriptor,
+        line: ScanLine((number + 1) as u16),
+    }
+}
+
+// Strip by strip: the strip that line y falls in, of those from a descriptor on. Each kind of strip is tested by itself: where their lines
+// come together before the test, the compiler counts them by a shift, and a strip takes half as long again.
 fn falls_in(ram: &[u8], ch: u8, first: u16, y: u16) -> StripLine
     requires { ⌜ length (now ram) ≡ ramLength ⌝ }
     requires { ⌜ (first < ramLength) × (y < frameLines) ⌝ }
     ensures { λ r. ⌜ r ≡ fallsIn y (now (ram .entry)) ch first y ⌝ }
 {
-    let mut at = first;
-    let mut left = y;
+    let height = walk::height(ch) as u32;
+    let mut at = first as usize;
+    let mut left = y as u32;
     loop {
         let descriptor = pair_at(ram, at);
-        let lines = lines_of(ch, descriptor);
-        if left < lines {
-            return StripLine {
-                descriptor: descriptor,
-                line: ScanLine(left + 1),
-            };
+        if walk::is_spacing(descriptor.high) {
+            let lines = walk::spacing_lines(descriptor.low) as u32;
+            if left < lines {
+                return line_of(descriptor, left);
+            }
+            left -= lines;
+        } else {
+            if walk::zoom(descriptor.high) {
+                if left < 2 * height {
+                    return line_of(descriptor, left);
+                }
+                left -= 2 * height;
+            } else {
+                if left < height {
+                    return line_of(descriptor, left);
+                }
+                left -= height;
+            }
         }
-        left -= lines;
-        at = walk::next_address(at);
+        at = next_address(at);
     }
 }
 
@@ -109,15 +134,15 @@ fn ended_by(ram: &[u8], first: u16, number: u16) -> bool
     requires { ⌜ first < ramLength ⌝ }
     ensures { λ r. ⌜ r ≡ ended number (now (ram .entry)) first ⌝ }
 {
-    let mut at = first;
-    let mut left = number;
+    let mut at = first as usize;
+    let mut left = number as u32;
     while left > 0 {
         let code = pair_at(ram, at);
         if glyph::ends_line(code.high) {
             return true;
         }
         left -= 1;
-        at = walk::next_address(at);
+        at = next_address(at);
     }
     let code = pair_at(ram, at);
     glyph::ends_line(code.high)
@@ -129,7 +154,7 @@ fn code_of(ram: &[u8], row: Row, column: u16) -> Pair
     requires { ⌜ row .address < ramLength ⌝ }
     ensures { λ r. ⌜ r ≡ codeOf (now (ram .entry)) row column ⌝ }
 {
-    pair_at(ram, row.address + 2 * (column / 12))
+    pair_at(ram, (row.address + 2 * (column / 12)) as usize)
 }
 
 // Does a column of a row show foreground?

@@ -64,7 +64,7 @@ fn at_least_one(n: u8) -> u8
 }
 
 // The high byte of a descriptor: spacing, or characters?
-fn is_spacing(high: u8) -> bool
+pub fn is_spacing(high: u8) -> bool
     ensures { λ r. ⌜ r ≡ isSpacing high ⌝ }
 {
     high / 128 % 2 == 0
@@ -85,7 +85,7 @@ pub fn zoom(high: u8) -> bool
 }
 
 // How many lines spacing has, by its low byte.
-fn spacing_lines(low: u8) -> u8
+pub fn spacing_lines(low: u8) -> u8
     ensures { λ r. ⌜ r ≡ spacingLines low ⌝ }
 {
     at_least_one(low)
