@@ -11,6 +11,8 @@ Of docs/*.md and README.md, one line of text at a time:
     test_frames: `heights`             a function of tests/test_frames.py
     test_bus: "over 3FFF"              words of the script or of the crate
     `docs/SPEED.md`, `make demo`       a file, a target of the Makefile
+
+And of docs/PROMISES.md: its rows are the public functions, each once, but for those that it says are run.
 """
 import pathlib
 import re
@@ -78,6 +80,43 @@ def references(line):
     for target in re.findall(r'`make ([a-z-]+)', line):
         yield 'make ' + target, re.search(r'^%s\b[^=]*:' % target, pathlib.Path('Makefile').read_text(), re.M)
 
+
+def public():
+    """Each public function as crate, type or '', and name."""
+    for path in sorted(CRATES.glob('*/src/**/*.rt')):
+        kind = ''
+        for line in path.read_text().split('\n'):
+            if found := re.match(r'impl (\w+)', line):
+                kind = found.group(1)
+            elif line.startswith('}'):
+                kind = ''
+            elif found := re.match(r'\s*pub (?:extern "C" )?fn (\w+)', line):
+                yield path.parts[1], kind, found.group(1)
+
+
+def promised(lines, there):
+    """The functions of the rows. A name alone belongs with the one before it, or to the crate of the section."""
+    owners, rows = {kind: crate for crate, kind, _ in there if kind}, False
+    for line in lines:
+        if line.startswith('## '):
+            crate, kind = (re.findall(r'\(crate `(\w+)`', line) or [''])[0], ''
+        rows = line.startswith('|') and (rows or line.startswith('| Function'))
+        for name in re.findall(r'`([\w:]+)`', line.split('|')[1]) if rows else []:
+            *scope, name = name.split('::')
+            if scope:
+                kind = scope[-1] if scope[-1][0].isupper() else ''
+                crate = owners.get(kind, '') if kind == scope[0] else scope[0]
+            yield crate, kind, name
+
+
+there = list(public())
+lines = pathlib.Path('docs/PROMISES.md').read_text().split('\n')
+rows = list(promised(lines, there))
+run = {name for line in lines if ' is run' in line for name in re.findall(r'`(?:\w+::)?(\w+)`', line.split(' is run')[0])}
+seen += len(rows)
+for each in sorted(set(rows) | set(there)):
+    if each not in there or rows.count(each) != (each[2] not in run):
+        faults.append('docs/PROMISES.md: %s has %d rows' % ('::'.join(filter(None, each)), rows.count(each)))
 
 for document in sorted(pathlib.Path('docs').glob('*.md')) + [pathlib.Path('README.md')]:
     for number, line in enumerate(document.read_text().split('\n'), 1):

@@ -129,7 +129,7 @@ pub record OwnCodes (n row after own : ℕ) : Type 0 where
   pub most : own ≤ n
   pub cut : own < n → (after < ramPairs) × (row + own ≡ after)
 
--- r is the first marked row from p on, or 512
+-- r is the first marked row from p on, or the number of pairs
 pub record NextRow (marks : List ℕ) (p r : ℕ) : Type 0 where
   pub from : p ≤ r
   pub most : r ≤ ramPairs

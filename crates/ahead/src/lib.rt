@@ -3,7 +3,7 @@
 ghost use mathlib.Core.Path.{_≡_};
 ghost use Prim.Native.Nat.{ℕ, _+_, _*_, _≤_, _<_, min};
 ghost use lib.ListN.{length};
-ghost use Rattle.limits.specs.Limits.{ramLength};
+ghost use Rattle.limits.specs.Limits.{ramLength, ramPairs};
 ghost use Rattle.cells.specs.Reading.{cells, among};
 ghost use Rattle.raster.specs.Raster.{linesAfter};
 ghost use Rattle.walk.specs.Walk.{linesLeft};
@@ -56,7 +56,7 @@ fn starts(ram: &[u8], n: u16, cell: u16) -> u16
     let mut m = 0;
     while m < n {
         m += 1;
-        let p = (own + 511 * m as usize) % 512;
+        let p = (own + (limits::RAM_PAIRS - 1) * m as usize) % limits::RAM_PAIRS;
         if glyph::ends_line(ram[2 * p + 1]) {
             return m;
         }
@@ -80,7 +80,7 @@ fn mark(marks: &mut [u32; 16], address: u16)
     requires { ⌜ Kept (now marks) ⌝ }
     ensures { λ _. ⌜ Marks (now (marks .entry)) address (now (marks .exit)) ⌝ }
 {
-    let p = address as usize / 2 % 512;
+    let p = address as usize / 2 % limits::RAM_PAIRS;
     marks[p / 32] = marks[p / 32] | 1u32 << (p % 32) as u32;
 }
 
@@ -202,7 +202,7 @@ fn look_lines(
     ensures { λ r. ⌜ Adds (now (ram .entry)) sought (linesRead (now (ram .entry)) sought all descriptor) (now (marks .entry)) (now (marks .exit)) r ⌝ }
 {
     let own = (sought.cell / 2) as usize;
-    let mut p = descriptor as usize / 2 % 512;
+    let mut p = descriptor as usize / 2 % limits::RAM_PAIRS;
     let mut left = all;
     let mut near = nearest;
     while left > 0 {
@@ -225,7 +225,7 @@ fn look_lines(
         }
         near = looked.near;
         left -= lines;
-        p = (p + 1) % 512;
+        p = (p + 1) % limits::RAM_PAIRS;
     }
     Looked {
         found: false,
@@ -236,7 +236,7 @@ fn look_lines(
 // Do the codes of a row, n at the most, show the cell's user character?
 fn user_reads(ram: &[u8], row: usize, n: usize, cell: u16) -> bool
     requires { ⌜ length (now ram) ≡ ramLength ⌝ }
-    requires { ⌜ (row < 512) × (cell < ramLength) ⌝ }
+    requires { ⌜ (row < ramPairs) × (cell < ramLength) ⌝ }
     ensures { λ r. ⌜ r ≡ userReads (now (ram .entry)) cell n (2 * row) ⌝ }
 {
     let user = glyph::user_high(cell);
@@ -251,7 +251,7 @@ fn user_reads(ram: &[u8], row: usize, n: usize, cell: u16) -> bool
             return true;
         }
         left -= 1;
-        p = (p + 1) % 512;
+        p = (p + 1) % limits::RAM_PAIRS;
     }
     false
 }
@@ -302,20 +302,20 @@ fn lowest(x: u32) -> usize
     lowest_of_8(pass_zeros(by_16, 8))
 }
 
-// The first marked row from a row on, or 512.
+// The first marked row from a row on, or the number of pairs.
 fn next_row(marks: &[u32; 16], from: usize) -> usize
-    requires { ⌜ Kept (now marks) × (from ≤ 512) ⌝ }
+    requires { ⌜ Kept (now marks) × (from ≤ ramPairs) ⌝ }
     ensures { λ r. ⌜ NextRow (now (marks .entry)) from r ⌝ }
 {
     let mut p = from;
-    while p < 512 {
+    while p < limits::RAM_PAIRS {
         let rest = marks[p / 32] >> (p % 32) as u32;
         if rest != 0 {
             return p + lowest(rest);
         }
         p = (p / 32 + 1) * 32;
     }
-    512
+    limits::RAM_PAIRS
 }
 
 // A row is looked through up to the next marked one, which sees the rest.
@@ -323,7 +323,7 @@ fn own_codes(n: usize, row: usize, next: usize) -> usize
     requires { ⌜ row ≤ next ⌝ }
     ensures { λ r. ⌜ OwnCodes n row next r ⌝ }
 {
-    if next >= 512 {
+    if next >= limits::RAM_PAIRS {
         return n;
     }
     if n < next - row {
@@ -339,7 +339,7 @@ fn any_row<'a>(ram: &'a [u8], marks: &'a [u32; 16], n: u16, cell: u16) -> bool
     ensures { λ r. ⌜ r ≡ anyRow (now (ram .entry)) cell n (now (marks .entry)) ⌝ }
 {
     let mut row = next_row(marks, 0);
-    while row < 512 {
+    while row < limits::RAM_PAIRS {
         let next = next_row(marks, row + 1);
         let own = own_codes(n as usize, row, next);
         if user_reads(ram, row, own, cell) {

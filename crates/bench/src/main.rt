@@ -30,7 +30,7 @@ fn show<'a>(device: Device, ram: &'a [u8], font: &'a [u8]) {
     let mut text = [0u8; 1024];
     let frame = device.frame;
     let mut left = frame.left;
-    let n = report::heading(left, report::width_of(device), &mut text);
+    let n = report::heading(left, device.width(), &mut text);
     print(&text, n);
     let mut next = device;
     while left > 0 {

@@ -2,7 +2,7 @@
 ghost use mathlib.Core.Path.{_≡_};
 ghost use lib.ListN.{length};
 ghost use Rattle.limits.specs.Limits.{ramLength};
-ghost use Rattle.bus.specs.Bus.{freshBus, freshRam, eventOf, goes, ignores, steps, slave, byteAt, fetchAt, step, registersWith, ramWith, byteIn, busEvent, outcomeOf, busReply};
+ghost use Rattle.bus.specs.Bus.{freshBus, freshRam, eventOf, nextAddress, goes, ignores, steps, slave, byteAt, fetchAt, step, registersWith, ramWith, byteIn, busEvent, outcomeOf, busReply};
 use refusals::Refusal;
 use refusals::Unheard;
 use registers::Registers;
@@ -143,7 +143,7 @@ impl Bus {
         Step {
             bus: Bus {
                 state: state,
-                counter: (self.counter % limits::ADDRESS_SPACE + 1) % limits::ADDRESS_SPACE,
+                counter: next_address(self.counter % limits::ADDRESS_SPACE),
             },
             effect: effect,
         }
@@ -199,6 +199,13 @@ impl Bus {
             BusState::Read => self.steps_on(Effect::Load(self.counter % limits::ADDRESS_SPACE)),
         }
     }
+}
+
+// The address after an address.
+pub fn next_address(a: u16) -> u16
+    ensures { λ r. ⌜ r ≡ nextAddress a ⌝ }
+{
+    (a % limits::ADDRESS_SPACE + 1) % limits::ADDRESS_SPACE
 }
 
 // One bus event, on the whole of what it can touch. Refusals in the order 1; then 5, 12, 13 or 14.

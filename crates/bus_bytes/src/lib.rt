@@ -97,7 +97,7 @@ pub fn write_next(device: &mut [u8], ram: &mut [u8], x: u8) -> u32
     let address = layout::counter_of(device) % limits::ADDRESS_SPACE;
     let next = Bus {
         state: BusState::Write,
-        counter: (address + 1) % limits::ADDRESS_SPACE,
+        counter: bus::next_address(address),
     };
     layout::write_bus(device, next);
     store(device, ram, address, x);
@@ -112,7 +112,7 @@ pub fn read_next(device: &mut [u8], ram: &mut [u8]) -> u32
     let address = layout::counter_of(device) % limits::ADDRESS_SPACE;
     let next = Bus {
         state: BusState::Read,
-        counter: (address + 1) % limits::ADDRESS_SPACE,
+        counter: bus::next_address(address),
     };
     layout::write_bus(device, next);
     load(device, ram, address) as u32

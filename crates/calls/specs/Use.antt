@@ -4,7 +4,7 @@ use Prim.Native.Nat.{ℕ, _/_, _%_, _≤_, _<_}
 use mathlib.Core.Path.{_≡_}
 use mathlib.Core.List.{List}
 use lib.ListN.{getD}
-use Rattle.limits.specs.Limits.{ramLength}
+use Rattle.limits.specs.Limits.{ramLength, addressSpace, firstRegister}
 use Rattle.runs.specs.Runs.{end, AsMade}
 use Rattle.refusals.specs.Refusals.{accepted}
 use Rattle.bus.specs.declared.Event.{Event}
@@ -30,9 +30,9 @@ pub record QuietEvents : Type 0 where
   pub same-delay : (s : State) (e : Event) (x : ℕ) → effectOf s e ≡ Store 0x3FF1 x → x % 256 ≡ getD (s .device .registers .bytes) 1 0 → Quiet s e
   pub same-height : (s : State) (e : Event) (x : ℕ) → effectOf s e ≡ Store 0x3FF2 x → x % 64 ≡ getD (s .device .registers .bytes) 2 0 % 64 → Quiet s e
   -- an empty address
-  pub empty : (s : State) (e : Event) (a x : ℕ) → effectOf s e ≡ Store a x → ramLength ≤ a → a < 0x3FF0 → Quiet s e
+  pub empty : (s : State) (e : Event) (a x : ℕ) → effectOf s e ≡ Store a x → ramLength ≤ a → a < firstRegister → Quiet s e
   -- registers 3FF4 to 3FFF
-  pub other-register : (s : State) (e : Event) (a x : ℕ) → effectOf s e ≡ Store a x → 0x3FF4 ≤ a → a < 0x4000 → Quiet s e
+  pub other-register : (s : State) (e : Event) (a x : ℕ) → effectOf s e ≡ Store a x → 0x3FF4 ≤ a → a < addressSpace → Quiet s e
   -- VSP and HSP, LD as it is
   pub sync-edges : (s : State) (e : Event) (x : ℕ) → effectOf s e ≡ Store 0x3FF0 x → x % 64 ≡ getD (s .device .registers .bytes) 0 0 % 64 → Quiet s e
   -- P, with OSD, FBK and FL as they are

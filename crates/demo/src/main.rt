@@ -6,7 +6,7 @@ ghost use mathlib.Core.Path.{_≡_};
 ghost use Prim.Native.Nat.{_*_, _≤_};
 ghost use lib.ListN.{length};
 ghost use Rattle.limits.specs.Limits.{ramLength, lineMax};
-ghost use Rattle.device.specs.Device.{drawLine, lineWidth};
+ghost use Rattle.device.specs.Device.{drawLine};
 ghost use Rattle.capture.specs.Capture.{feedReply};
 ghost use Rattle.demo.specs.Picture.{inputLength, host, played, endOf, full, mix, mixed, lineOutcome, mixedDraw, pictureLine};
 use camera::Colour;
@@ -93,7 +93,7 @@ fn tell(event: usize) {
 
 // The heading of the PPM, then every line.
 fn show<'a>(device: Device, ram: &'a [u8], font: &'a [u8]) {
-    let width = width_of(device);
+    let width = device.width() as usize;
     heading(width);
     let mut out = [0u8; 3 * limits::LINE_MAX];
     let mut next = device;
@@ -117,14 +117,6 @@ fn print(bytes: &[u8], n: usize) {
     }
 }
 
-fn width_of(device: Device) -> usize
-    ensures { λ r. ⌜ (r ≡ lineWidth device) × (r ≤ lineMax) ⌝ }
-{
-    let registers = device.registers;
-    let settings = registers.settings();
-    raster::width(settings.ld) as usize
-}
-
 // Draws the frame's next line, which is line y of the picture, and mixes it into the first bytes of out.
 fn picture_line<'a>(
     device: Device,
@@ -136,7 +128,7 @@ fn picture_line<'a>(
     requires { ⌜ 3 * lineMax ≤ length (now out) ⌝ }
     ensures { λ r. ⌜ lineOutcome r (now (out .exit)) ≡ pictureLine device (now (ram .entry)) (now (font .entry)) y (now (out .entry)) ⌝ }
 {
-    let width = width_of(device);
+    let width = device.width() as usize;
     let n = 3 * width;
     let mut line = [0u8; limits::LINE_MAX];
     draw_mixed(device, ram, font, &mut line[..width], y, &mut out[..n])

@@ -1,8 +1,10 @@
 // The device that a host uses: the record, and the calls on it. Every call takes any record and slices of any length, and refuses.
 ghost use mathlib.Core.Path.{_≡_};
+ghost use Prim.Native.Nat.{_≤_};
+ghost use Rattle.limits.specs.Limits.{lineMax};
 ghost use Rattle.refusals.specs.declared.Refusal.the-variants.{FrameLines};
 ghost use Rattle.refusals.specs.Refusals.{refused};
-ghost use Rattle.device.specs.Device.{freshDevice, eventOutcome, hearEvent, startOutcome, startFrame, drawOutcome, drawLine, askCell, startReply, drawReply, cellReply};
+ghost use Rattle.device.specs.Device.{freshDevice, eventOutcome, hearEvent, startOutcome, startFrame, lineWidth, drawOutcome, drawLine, askCell, startReply, drawReply, cellReply};
 use bus::Bus;
 use bus::BusAnswer;
 use bus::Event;
@@ -128,6 +130,15 @@ impl Device {
         }
     }
 
+    // The width of its lines.
+    pub fn width(self) -> u16
+        ensures { λ r. ⌜ (r ≡ lineWidth self) × (r ≤ lineMax) ⌝ }
+    {
+        let registers = self.registers;
+        let settings = registers.settings();
+        raster::width(settings.ld)
+    }
+
     fn not_started(self) -> StartDone
         ensures { λ r. ⌜ startOutcome r ≡ record { device = self; reply = refused FrameLines } ⌝ }
     {
@@ -151,11 +162,10 @@ impl Device {
         if frame.left == 0 {
             return self.not_drawn(Refusal::NoLine);
         }
-        let registers = self.registers;
-        let settings = registers.settings();
-        if line.len() < raster::width(settings.ld) as usize {
+        if line.len() < self.width() as usize {
             return self.not_drawn(Refusal::LineLength);
         }
+        let registers = self.registers;
         let walk = frame.walk;
         let drawn = line::draw(line, ram, font, registers, walk, frame.number);
         let bus = self.bus;

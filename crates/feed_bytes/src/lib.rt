@@ -83,7 +83,7 @@ fn write_run(
         bus_bytes::store(device, ram, address, chunk[(k + 1) as usize]);
         out[(k + 1 - base) as usize] = 1;
         out[(k + 2 - base) as usize] = 0;
-        address = (address + 1) % limits::ADDRESS_SPACE;
+        address = bus::next_address(address);
         k += 2;
     }
     end_run(device, BusState::Write, address);
@@ -124,7 +124,7 @@ fn read_run(
         let byte = bus_bytes::load(device, ram, address);
         out[(k + 1 - base) as usize] = 1;
         out[(k + 2 - base) as usize] = byte;
-        address = (address + 1) % limits::ADDRESS_SPACE;
+        address = bus::next_address(address);
         k += 2;
     }
     end_run(device, BusState::Read, address);

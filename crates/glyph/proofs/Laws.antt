@@ -29,7 +29,7 @@ slicePart-length ram f high s l h k = by (ℕ-discrete (high / 128 % 2) 0)
     by : Dec (high / 128 % 2 ≡ 0)
         → length (cond (eqb (high / 128 % 2) 0) (take 2 (drop (fontByte (high % 128) s) f)) (take 2 (drop (userCell (high % 128) s) ram))) ≡ 2
     by (yes e) = rw (eq-eqb _ _ e) (part-length f (fontByte (high % 128) s) (omega (arith, l .font-length)))
-    by (no n) = rw (ne-eqb _ _ n) (part-length ram (userCell (high % 128) s) (omega (arith, l .ram-length, h (omega arith))))
+    by (no n) = rw (ne-eqb _ _ n) (part-length ram (userCell (high % 128) s) (omega (arith, l .ram-length, h (ne-eqb _ _ n))))
 
 -- ---- a code's word, case by case
 

@@ -3,7 +3,7 @@
 -- Assumes nothing.
 use Prim.Native.Nat.{ℕ, _+_, _-_, _*_, _/_, _%_, _<_}
 use mathlib.Core.Path.{_≡_}
-use mathlib.Core.Bool.{Bool, cond}
+use mathlib.Core.Bool.{Bool, false, cond}
 use mathlib.Core.List.{List}
 use lib.Dec.{eqb, ltb}
 use lib.ListN.{length, getD, take, drop}
@@ -87,4 +87,4 @@ pub record Lent (ram fnt : List ℕ) : Type 0 where
 
 -- a character with slices: of the font, or a user character 0 to 25
 abbrev pub HasSlices : (high : ℕ) → Type 0
-HasSlices high = high / 128 % 2 ≡ 1 → numberIn high < userCharacters
+HasSlices high = fromFont high ≡ false → numberIn high < userCharacters

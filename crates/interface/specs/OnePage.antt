@@ -14,7 +14,7 @@ use lib.ListN.{length}
 use Rattle.runs.specs.Runs.{Machine, end, AsMade, SameRuns}
 use Rattle.bus.specs.declared.Event.{Event}
 use Rattle.bus.specs.declared.BusState.the-variants.{Write}
-use Rattle.bus.specs.Bus.{step, address}
+use Rattle.bus.specs.Bus.{step, address, lastKind}
 use Rattle.capture.specs.Capture.{Logged, Chip, chip}
 use Rattle.calls.specs.Calls.{Call, draw, ask, event, feed, anew, pixel, Answer, Made, made, machine, busEventsOf, QuietChange}
 use Rattle.calls.specs.OnePage as device
@@ -85,7 +85,7 @@ heard (pixel lines frame x y) = pixel lines frame x y
 
 -- a bus write: the call is taken, and the event that it makes stores a byte
 abbrev pub Writes : ChipBytes → Logged → Type 0
-Writes l x = (length (l .device) ≡ recordLength) × (x .kind ≤ 3) × device.Stores (step (deviceIn (l .device) .bus) (device.heardAs x) .effect)
+Writes l x = (length (l .device) ≡ recordLength) × (x .kind ≤ lastKind) × device.Stores (step (deviceIn (l .device) .bus) (device.heardAs x) .effect)
 
 -- a bus call is quiet if what it changes is: no cell that the frame's remaining lines read, and no setting
 abbrev pub Quiet : ChipBytes → Logged → Type 0
@@ -113,7 +113,7 @@ pub record QuietBytes : Type 0 where
   pub asked-no : (s : State) (byte : ℕ) → deviceIn (s .device) .bus .state ≡ Write
       → cellOn (s .device) (s .ram) (address (deviceIn (s .device) .bus)) ≡ 0 → Quiet (lentIn s) (record { kind = 1; byte = byte })
   -- one that is refused with 255
-  pub not-taken : (s : State) (x : Logged) → (length (s .device) ≡ recordLength → x .kind ≤ 3 → ⊥) → Quiet (lentIn s) x
+  pub not-taken : (s : State) (x : Logged) → (length (s .device) ≡ recordLength → x .kind ≤ lastKind → ⊥) → Quiet (lentIn s) x
 
 -- a no (answer 0) of the cell question stays a no over later draws, cell questions, quiet bus calls, quiet feeds, feeds made anew and questions
 -- about a pixel

@@ -90,7 +90,7 @@ fn draw_row<'a>(
     // characters that start before here are whole; at most one, here, is cut
     let cut = w - (w - first) % 12;
     let mut x = first;
-    let mut a = walk::even_address(address) as usize;
+    let mut a = walk::even_address(address as usize);
     let mut cells: u32 = 0;
     // what the character to the left shows; nothing for the first
     let mut before: u32 = 0;
@@ -108,7 +108,7 @@ fn draw_row<'a>(
         }
         let e = x + 12;
         paint::put_twelve(&mut out[x..e], drawn.columns);
-        a = (a + 2) / 2 % 512 * 2;
+        a = walk::next_address(a);
         before = drawn.bits;
         x = e;
     }

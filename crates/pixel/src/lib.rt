@@ -5,7 +5,7 @@ ghost use Prim.Native.Nat.{_+_, _<_};
 ghost use lib.ListN.{length};
 ghost use Rattle.limits.specs.Limits.{ramLength, frameLines};
 ghost use Rattle.raster.specs.Raster.{InStrip, OnScreen};
-ghost use Rattle.walk.specs.Walk.{next, zoomedBy, heightOf};
+ghost use Rattle.walk.specs.Walk.{zoomedBy, heightOf};
 ghost use Rattle.glyph.specs.Glyph.{Lent};
 ghost use Rattle.paint.specs.Pixels.{foreground, background};
 ghost use Rattle.pixel.specs.Pixel.{pairAt, fallsIn, sliceOf, ended, isForeground, codeOf, foregroundAt, besideAt, rowPixel, pixelAt};
@@ -48,19 +48,11 @@ fn pair_at(ram: &[u8], address: usize) -> Pair
     requires { ⌜ length (now ram) ≡ ramLength ⌝ }
     ensures { λ r. ⌜ r ≡ pairAt (now (ram .entry)) address ⌝ }
 {
-    let at = address / 2 % 512 * 2;
+    let at = walk::even_address(address);
     Pair {
         low: ram[at],
         high: ram[at + 1],
     }
-}
-
-// The address behind two bytes.
-fn next_address(address: usize) -> usize
-    requires { ⌜ address < ramLength ⌝ }
-    ensures { λ r. ⌜ r ≡ next address ⌝ }
-{
-    (address + 2) / 2 % 512 * 2
 }
 
 // A line of a descriptor's strip, counted from 0.
@@ -78,7 +70,7 @@ fn line_of(descriptor: Pair, number: u32) -> StripLine
 // come together before the test, the compiler counts them by a shift, and a strip takes half as long again.
 fn falls_in(ram: &[u8], ch: u8, first: u16, y: u16) -> StripLine
     requires { ⌜ length (now ram) ≡ ramLength ⌝ }
-    requires { ⌜ (first < ramLength) × (y < frameLines) ⌝ }
+    requires { ⌜ y < frameLines ⌝ }
     ensures { λ r. ⌜ r ≡ fallsIn y (now (ram .entry)) ch first y ⌝ }
 {
     let height = walk::height(ch) as u32;
@@ -105,7 +97,7 @@ fn falls_in(ram: &[u8], ch: u8, first: u16, y: u16) -> StripLine
                 left -= height;
             }
         }
-        at = next_address(at);
+        at = walk::next_address(at);
     }
 }
 
@@ -131,7 +123,6 @@ fn is_foreground(hidden: bool, low: u8, bits: u16, column: u16) -> bool
 // Is one of a row's first codes, up to the one with this number, the end of line?
 fn ended_by(ram: &[u8], first: u16, number: u16) -> bool
     requires { ⌜ length (now ram) ≡ ramLength ⌝ }
-    requires { ⌜ first < ramLength ⌝ }
     ensures { λ r. ⌜ r ≡ ended number (now (ram .entry)) first ⌝ }
 {
     let mut at = first as usize;
@@ -142,7 +133,7 @@ fn ended_by(ram: &[u8], first: u16, number: u16) -> bool
             return true;
         }
         left -= 1;
-        at = next_address(at);
+        at = walk::next_address(at);
     }
     let code = pair_at(ram, at);
     glyph::ends_line(code.high)
@@ -276,14 +267,13 @@ pub fn ask<'a>(
     if limits::bad_line_count(lines) {
         return PixelAnswer::Refused(Refusal::FrameLines);
     }
-    let registers = device.registers;
-    let settings = registers.settings();
-    if x >= raster::width(settings.ld) as u32 {
+    if x >= device.width() as u32 {
         return PixelAnswer::Refused(Refusal::PixelRange);
     }
     if y >= lines {
         return PixelAnswer::Refused(Refusal::PixelRange);
     }
+    let registers = device.registers;
     PixelAnswer::Shown(pixel_at(registers, ram, font, (frame % 64) as u8, x as u16, y as u16))
 }
 

@@ -3,9 +3,8 @@ ghost use mathlib.Core.Path.{_≡_};
 ghost use mathlib.Core.List.{map};
 ghost use Prim.Native.Nat.{_+_, _-_, _≤_, min};
 ghost use lib.ListN.{length, take, drop};
-ghost use Rattle.limits.specs.Limits.{lineMax};
 ghost use Rattle.buffers.specs.Buffers.{hexDigit};
-ghost use Rattle.device.specs.Device.{startOutcome, drawLine, lineWidth};
+ghost use Rattle.device.specs.Device.{startOutcome, drawLine};
 ghost use Rattle.report.specs.Report.{inputLength, ramPart, fontPart, benchDevice, benchStart, placesOf, digits, decimal, Put, refusalText, headingText, lineText, writeText, textOutcome, textOf, nextText, lineOutcome};
 use device::Device;
 use device::StartAnswer;
@@ -200,15 +199,6 @@ pub fn line_text(pixels: &[u8], cells: u16, out: &mut [u8]) -> usize
     put_word(out, c, b"\n")
 }
 
-// The width of a device's lines.
-pub fn width_of(device: Device) -> u16
-    ensures { λ r. ⌜ (r ≡ lineWidth device) × (r ≤ lineMax) ⌝ }
-{
-    let registers = device.registers;
-    let settings = registers.settings();
-    raster::width(settings.ld)
-}
-
 // Draws the frame's next line and writes its text. Where the draw is refused, out stays, and the length is 0.
 fn draw_text<'a>(
     device: Device,
@@ -239,7 +229,7 @@ fn draw_text<'a>(
 pub fn next_text<'a>(device: Device, ram: &'a [u8], font: &'a [u8], out: &mut [u8]) -> LineDone
     ensures { λ r. ⌜ lineOutcome r (now (out .exit)) ≡ nextText device (now (ram .entry)) (now (font .entry)) (now (out .entry)) ⌝ }
 {
-    let width = width_of(device) as usize;
+    let width = device.width() as usize;
     let mut line = [0u8; limits::LINE_MAX];
     draw_text(device, ram, font, &mut line[..width], out)
 }

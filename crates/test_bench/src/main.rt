@@ -56,7 +56,7 @@ fn show<'a>(device: Device, ram: &'a [u8], font: &'a [u8]) {
 fn show_heading(device: Device) {
     let mut text = [0u8; 32];
     let frame = device.frame;
-    let n = report::heading(frame.left, report::width_of(device), &mut text);
+    let n = report::heading(frame.left, device.width(), &mut text);
     io::write_all(1, test_script::first(&text, n));
 }
 

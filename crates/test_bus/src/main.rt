@@ -40,7 +40,7 @@ fn lent_from(lent: u16, kind: u8, choice: u8) -> u16 {
 }
 
 fn heard(device: Device, ram: &mut [u8], kind: u8, byte: u8) -> Device {
-    if kind > 3 {
+    if kind > bus::STOP {
         return device;
     }
     let done = test_script::make(device, ram, Call::Hear(Event::of_kind(kind, byte)));

@@ -143,9 +143,7 @@ fn started(device: Device, number: u8, lines: u32) -> Device {
 }
 
 fn show_lines<'a>(ram: &'a [u8], font: &'a [u8], begun: Device, lines: u32, number: u8, way: u8) {
-    let registers = begun.registers;
-    let settings = registers.settings();
-    let w = raster::width(settings.ld);
+    let w = begun.width();
     let mut device = begun;
     let mut sums = Sums {
         drawn: 0,

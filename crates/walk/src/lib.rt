@@ -1,6 +1,6 @@
 // The walk of a frame over its descriptors: which strip is on screen, and which of its lines.
 ghost use mathlib.Core.Path.{_≡_};
-ghost use Prim.Native.Nat.{_<_, max};
+ghost use Prim.Native.Nat.{max};
 ghost use mathlib.Core.Bool.{false};
 ghost use lib.ListN.{length};
 ghost use Rattle.limits.specs.Limits.{ramLength};
@@ -40,18 +40,17 @@ pub struct Walked {
 }
 
 // The even address of two bytes of RAM.
-pub fn even_address(a: u16) -> u16
+pub fn even_address(a: usize) -> usize
     ensures { λ r. ⌜ r ≡ even a ⌝ }
 {
-    a / 2 % 512 * 2
+    a / 2 % limits::RAM_PAIRS * 2
 }
 
 // The even address of the two bytes after those at an address.
-pub fn next_address(a: u16) -> u16
-    requires { ⌜ a < ramLength ⌝ }
+pub fn next_address(a: usize) -> usize
     ensures { λ r. ⌜ r ≡ next a ⌝ }
 {
-    even_address(a + 2)
+    (a / 2 + 1) % limits::RAM_PAIRS * 2
 }
 
 fn at_least_one(n: u8) -> u8
@@ -102,7 +101,7 @@ pub fn height(ch: u8) -> u8
 pub fn code_address(low: u8, high: u8) -> u16
     ensures { λ r. ⌜ r ≡ codesAt low high ⌝ }
 {
-    even_address((high % 4) as u16 * 256 + low as u16)
+    even_address((high % 4) as usize * 256 + low as usize) as u16
 }
 
 // Are codes read on the lines of its strip?
@@ -216,13 +215,13 @@ impl Walk {
     {
         let strip = self.strip;
         if strip.is_over() {
-            let at = even_address(self.descriptor);
-            let low = ram[at as usize];
-            let high = ram[at as usize + 1];
+            let at = even_address(self.descriptor as usize);
+            let low = ram[at];
+            let high = ram[at + 1];
             let next = Strip::of_descriptor(ch, low, high).advance();
             return Walked {
                 walk: Walk {
-                    descriptor: next_address(at),
+                    descriptor: next_address(at) as u16,
                     strip: next,
                 },
                 cells: 2,

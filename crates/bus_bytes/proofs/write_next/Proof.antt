@@ -9,9 +9,9 @@ returns : tie.Need-returns
 returns c =
     let t = c .before .before .before .before in
     let w = t .before .before .before .before .before in
-    let k = w .before .before in
+    let k = w .before .before .before in
     let a = k .before .before .before .before in
-    written-next _ _ _ (k .counter-of .result) (k .counter-of .ensures) (a .args .x) _ _ (a .pre .2) (w .write-bus .ensures)
+    written-next _ _ _ (k .counter-of .result) (k .counter-of .ensures) (a .args .x) _ _ (a .pre .2) (rw (w .before .before .next-address .ensures) at (w .write-bus .ensures))
     (t .store .ensures .0) (t .store .ensures .1)
 
 pub write-next-spec : {M : Type 1} → statement M
@@ -19,7 +19,7 @@ write-next-spec =
     tie.close
     (tie.spec
     (λ c κs. search needs)
-    (λ c. search needs)
+    (λ c κs. search needs)
     (λ c κs. search needs)
     (λ c κs. search needs)
     (λ c. search needs)

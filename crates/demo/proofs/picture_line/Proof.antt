@@ -28,8 +28,8 @@ returns : tie.Need-returns
 returns c =
     let w = c .before .before .before .before .before .before in
     let out = now (w .before .before .before .before .args .out) in
-    let n = w .width-of .result in
-    rw (← w .width-of .ensures .0, ← filled-front n lineMax 0 (omega arith))
+    let n = w .width .result in
+    rw (← w .width .ensures .0, ← filled-front n lineMax 0 (omega arith))
     (ap (λ (m : LineOutcome). lineOutcome (m .device) (m .out ++ drop (3 * n) out))
     (c .before .before .before .draw-mixed .ensures .0))
 
@@ -38,6 +38,7 @@ picture-line-spec =
     tie.close
     (tie.spec
     (λ c κs. search needs)
+    (λ c. search needs)
     (λ c. search needs)
     (λ c. search needs)
     slice-aggregate-draw-mixed

@@ -1,10 +1,19 @@
 -- `lookup`: the tests on the high byte pick the case of what a code shows.
 -- Assumes nothing.
+use Prim.Native.Nat.{_/_, _%_}
+use mathlib.Core.Path.{sym, _∙_}
+use mathlib.Core.Bool.{true≢false}
 use native.Mathlib.Omega.{arith}
+use borrow.Author.Tests.{eq-eqb}
 use Rattle.glyph.proofs.Laws.{wordAt, word-font, word-user, word-blank}
 use borrow.Author.Needs.{needs}
 use Rattle.glyph.proofs.lookup.Statement.{statement}
 use Rattle.glyph.proofs.lookup.Tie as tie
+
+slice-bytes-requires : tie.Need-slice-bytes-requires
+slice-bytes-requires c κs =
+    let p = c .before .before .before .pre in
+    (p .0, (λ u. absurd (true≢false (sym (eq-eqb (c .before .before .before .args .high / 128 % 2) 0 (omega (arith, c .if1 .taken))) ∙ u)), p .1))
 
 returns : tie.Need-returns
 unfolding wordAt
@@ -26,7 +35,7 @@ pub lookup-spec : {M : Type 1} → statement M
 lookup-spec =
     tie.close
     (tie.spec
-    (λ c κs. search needs)
+    slice-bytes-requires
     (λ c. search needs)
     (λ c. search needs)
     (λ c κs. search needs)

@@ -1,6 +1,6 @@
 -- `slice_bytes`: the part lies within the RAM or the font, and is the one that SET picks.
 -- Assumes nothing.
-use Prim.Native.Nat.{ℕ, _+_, _-_, _/_, _%_}
+use Prim.Native.Nat.{ℕ, _+_, _-_, _%_}
 use mathlib.Core.Path.{_≡_, ap, _∙_}
 use native.Mathlib.Nat.{add-sub-cancel-left}
 use native.Mathlib.Omega.{arith}
@@ -25,9 +25,6 @@ both : (ram f : List ℕ) (high : ℕ) (s : Slice) {l : List ℕ} → Lent ram f
     → (l ≡ slicePart ram f high (s .0)) × (length l ≡ 2)
 both ram f high s p e = (e, ap length e ∙ slicePart-length ram f high (s .0) (p .0) (p .1 .0) (p .1 .1 .to))
 
-odd : (n : ℕ) → (n / 128 % 2 ≡ 0 → ⊥) → n / 128 % 2 ≡ 1
-odd n h = omega arith
-
 sub-a : tie.Need-sub-a
 sub-a c = c .before .before .pre .1 .1 .from
 
@@ -40,7 +37,7 @@ returns c =
 part-result-end-2 : tie.Need-part-result-end-2
 part-result-end-2 c =
     let p = c .before .before .pre in
-    omega (arith, p .1 .0 (odd _ (c .if1 .left)), p .1 .1 .to, p .0 .ram-length)
+    omega (arith, p .1 .0 (ne-eqb _ _ (c .if1 .left)), p .1 .1 .to, p .0 .ram-length)
 
 returns-2 : tie.Need-returns-2
 returns-2 c =

@@ -70,10 +70,11 @@ put-twelve-requires c κs =
 
 loop-again : tie.Need-loop-again Inv-loop μ-loop
 loop-again c =
-    let f = c .before .before .before .before in
+    let f = c .before .before .before .before .before in
     let e = f .before .before in
     let l = e .before .before .before .before .before .loop in (
-      row-drawn (turn (e .before .before)) (e .if1 .left) (omega (arith, f .if2 .left, l .inv .2)) _ (c .before .before .put-twelve .ensures),
+      rw (c .next-address .ensures)
+          (row-drawn (turn (e .before .before)) (e .if1 .left) (omega (arith, f .if2 .left, l .inv .2)) _ (c .before .before .before .put-twelve .ensures)),
       omega (arith, f .if2 .left, l .inv .2),
       omega (arith, f .if2 .left, l .inv .2),
     )
@@ -93,7 +94,6 @@ draw-row-spec =
     (λ c. search needs)
     (λ c. search needs)
     (λ c κs. search needs)
-    (λ c. search needs)
     loop-holds
     (λ c. search needs)
     code-at-requires
@@ -115,8 +115,7 @@ draw-row-spec =
     (λ c. search needs)
     (λ c. search needs)
     put-twelve-requires
-    (λ c. search needs)
-    (λ c. search needs)
+    (λ c κs. search needs)
     (λ c. search needs)
     loop-again
     (λ c. search needs)

@@ -49,35 +49,33 @@ returns-4 : tie.Need-returns-4
 unfolding pixelBy
 returns-4 c =
     let w = c .before in
-    sym (ranged (w .before .before .before) ∙ rw (le-leb _ _ (rw (w .width .ensures, w .before .settings .ensures) at (c .if4 .taken))))
+    sym (ranged (w .before) ∙ rw (le-leb _ _ (rw (w .width .ensures .0) at (c .if4 .taken))))
 
 returns-5 : tie.Need-returns-5
 unfolding pixelBy
 returns-5 c =
     let w = c .before .before in
-    sym (ranged (w .before .before .before)
-    ∙ rw (lt-leb _ _ (rw (w .width .ensures, w .before .settings .ensures) at (c .before .if4 .left)), le-leb _ _ (c .if5 .taken)))
+    sym (ranged (w .before) ∙ rw (lt-leb _ _ (rw (w .width .ensures .0) at (c .before .if4 .left)), le-leb _ _ (c .if5 .taken)))
 
 -- the line is one of a frame's
-in-frame : (c : tie.Else5) → c .before .before .before .before .before .before .before .before .before .before .before .args .y < frameLines
+in-frame : (c : tie.Else5) → c .before .before .before .before .before .before .before .before .before .args .y < frameLines
 in-frame c =
-    let t = c .before .before .before .before .before in
+    let t = c .before .before .before in
     omega (arith, c .if5 .left, frame-lines (t .before .before .before .before .before .before .args .lines) (sym (t .before .bad-line-count .ensures) ∙ t .if3 .left))
 
 cast-y : tie.Need-cast-pixel-at-3
-cast-y c = omega (arith, in-frame c)
+cast-y c = omega (arith, in-frame (c .before))
 
 pixel-at-requires : tie.Need-pixel-at-requires
-pixel-at-requires c κs = (search needs, in-frame c)
+pixel-at-requires c κs = (search needs, in-frame (c .before))
 
 returns-6 : tie.Need-returns-6
 unfolding pixelBy
 returns-6 c =
-    let y = c .before in
+    let y = c .before .before in
     let w = y .before .before in
     ap accepted (c .pixel-at .ensures)
-    ∙ sym (ranged (w .before .before .before)
-    ∙ rw (lt-leb _ _ (rw (w .width .ensures, w .before .settings .ensures) at (y .before .if4 .left)), lt-leb _ _ (y .if5 .left)))
+    ∙ sym (ranged (w .before) ∙ rw (lt-leb _ _ (rw (w .width .ensures .0) at (y .before .if4 .left)), lt-leb _ _ (y .if5 .left)))
 
 pub ask-spec : {M : Type 1} → statement M
 ask-spec =
@@ -87,7 +85,6 @@ ask-spec =
     returns-2
     (λ c κs. search needs)
     returns-3
-    (λ c κs. search needs)
     (λ c κs. search needs)
     (λ c. search needs)
     returns-4

@@ -6,7 +6,6 @@ use mathlib.Core.Bool.{true, false}
 use mathlib.Core.Logic.{⊎-elim}
 use native.Mathlib.Omega.{arith}
 use denote.Ref.{now}
-use Rattle.limits.specs.Limits.{ramLength}
 use Rattle.pixel.specs.declared.StripLine.{StripLine}
 use Rattle.pixel.specs.Pixel.{pairAt, linesOf, fallsIn}
 use Rattle.pixel.proofs.Laws.{lines-some, lines-spacing, lines-characters, falls-here, falls-later}
@@ -15,13 +14,13 @@ use Rattle.pixel.proofs.falls_in.Statement.{statement}
 use Rattle.pixel.proofs.falls_in.Tie as tie
 
 abbrev Inv-loop : tie.InvT-loop
-Inv-loop ram ch first y height at₀ left₀ at left = (fallsIn left ram ch at left ≡ fallsIn y ram ch first y) × (at < ramLength) × (left ≤ y)
+Inv-loop ram ch first y height at₀ left₀ at left = (fallsIn left ram ch at left ≡ fallsIn y ram ch first y) × (left ≤ y)
 
 abbrev μ-loop : tie.MeasureT-loop
 μ-loop ram ch first y height at₀ left₀ at left = left
 
 loop-holds : tie.Need-loop-holds Inv-loop μ-loop
-loop-holds c = (refl, search needs, search needs)
+loop-holds c = (refl, search needs)
 
 -- a line of the strip at hand is the line sought
 found : (c : tie.After-pair-at Inv-loop μ-loop) (r : StripLine) → r ≡ record { descriptor = c .pair-at .result; line = record { 0 = c .before .loop .left + 1 } }
@@ -92,8 +91,7 @@ loop-again c =
     let p = rw (d .pair-at .ensures) at (passed (c .before)) in
     let left : c .before .if1 .left ≡ l .left - linesOf (a .ch) (pairAt (now (a .ram)) (l .at)) = omega (arith, p) in (
       rw (c .next-address .ensures, left) (sym (falls-later (now (a .ram)) (a .ch) (l .at) (l .left) (omega (arith, p))) ∙ l .inv .0),
-      search needs,
-      omega (arith, p, l .inv .2),
+      omega (arith, p, l .inv .1),
     )
 
 pub falls-in-spec : {M : Type 1} → statement M

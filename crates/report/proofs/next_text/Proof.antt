@@ -24,7 +24,7 @@ returns c =
     let w = c .before .before .before .before .before .before in
     c .before .before .before .draw-text .ensures .0
     ∙ ap (λ (line : List ℕ). textOf (drawLine (a .device) (now (a .ram)) (now (a .font)) line) (now (a .out)))
-    (filled-front (w .width-of .result) lineMax 0 (omega arith) ∙ ap (λ (n : ℕ). replicate n 0) (w .width-of .ensures .0))
+    (filled-front (w .width .result) lineMax 0 (omega arith) ∙ ap (λ (n : ℕ). replicate n 0) (w .width .ensures .0))
 
 pub next-text-spec : {M : Type 1} → statement M
 next-text-spec =

@@ -34,30 +34,35 @@ returns-4 : tie.Need-returns-4
 unfolding drawVerdict drawBy drawLine
 returns-4 c =
     let n = c .not-drawn4 .ensures in
+    let w = c .before .before in
+    let f = w .before .before .before .before in
     rw (
-      eq-eqb _ _ (c .before .before .before .before .before .before .before .before .before .if1 .left),
-      eq-eqb _ _ (c .before .before .before .before .before .before .before .before .if2 .left),
-      ne-eqb _ _ (c .before .before .before .before .before .if3 .left),
-      lt-ltb _ _ (rw (c .before .before .width .ensures, c .before .before .before .settings .ensures) at (c .before .if4 .taken)),
+      eq-eqb _ _ (f .before .if1 .left),
+      eq-eqb _ _ (f .if2 .left),
+      ne-eqb _ _ (w .before .if3 .left),
+      lt-ltb _ _ (rw (w .width .ensures .0) at (c .before .if4 .taken)),
     )
-    (λ i. record { device = n .0 i; line = now (c .before .before .before .before .before .before .before .before .before .before .before .before .before .args .line); reply = n .1 i })
+    (λ i. record { device = n .0 i; line = now (f .before .before .before .before .before .args .line); reply = n .1 i })
 
 draw-requires : tie.Need-draw-requires
-draw-requires c κs = (
-  record { ram-length = c .before .before .before .before .before .before .before .before .before .before .if1 .left; font-length = c .before .before .before .before .before .before .before .before .before .if2 .left },
-  rw (c .before .before .before .width .ensures, c .before .before .before .before .settings .ensures) at (c .before .before .if4 .left),
-)
+draw-requires c κs =
+    let w = c .before .before .before .before in
+    let f = w .before .before .before .before in
+    (record { ram-length = f .before .if1 .left; font-length = f .if2 .left }, rw (w .width .ensures .0) at (c .before .before .before .if4 .left))
 
 returns-5 : tie.Need-returns-5
 unfolding drawVerdict drawBy drawLine lineDrawn lineOn pixelsOf
 returns-5 c =
-    let a = c .before .before .before .before .before .before .before .before .before .before .before .before .before .before .before .before .before .before .before .before .args .self in
-    let d = c .before .before .before .before .before .draw .ensures in
+    let d = c .before .before .before .before .before in
+    let w = d .before .before .before .before .before in
+    let f = w .before .before .before .before in
+    let a = f .before .before .before .before .before .args .self in
+    let e = d .draw .ensures in
     rw (
-      eq-eqb _ _ (c .before .before .before .before .before .before .before .before .before .before .before .before .before .before .before .before .if1 .left),
-      eq-eqb _ _ (c .before .before .before .before .before .before .before .before .before .before .before .before .before .before .before .if2 .left),
-      ne-eqb _ _ (c .before .before .before .before .before .before .before .before .before .before .before .before .if3 .left),
-      le-ltb _ _ (rw (c .before .before .before .before .before .before .before .before .before .width .ensures, c .before .before .before .before .before .before .before .before .before .before .settings .ensures) at (c .before .before .before .before .before .before .before .before .if4 .left)),
+      eq-eqb _ _ (f .before .if1 .left),
+      eq-eqb _ _ (f .if2 .left),
+      ne-eqb _ _ (w .before .if3 .left),
+      le-ltb _ _ (rw (w .width .ensures .0) at (d .before .before .before .before .if4 .left)),
     )
     (λ i.
     record {
@@ -65,11 +70,11 @@ returns-5 c =
           record {
             bus = a .bus;
             registers = a .registers;
-            frame = record { left = a .frame .left - 1; number = a .frame .number; walk = d .walk i };
+            frame = record { left = a .frame .left - 1; number = a .frame .number; walk = e .walk i };
             next = a .next;
           };
-      line = d .pixels i;
-      reply = accepted (d .reads i);
+      line = e .pixels i;
+      reply = accepted (e .reads i);
     })
 
 pub draw-line-spec : {M : Type 1} → statement M
@@ -82,7 +87,6 @@ draw-line-spec =
     returns-2
     (λ c κs. search needs)
     returns-3
-    (λ c κs. search needs)
     (λ c κs. search needs)
     (λ c. search needs)
     (λ c κs. search needs)

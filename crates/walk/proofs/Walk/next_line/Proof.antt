@@ -14,9 +14,10 @@ advance-requires c κs = ap over (c .of-descriptor .ensures) ∙ stripOf-begun _
 returns : tie.Need-returns
 returns c =
     let t = c .before .before .before .before .before in
-    let a = t .before .before .before .before .args in
+    let i = t .before .before in
+    let a = i .before .before .before .args in
     rw (
-      walked-read (now (a .ram)) (a .ch) (a .self) (sym (t .before .before .is-over .ensures) ∙ t .before .if1 .taken),
+      walked-read (now (a .ram)) (a .ch) (a .self) (sym (i .before .is-over .ensures) ∙ i .if1 .taken),
       c .next-address .ensures,
       c .before .advance .ensures,
       c .before .before .of-descriptor .ensures,
@@ -37,15 +38,15 @@ next-line-spec =
     tie.close
     (tie.spec
     (λ c κs. search needs)
+    (λ c. search needs)
     (λ c κs. search needs)
-    (λ c. search needs)
-    (λ c. search needs)
     (λ c. search needs)
     (λ c. search needs)
     (λ c. search needs)
     (λ c κs. search needs)
     advance-requires
     (λ c κs. search needs)
+    (λ c. search needs)
     returns
     advance-requires-2
     returns-2)
