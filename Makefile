@@ -31,7 +31,7 @@ bdf:
 claims:
 	@python3 tests/claims.py
 
-# what the documents point to is there
+# what the documents point to is there, and docs/PROMISES.md has each public function once
 references:
 	@python3 tests/references.py
 

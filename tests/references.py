@@ -90,13 +90,13 @@ def public():
                 kind = found.group(1)
             elif line.startswith('}'):
                 kind = ''
-            elif found := re.match(r'\s*pub (?:extern "C" )?fn (\w+)', line):
+            elif found := re.match(r'\s*pub\b.*\bfn (\w+)', line):
                 yield path.parts[1], kind, found.group(1)
 
 
-def promised(lines, there):
+def promised(lines, functions):
     """The functions of the rows. A name alone belongs with the one before it, or to the crate of the section."""
-    owners, rows = {kind: crate for crate, kind, _ in there if kind}, False
+    owners, rows = {kind: crate for crate, kind, _ in functions if kind}, False
     for line in lines:
         if line.startswith('## '):
             crate, kind = (re.findall(r'\(crate `(\w+)`', line) or [''])[0], ''
@@ -109,14 +109,15 @@ def promised(lines, there):
             yield crate, kind, name
 
 
-there = list(public())
+functions = list(public())
 lines = pathlib.Path('docs/PROMISES.md').read_text().split('\n')
-rows = list(promised(lines, there))
-run = {name for line in lines if ' is run' in line for name in re.findall(r'`(?:\w+::)?(\w+)`', line.split(' is run')[0])}
+rows = list(promised(lines, functions))
+run = {found for line in lines if ' is run' in line for found in re.findall(r'`(\w+)::(\w+)`', line.split(' is run')[0])}
 seen += len(rows)
-for each in sorted(set(rows) | set(there)):
-    if each not in there or rows.count(each) != (each[2] not in run):
-        faults.append('docs/PROMISES.md: %s has %d rows' % ('::'.join(filter(None, each)), rows.count(each)))
+for each in sorted(set(rows) | set(functions)):
+    if each not in functions or rows.count(each) != ((each[0], each[2]) not in run):
+        name, is_ = '::'.join(filter(None, each)), '' if each in functions else 'not '
+        faults.append('docs/PROMISES.md: %s is %spublic and has %d rows' % (name, is_, rows.count(each)))
 
 for document in sorted(pathlib.Path('docs').glob('*.md')) + [pathlib.Path('README.md')]:
     for number, line in enumerate(document.read_text().split('\n'), 1):

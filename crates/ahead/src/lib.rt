@@ -99,11 +99,12 @@ fn look_row(
     requires { ⌜ Kept (now marks) × Far (now ram) sought near ⌝ }
     ensures { λ r. ⌜ Adds (now (ram .entry)) sought (rowRead (now (ram .entry)) sought shown address) (now (marks .entry)) (now (marks .exit)) r ⌝ }
 {
-    let back = (sought.cell / 2 + 512 - address / 2 % 512) % 512;
+    let start = address as usize / 2 % limits::RAM_PAIRS;
+    let back = (sought.cell as usize / 2 + limits::RAM_PAIRS - start) % limits::RAM_PAIRS;
     let mut reached = near;
-    if back < near {
+    if back < near as usize {
         reached = starts(ram, sought.codes, sought.cell);
-        if back < reached {
+        if back < reached as usize {
             return Looked {
                 found: true,
                 near: reached,

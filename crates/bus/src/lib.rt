@@ -89,10 +89,10 @@ impl Event {
 }
 
 // The RAM of a fresh device, to be lent to bus and drawing.
-pub fn fresh_ram() -> [u8; 1024]
+pub fn fresh_ram() -> [u8; limits::RAM_LENGTH]
     ensures { λ r. ⌜ r ≡ freshRam ⌝ }
 {
-    [0; 1024]
+    [0; limits::RAM_LENGTH]
 }
 
 impl Bus {
@@ -143,7 +143,7 @@ impl Bus {
         Step {
             bus: Bus {
                 state: state,
-                counter: next_address(self.counter % limits::ADDRESS_SPACE),
+                counter: next_address(self.counter),
             },
             effect: effect,
         }
@@ -201,7 +201,7 @@ impl Bus {
     }
 }
 
-// The address after an address.
+// The address after another: after 3FFF comes 0000. The remainder comes first, so that the sum fits.
 pub fn next_address(a: u16) -> u16
     ensures { λ r. ⌜ r ≡ nextAddress a ⌝ }
 {

@@ -7,6 +7,7 @@ use mathlib.Core.Bool.{not}
 use mathlib.Core.List.{List, [], _∷_, _++_, map}
 use lib.Dec.{eqb}
 use lib.ListN.{length, replicate}
+use Rattle.limits.specs.Limits.{fontLength}
 use Rattle.runs.specs.Runs.{log, end, select, SameRuns}
 use Rattle.cells.specs.Reading.{Role, sameRole, cellsAs, among, Alike}
 use Rattle.registers.specs.declared.Settings.{Settings}
@@ -32,7 +33,7 @@ write a bytes = addressing a ++ map Byte bytes ++ Stop ∷ []
 
 -- a font, all foreground
 unfoldable pub font : List ℕ
-font = replicate 4608 255
+font = replicate fontLength 255
 
 -- after these events
 unfoldable pub heard : List Event → State → State

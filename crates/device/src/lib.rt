@@ -130,15 +130,6 @@ impl Device {
         }
     }
 
-    // The width of its lines.
-    pub fn width(self) -> u16
-        ensures { λ r. ⌜ (r ≡ lineWidth self) × (r ≤ lineMax) ⌝ }
-    {
-        let registers = self.registers;
-        let settings = registers.settings();
-        raster::width(settings.ld)
-    }
-
     fn not_started(self) -> StartDone
         ensures { λ r. ⌜ startOutcome r ≡ record { device = self; reply = refused FrameLines } ⌝ }
     {
@@ -146,6 +137,15 @@ impl Device {
             device: self,
             answer: StartAnswer::Refused(Refusal::FrameLines),
         }
+    }
+
+    // The width of its lines.
+    pub fn width(self) -> u16
+        ensures { λ r. ⌜ (r ≡ lineWidth self) × (r ≤ lineMax) ⌝ }
+    {
+        let registers = self.registers;
+        let settings = registers.settings();
+        raster::width(settings.ld)
     }
 
     // Refusals 1, 2, 4, then 3.

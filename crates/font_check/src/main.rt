@@ -3,12 +3,12 @@
 
 fn main() {
     // one byte more than a file has, so that a longer one shows
-    let mut input = [0u8; 5121];
+    let mut input = [0u8; limits::FONT_FILE_LENGTH + 1];
     let n = io::read_full(0, &mut input);
     check(&input[..n]);
 }
 
 fn check(file: &[u8]) {
-    let mut font = [0u8; 4608];
+    let mut font = [0u8; limits::FONT_LENGTH];
     depot::tell(font_file::read(file, &mut font));
 }

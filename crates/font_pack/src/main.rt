@@ -4,13 +4,13 @@ use font_file::FileAnswer;
 
 fn main() {
     // one byte more than a font has, so that a longer one shows
-    let mut input = [0u8; 4609];
+    let mut input = [0u8; limits::FONT_LENGTH + 1];
     let n = io::read_full(0, &mut input);
     pack(&input[..n]);
 }
 
 fn pack(font: &[u8]) {
-    let mut file = [0u8; 5120];
+    let mut file = [0u8; limits::FONT_FILE_LENGTH];
     let answer = font_file::write(font, &mut file);
     match answer {
         FileAnswer::Done => {

@@ -4,13 +4,13 @@ use font_file::FileAnswer;
 
 fn main() {
     // one byte more than a file has, so that a longer one shows
-    let mut input = [0u8; 5121];
+    let mut input = [0u8; limits::FONT_FILE_LENGTH + 1];
     let n = io::read_full(0, &mut input);
     unpack(&input[..n]);
 }
 
 fn unpack(file: &[u8]) {
-    let mut font = [0u8; 4608];
+    let mut font = [0u8; limits::FONT_LENGTH];
     let answer = font_file::read(file, &mut font);
     match answer {
         FileAnswer::Done => {

@@ -35,7 +35,7 @@ pub fn slice_bytes<'a>(ram: &'a [u8], font: &'a [u8], high: u8, slice: Slice) ->
         let e = a + 2;
         return &font[a..e];
     }
-    let a = 38 * number + 2 * s;
+    let a = limits::USER_LENGTH as usize * number + 2 * s;
     let e = a + 2;
     &ram[a..e]
 }

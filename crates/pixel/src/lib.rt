@@ -142,17 +142,15 @@ fn ended_by(ram: &[u8], first: u16, number: u16) -> bool
 // The code of a column of a row, counted from its first character's first pixel.
 fn code_of(ram: &[u8], row: Row, column: u16) -> Pair
     requires { ⌜ length (now ram) ≡ ramLength ⌝ }
-    requires { ⌜ row .address < ramLength ⌝ }
     ensures { λ r. ⌜ r ≡ codeOf (now (ram .entry)) row column ⌝ }
 {
-    pair_at(ram, (row.address + 2 * (column / 12)) as usize)
+    pair_at(ram, row.address as usize + 2 * (column / 12) as usize)
 }
 
 // Does a column of a row show foreground?
 fn foreground_at<'a>(ram: &'a [u8], font: &'a [u8], row: Row, column: u16) -> bool
     requires { ⌜ Lent (now ram) (now font) ⌝ }
     requires { ⌜ OnScreen (row .slice) ⌝ }
-    requires { ⌜ row .address < ramLength ⌝ }
     ensures { λ r. ⌜ r ≡ foregroundAt (now (ram .entry)) (now (font .entry)) row column ⌝ }
 {
     let code = code_of(ram, row, column);
@@ -164,7 +162,6 @@ fn foreground_at<'a>(ram: &'a [u8], font: &'a [u8], row: Row, column: u16) -> bo
 fn background_at<'a>(ram: &'a [u8], font: &'a [u8], row: Row, low: u8, column: u16) -> u8
     requires { ⌜ Lent (now ram) (now font) ⌝ }
     requires { ⌜ OnScreen (row .slice) ⌝ }
-    requires { ⌜ row .address < ramLength ⌝ }
     ensures { λ r. ⌜ r ≡ background (row .plain) low (besideAt (now (ram .entry)) (now (font .entry)) row column) ⌝ }
 {
     if low / 8 % 2 == 0 {
@@ -187,7 +184,6 @@ fn background_at<'a>(ram: &'a [u8], font: &'a [u8], row: Row, low: u8, column: u
 fn row_pixel<'a>(ram: &'a [u8], font: &'a [u8], row: Row, column: u16) -> u8
     requires { ⌜ Lent (now ram) (now font) ⌝ }
     requires { ⌜ OnScreen (row .slice) ⌝ }
-    requires { ⌜ row .address < ramLength ⌝ }
     ensures { λ r. ⌜ r ≡ rowPixel (now (ram .entry)) (now (font .entry)) row column ⌝ }
 {
     if ended_by(ram, row.address, column / 12) {

@@ -57,15 +57,15 @@ fn show(kind: u8, byte: u8, refusal: u8, answer: u16) {
 }
 
 fn show_event(kind: u8, byte: u8) {
-    if kind == 0 {
+    if kind == bus::START {
         io::write_all(1, b"start");
         return;
     }
-    if kind == 2 {
+    if kind == bus::FETCH {
         io::write_all(1, b"fetch");
         return;
     }
-    if kind == 3 {
+    if kind == bus::STOP {
         io::write_all(1, b"stop");
         return;
     }

@@ -46,11 +46,11 @@ pub fn even_address(a: usize) -> usize
     a / 2 % limits::RAM_PAIRS * 2
 }
 
-// The even address of the two bytes after those at an address.
+// The even address of the two bytes after those at an address. The remainder comes first, so that the sum fits.
 pub fn next_address(a: usize) -> usize
     ensures { λ r. ⌜ r ≡ next a ⌝ }
 {
-    (a / 2 + 1) % limits::RAM_PAIRS * 2
+    (a % limits::RAM_LENGTH + 2) / 2 % limits::RAM_PAIRS * 2
 }
 
 fn at_least_one(n: u8) -> u8
@@ -97,11 +97,11 @@ pub fn height(ch: u8) -> u8
     at_least_one(ch)
 }
 
-// Where the codes of a descriptor's strip start.
+// Where the codes of a descriptor's strip start: at an even address.
 pub fn code_address(low: u8, high: u8) -> u16
     ensures { λ r. ⌜ r ≡ codesAt low high ⌝ }
 {
-    even_address((high % 4) as usize * 256 + low as usize) as u16
+    (high % 4) as u16 * 256 + (low / 2 * 2) as u16
 }
 
 // Are codes read on the lines of its strip?

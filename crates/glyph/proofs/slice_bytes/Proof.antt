@@ -66,5 +66,6 @@ slice-bytes-spec =
     (λ c. search needs)
     (λ c. search needs)
     (λ c. search needs)
+    (λ c. search needs)
     part-result-end-2
     returns-2)

@@ -72,7 +72,7 @@ slice-of-requires c κs =
 row-pixel-requires : tie.Need-row-pixel-requires
 row-pixel-requires c κs =
     let s = c .before .slice-of .ensures in
-    (search needs, (rw s (slice-range _ _ _ (slice-of-requires (c .before .before) tt)), search needs))
+    (search needs, rw s (slice-range _ _ _ (slice-of-requires (c .before .before) tt)))
 
 returns-4 : tie.Need-returns-4
 unfolding pixelAt
