@@ -34,9 +34,12 @@ apply-requires c κs = (
 
 returns-3 : tie.Need-returns-3
 returns-3 c =
-    let p = c .before .before .before .before .before .before .before .before .before .before .before .before .before .before .before .pre in
-    bus-applied _ _ _ _ (p .0) (p .2) (c .before .before .before .before .before .before .before .before .before .bus-of .result) (c .before .before .before .before .before .before .of-kind .result) (c .before .before .before .before .before .take .result) _
-    (p .1) (c .before .before .before .before .before .before .before .before .before .bus-of .ensures) (c .before .before .before .before .before .before .of-kind .ensures) (c .before .before .before .before .before .take .ensures) (c .before .before .before .before .apply .ensures)
+    let at-apply = c .before .before .before .before in
+    let at-bus-of = at-apply .before .before .before .before .before in
+    let at-start = at-bus-of .before .before .before .before .before .before in
+    let p = at-start .pre in
+    bus-applied _ _ _ _ (p .0) (p .2) (at-bus-of .bus-of .result) (at-apply .before .before .of-kind .result) (at-apply .before .take .result) _
+    (p .1) (at-bus-of .bus-of .ensures) (at-apply .before .before .of-kind .ensures) (at-apply .before .take .ensures) (at-apply .apply .ensures)
 
 pub hear-spec : {M : Type 1} → statement M
 hear-spec =

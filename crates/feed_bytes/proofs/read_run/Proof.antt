@@ -60,8 +60,10 @@ loop-holds c =
 
 returns-4 : tie.Need-returns-4 Inv-loop μ-loop
 returns-4 c =
-    let l = c .before .before .before .before .before .before .before .loop in
-    let a = c .before .before .before .before .before .before .before .before .before .before .before .before .before .before .before .before .before .before .before .args in
+    let at-loop = c .before .before .before .before .before .before .before in
+    let at-start = at-loop .before .before .before .before .before .before .before .before .before .before .before .before in
+    let l = at-loop .loop in
+    let a = at-start .args in
     record {
       forth = l .inv .3;
       events = l .inv .4;
@@ -113,8 +115,10 @@ slice-write-out-2 c =
 
 returns-5 : tie.Need-returns-5 Inv-loop μ-loop
 returns-5 c =
-    let l = c .before .before .before .before .before .loop in
-    let a = c .before .before .before .before .before .before .before .before .before .before .before .before .before .before .before .before .before .args in
+    let at-loop = c .before .before .before .before .before in
+    let at-start = at-loop .before .before .before .before .before .before .before .before .before .before .before .before in
+    let l = at-loop .loop in
+    let a = at-start .args in
     record {
       forth = l .inv .3;
       events = l .inv .4;

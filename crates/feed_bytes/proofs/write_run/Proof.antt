@@ -107,8 +107,10 @@ loop-again c =
 
 slice-write-out-2 : tie.Need-slice-write-out-2 Inv-loop μ-loop
 slice-write-out-2 c =
-    let l = c .before .before .before .before .before .before .before .before .before .before .before .loop in
-    let a = c .before .before .before .before .before .before .before .before .before .before .before .before .before .before .before .before .before .before .before .before .before .before .before .args in
+    let at-loop = c .before .before .before .before .before .before .before .before .before .before .before in
+    let at-start = at-loop .before .before .before .before .before .before .before .before .before .before .before .before in
+    let l = at-loop .loop in
+    let a = at-start .args in
     rw (length-set (l .out) (l .k + 1 - a .first) 1, l .inv .2) (on c .room)
 
 returns-5 : tie.Need-returns-5 Inv-loop μ-loop

@@ -6,7 +6,9 @@ use Rattle.line.proofs.draw_characters.Statement.{statement}
 use Rattle.line.proofs.draw_characters.Tie as tie
 
 returns : tie.Need-returns
-returns c = characters-drawn _ _ _ _ _ _ _ _ _ _ (c .before .before .before .before .before .before .before .before .if1 .taken) (c .before .before .before .before .before .before .fill-line .ensures) (c .before .before .draw-row .ensures)
+returns c =
+    let at-fill-line = c .before .before .before .before .before .before in
+    characters-drawn _ _ _ _ _ _ _ _ _ _ (at-fill-line .before .before .if1 .taken) (at-fill-line .fill-line .ensures) (c .before .before .draw-row .ensures)
 
 returns-2 : tie.Need-returns-2
 returns-2 c = characters-none _ _ _ _ _ _ _ _ (c .before .before .before .before .if1 .left) (c .before .before .fill-line2 .ensures)

@@ -10,13 +10,17 @@ use Rattle.line.proofs.draw_strip.Statement.{statement}
 use Rattle.line.proofs.draw_strip.Tie as tie
 
 returns : tie.Need-returns
-returns c = strip-off _ _ _ _ _ _ _ _ (c .before .before .before .before .before .before .before .width .ensures) (not-true _ (c .before .before .before .before .if1 .taken)) (c .before .before .fill-line .ensures)
+returns c =
+    let at-if = c .before .before .before .before in
+    strip-off _ _ _ _ _ _ _ _ (at-if .before .before .before .width .ensures) (not-true _ (at-if .if1 .taken)) (c .before .before .fill-line .ensures)
 
 returns-2 : tie.Need-returns-2
 returns-2 c =
-    let v = c .before .before .before .before .before .before .strip .given in
+    let at-if = c .before .before .before .before in
+    let at-width = at-if .before .before .before .before .before .before .before in
+    let v = at-if .before .before .strip .given in
     on-strip _ _ _ _ _ _ _ _ (v .1)
-    (strip-plain _ _ _ _ _ _ _ _ (c .before .before .before .before .before .before .before .before .before .before .before .width .ensures) (not-false _ (c .before .before .before .before .before .before .before .before .if1 .left)) (unfold hasRow in not-true _ (c .before .before .before .before .if2 .taken))
+    (strip-plain _ _ _ _ _ _ _ _ (at-width .width .ensures) (not-false _ (at-if .before .before .before .before .if1 .left)) (unfold hasRow in not-true _ (at-if .if2 .taken))
     (c .before .before .fill-line3 .ensures))
 
 slice-requires : tie.Need-slice-requires
@@ -24,27 +28,34 @@ slice-requires c κs = on-line _ (c .before .before .strip .given .1) (c .before
 
 draw-characters-requires : tie.Need-draw-characters-requires
 draw-characters-requires c κs =
-    let p = c .before .before .before .before .before .before .before .before .before .before .before .before .before .before .before .pre in (
-      (omega (arith, c .before .before .before .before .before .before .before .before .before .before .before .width .ensures, p .1 .1 .2), omega (arith, c .before .before .before .before .before .before .before .before .before .before .before .width .ensures, p .1 .1 .0)),
+    let at-strip = c .before .before .before .before .before .before in
+    let at-width = at-strip .before .before .before .before .before in
+    let p = at-width .before .before .before .before .pre in (
+      (omega (arith, at-width .width .ensures, p .1 .1 .2), omega (arith, at-width .width .ensures, p .1 .1 .0)),
       (
         p .0,
-        (slice-on _ _ _ _ (c .before .before .before .slice .ensures) (on-line _ (c .before .before .before .before .before .before .strip .given .1) (p .1 .0)), (omega arith, omega (arith, p .1 .1 .1))),
+        (slice-on _ _ _ _ (c .before .before .before .slice .ensures) (on-line _ (at-strip .strip .given .1) (p .1 .0)), (omega arith, omega (arith, p .1 .1 .1))),
       ),
     )
 
 returns-3 : tie.Need-returns-3
 returns-3 c =
-    let v = c .before .before .before .before .enum-told .given in
+    let at-enum-told = c .before .before .before .before in
+    let at-width = at-enum-told .before .before .before .before .before in
+    let v = at-enum-told .enum-told .given in
     on-strip _ _ _ _ _ _ _ _ (v .1)
-    (strip-plain _ _ _ _ _ _ _ _ (c .before .before .before .before .before .before .before .before .before .width .ensures) (not-false _ (c .before .before .before .before .before .before .if1 .left)) (unfold hasRow in refl) (c .before .before .fill-line2 .ensures))
+    (strip-plain _ _ _ _ _ _ _ _ (at-width .width .ensures) (not-false _ (at-enum-told .before .before .if1 .left)) (unfold hasRow in refl) (c .before .before .fill-line2 .ensures))
 
 returns-4 : tie.Need-returns-4
 returns-4 c =
-    let v = c .before .before .before .before .before .before .before .before .before .strip .given in
+    let at-first-pixel = c .before .before .before .before in
+    let at-strip = at-first-pixel .before .before .before .before .before in
+    let at-width = at-strip .before .before .before .before .before in
+    let v = at-strip .strip .given in
     on-strip _ _ _ _ _ _ _ _ (v .1)
-    (strip-characters _ _ _ _ _ _ _ _ _ _ _ _ _ _ _ (not-false _ (c .before .before .before .before .before .before .before .before .before .before .before .if1 .left)) (not-false _ (c .before .before .before .before .before .before .before .if2 .left))
-    (λ i. record { slice = c .before .before .before .before .before .before .slice .ensures i; plain = plainOf (c .before .before .before .before .before .before .before .before .before .before .before .before .before .before .before .before .before .before .args .settings .fbk); hidden = c .before .before .before .before .before .hidden .ensures i })
-    (c .before .before .before .before .first-pixel .ensures) (c .before .before .before .before .before .before .before .before .before .before .before .before .before .before .width .ensures) (c .before .before .draw-characters .ensures))
+    (strip-characters _ _ _ _ _ _ _ _ _ _ _ _ _ _ _ (not-false _ (at-strip .before .before .if1 .left)) (not-false _ (at-first-pixel .before .before .before .if2 .left))
+    (λ i. record { slice = at-first-pixel .before .before .slice .ensures i; plain = plainOf (at-width .before .before .before .before .args .settings .fbk); hidden = at-first-pixel .before .hidden .ensures i })
+    (at-first-pixel .first-pixel .ensures) (at-width .width .ensures) (c .before .before .draw-characters .ensures))
 
 pub draw-strip-spec : {M : Type 1} → statement M
 draw-strip-spec =

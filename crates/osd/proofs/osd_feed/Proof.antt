@@ -25,17 +25,21 @@ returns-3 c = feed-not _ _ _ _ _ (λ h k l. not-le-of-lt (c .if3 .taken) l)
 
 take-events-requires : tie.Need-take-events-requires
 take-events-requires c κs =
-    let t = passed-takes _ _ _ _ (sym (c .before .before .before .before .before .test .ensures) ∙ ap verdictIn (c .before .before .before .enum-told .given .1)) in
-    ((c .before .before .before .before .before .before .before .before .before .before .if1 .left, t .ram-length, c .before .before .before .before .before .before .before .before .if3 .left), (t .not-shut, t .room))
+    let at-test = c .before .before .before .before .before in
+    let at-if = at-test .before .before .before .before .before in
+    let t = passed-takes _ _ _ _ (sym (at-test .test .ensures) ∙ ap verdictIn (c .before .before .before .enum-told .given .1)) in
+    ((at-if .if1 .left, t .ram-length, at-test .before .before .before .if3 .left), (t .not-shut, t .room))
 
 returns-4 : tie.Need-returns-4
 returns-4 c =
-    let d = c .before .before .before .before .before .before .before .before .before .before .before .before .before .before .before .before .before .before in
+    let at-take-events = c .before .before .before .before .before .before .before .before .before .before .before in
+    let at-test = at-take-events .before .before .before .before .before .before in
+    let d = at-test .before in
     let a = d .before .before .before .before .before .before .before .before .before .before .args in
     feed-taken _ _ _ _ _ (d .before .before .before .before .if1 .left) (d .before .before .before .if2 .left) (d .before .before .if3 .left)
     (ap (λ (f : Feed). feedVerdict f (length (now (a .ram))) (length (now (a .chunk))) (length (now (a .out)))) (sym (d .feed-in .ensures))
-    ∙ sym (c .before .before .before .before .before .before .before .before .before .before .before .before .before .before .before .before .before .test .ensures) ∙ ap verdictIn (c .before .before .before .before .before .before .before .before .before .before .before .before .before .before .before .enum-told .given .1))
-    (c .before .before .before .before .before .before .before .before .before .before .before .take-events .ensures ∙ ap (λ (f : Feed). playChunk busCalls (lent (now (a .device)) (now (a .ram))) f (now (a .chunk)) (now (a .out))) (d .feed-in .ensures))
+    ∙ sym (at-test .test .ensures) ∙ ap verdictIn (at-take-events .before .before .before .before .enum-told .given .1))
+    (at-take-events .take-events .ensures ∙ ap (λ (f : Feed). playChunk busCalls (lent (now (a .device)) (now (a .ram))) f (now (a .chunk)) (now (a .out))) (d .feed-in .ensures))
     (c .before .before .before .write-feed .ensures) (c .fed .ensures)
 
 returns-5 : tie.Need-returns-5

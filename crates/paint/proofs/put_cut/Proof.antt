@@ -9,7 +9,8 @@ use Rattle.paint.proofs.put_cut.Tie as tie
 
 returns : tie.Need-returns
 returns c =
-    c .before .before .copy-cut .ensures ∙ ap (take (length (now (c .before .before .before .before .before .before .before .before .before .args .out)))) (c .before .before .before .before .before .before .put-twelve .ensures)
+    let at-put-twelve = c .before .before .before .before .before .before in
+    c .before .before .copy-cut .ensures ∙ ap (take (length (now (at-put-twelve .before .before .before .args .out)))) (at-put-twelve .put-twelve .ensures)
 
 pub put-cut-spec : {M : Type 1} → statement M
 put-cut-spec =

@@ -15,13 +15,17 @@ take-events-requires c κs =
 
 returns : tie.Need-returns
 unfolding feedBy feedChunk
-returns c = rw (sym (c .before .before .before .before .before .before .before .before .before .test .ensures) ∙ ap verdictIn (c .before .before .before .before .before .before .before .enum-told .given .1)) (c .before .before .before .before .take-events .ensures)
+returns c =
+    let at-take-events = c .before .before .before .before in
+    let at-test = at-take-events .before .before .before .before .before in
+    rw (sym (at-test .test .ensures) ∙ ap verdictIn (at-take-events .before .before .before .enum-told .given .1)) (at-take-events .take-events .ensures)
 
 returns-2 : tie.Need-returns-2
 unfolding feedBy feedChunk
 returns-2 c =
-    let a = c .before .before .before .before .before .before .before .before .args in
-    rw (sym (c .before .before .before .before .test .ensures) ∙ ap verdictIn (c .before .before .test2 .given .1)) (ap (λ (r : FeedDone). feedOutcome r (now (a .ram)) (now (a .out))) (c .not-fed .ensures))
+    let at-test = c .before .before .before .before in
+    let a = at-test .before .before .before .before .args in
+    rw (sym (at-test .test .ensures) ∙ ap verdictIn (c .before .before .test2 .given .1)) (ap (λ (r : FeedDone). feedOutcome r (now (a .ram)) (now (a .out))) (c .not-fed .ensures))
 
 pub take-spec : {M : Type 1} → statement M
 take-spec =

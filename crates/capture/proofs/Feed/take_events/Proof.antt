@@ -44,38 +44,46 @@ loop-holds c =
 
 returns : tie.Need-returns Inv-loop μ-loop
 returns c =
+    let at-held-bytes = c .before .before .before .before in
+    let at-start = at-held-bytes .before .before .before .before .before in
     let l = c .before .before .before .loop in
-    let a = c .before .before .before .before .before .before .before .before .before .args in
-    chunk-fed (chip (a .device) (now (a .ram))) (a .self) (now (a .chunk)) (now (a .out)) (c .before .before .before .before .before .before .before .before .before .pre .1)
+    let a = at-start .args in
+    chunk-fed (chip (a .device) (now (a .ram))) (a .self) (now (a .chunk)) (now (a .out)) (at-start .pre .1)
     (sym (from-bad busEvents _ (now (a .chunk)) _ (l .i) (l .out) _ (c .before .before .loop-test .taken) (sym (ap badKind (c .before .kind-at .ensures)) ∙ lt-ltb 3 _ (c .if1 .taken)))
     ∙ l .inv .4
-    ∙ from-first busEvents _ (a .self) (now (a .chunk)) _ _ _ (c .before .before .before .before .before .held-kind .ensures) (c .before .before .before .before .held-bytes .ensures) (c .before .before .before .before .before .before .before .before .before .pre .0))
+    ∙ from-first busEvents _ (a .self) (now (a .chunk)) _ _ _ (at-held-bytes .before .held-kind .ensures) (at-held-bytes .held-bytes .ensures) (at-start .pre .0))
 
 add-i : tie.Need-add-i Inv-loop μ-loop
 add-i c =
-    omega (arith, c .before .before .before .before .before .before .before .before .before .before .before .before .before .loop-test .taken, c .before .before .before .before .before .before .before .before .before .before .before .before .before .before .before .before .before .before .before .before .good .1 .1 .1 .0 .1)
+    let at-loop-test = c .before .before .before .before .before .before .before .before .before .before .before .before .before in
+    let at-start = at-loop-test .before .before .before .before .before .before .before in
+    omega (arith, at-loop-test .loop-test .taken, at-start .good .1 .1 .1 .0 .1)
 
 loop-again : tie.Need-loop-again Inv-loop μ-loop
 loop-again c =
-    let l = c .before .before .before .before .before .before .before .before .before .before .before .before .before .before .loop in
-    let a = c .before .before .before .before .before .before .before .before .before .before .before .before .before .before .before .before .before .before .before .before .args in (
+    let at-hear = c .before .before .before .before .before .before .before in
+    let at-kind-at = at-hear .before .before .before .before .before in
+    let at-start = at-kind-at .before .before .before .before .before .before .before .before in
+    let l = at-kind-at .before .before .loop in
+    let a = at-start .args in (
       search needs,
       search needs,
       search needs,
       search needs,
-      from-heard (chip (l .next) (l .ram)) (now (a .chunk)) _ (l .i) (l .out) _ {o = eventOutcome (c .before .before .before .before .before .before .before .hear .result) (c .before .before .before .before .before .before .before .hear .last .1 .0)}
-          (c .before .before .before .before .before .before .before .before .before .before .before .before .before .loop-test .taken) (sym (ap badKind (c .before .before .before .before .before .before .before .before .before .before .before .before .kind-at .ensures)) ∙ le-ltb 3 _ (c .before .before .before .before .before .before .before .before .before .before .before .if1 .left))
-          (c .before .before .before .before .before .before .before .hear .ensures
-          ∙ ap (hearEvent (l .next) (l .ram)) (c .before .before .before .before .before .before .before .before .of-kind .ensures ∙ ap (λ (k : ℕ). eventOf k (getD (now (a .chunk)) (l .i) 0)) (c .before .before .before .before .before .before .before .before .before .before .before .before .kind-at .ensures)))
+      from-heard (chip (l .next) (l .ram)) (now (a .chunk)) _ (l .i) (l .out) _ {o = eventOutcome (at-hear .hear .result) (at-hear .hear .last .1 .0)}
+          (at-kind-at .before .loop-test .taken) (sym (ap badKind (at-kind-at .kind-at .ensures)) ∙ le-ltb 3 _ (at-hear .before .before .before .before .if1 .left))
+          (at-hear .hear .ensures
+          ∙ ap (hearEvent (l .next) (l .ram)) (at-hear .before .of-kind .ensures ∙ ap (λ (k : ℕ). eventOf k (getD (now (a .chunk)) (l .i) 0)) (at-kind-at .kind-at .ensures)))
           (c .before .before .before .put-output .ensures) (omega arith) (omega arith)
           ∙ l .inv .4,
     )
 
 returns-2 : tie.Need-returns-2 Inv-loop μ-loop
 returns-2 c =
+    let at-held-kind = c .before .before .before .before in
     let l = c .before .before .loop in
-    let a = c .before .before .before .before .before .before .before .before .args in
-    let kind : ℕ = c .before .before .before .before .held-kind .result in
+    let a = at-held-kind .before .before .before .before .args in
+    let kind : ℕ = at-held-kind .held-kind .result in
     let n : ℕ = l .i - (1 - c .before .before .before .held-bytes .result) in
     (λ j.
     record {
@@ -84,10 +92,10 @@ returns-2 c =
       out = l .out;
       reply = taken-reply (now (a .chunk)) kind (l .i) n j;
     })
-    ∙ chunk-fed (chip (a .device) (now (a .ram))) (a .self) (now (a .chunk)) (now (a .out)) (c .before .before .before .before .before .before .before .before .pre .1)
+    ∙ chunk-fed (chip (a .device) (now (a .ram))) (a .self) (now (a .chunk)) (now (a .out)) (at-held-kind .before .before .before .before .pre .1)
     (sym (from-end busEvents _ (now (a .chunk)) kind (l .i) (l .out) n (c .before .loop-test .left))
     ∙ l .inv .4
-    ∙ from-first busEvents _ (a .self) (now (a .chunk)) _ _ _ (c .before .before .before .before .held-kind .ensures) (c .before .before .before .held-bytes .ensures) (c .before .before .before .before .before .before .before .before .pre .0))
+    ∙ from-first busEvents _ (a .self) (now (a .chunk)) _ _ _ (at-held-kind .held-kind .ensures) (c .before .before .before .held-bytes .ensures) (at-held-kind .before .before .before .before .pre .0))
 
 pub take-events-spec : {M : Type 1} → statement M
 take-events-spec =

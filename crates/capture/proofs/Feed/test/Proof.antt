@@ -25,11 +25,15 @@ mul-if3 c = omega (arith, c .held-bytes .ensures, held-one (c .before .before .b
 
 returns-3 : tie.Need-returns-3
 unfolding feedVerdict
-returns-3 c = rw (eq-eqb _ _ (c .before .before .before .before .if1 .left), sym (c .before .before .before .shut .ensures) ∙ c .before .before .if2 .left, lt-ltb _ _ (rw (c .before .held-bytes .ensures) at (c .if3 .taken)))
+returns-3 c =
+    let at-if = c .before .before .before .before in
+    rw (eq-eqb _ _ (at-if .if1 .left), sym (c .before .before .before .shut .ensures) ∙ c .before .before .if2 .left, lt-ltb _ _ (rw (c .before .held-bytes .ensures) at (c .if3 .taken)))
 
 returns-4 : tie.Need-returns-4
 unfolding feedVerdict
-returns-4 c = rw (eq-eqb _ _ (c .before .before .before .before .if1 .left), sym (c .before .before .before .shut .ensures) ∙ c .before .before .if2 .left, le-ltb _ _ (rw (c .before .held-bytes .ensures) at (c .if3 .left)))
+returns-4 c =
+    let at-if = c .before .before .before .before in
+    rw (eq-eqb _ _ (at-if .if1 .left), sym (c .before .before .before .shut .ensures) ∙ c .before .before .if2 .left, le-ltb _ _ (rw (c .before .held-bytes .ensures) at (c .if3 .left)))
 
 pub test-spec : {M : Type 1} → statement M
 test-spec =
