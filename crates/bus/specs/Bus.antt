@@ -136,7 +136,7 @@ answerTo (Ignore why) r ram = Refused (NotAcknowledged why)
 answerTo (Store a x) r ram = Acknowledged 0
 answerTo (Load a) r ram = Acknowledged (byteIn a r ram)
 
--- the paper's numbers for an answer: the refusal and the byte
+-- document 01's numbers for an answer: the refusal and the byte
 abbrev pub busReply : BusAnswer → Reply
 busReply (Acknowledged x) = accepted x
 busReply (Refused r) = refused r

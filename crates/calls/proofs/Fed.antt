@@ -12,7 +12,7 @@ use Rattle.capture.specs.Capture.{Logged, finished, feedAfter, outputOf, output
 use Rattle.capture.proofs.Laws.{by-verdict, taken-value}
 use Rattle.calls.specs.Calls.{feed, Answer}
 use Rattle.calls.specs.OnePage.{State, chipOf, events, make, answer, after, heardAs, fedBy}
-use Rattle.calls.specs.Fed.{answered, FedAreBusEvents}
+use Rattle.calls.specs.Fed.{FedAreBusEvents}
 
 -- ---- fed events, and the bus events that they are
 
@@ -23,8 +23,8 @@ same-chip s [] = refl
 same-chip s (x ∷ es) = same-chip (events .after s (heardAs x)) es
 
 -- and the bytes that are written are those of the replies
-same-bytes : (s : State) (es : List Logged) → outputFrom busEvents (chipOf s) es ≡ answered (log events s (map heardAs es))
-unfolding log outputs answered
+same-bytes : (s : State) (es : List Logged) → outputFrom busEvents (chipOf s) es ≡ outputs (log events s (map heardAs es))
+unfolding log outputs
 same-bytes s [] = refl
 same-bytes s (x ∷ es) = ap (λ (l : List ℕ). outputOf (busEvents .answer (chipOf s) x) ++ l) (same-bytes (events .after s (heardAs x)) es)
 
@@ -54,13 +54,13 @@ module _ (s : State) (chunk out : List ℕ) where
   -- what it comes to, by the state that its events leave and by their answers
   abbrev outcomeBy : Verdict → State → List (Entry Event Reply) → FeedOutcome
   outcomeBy v u l =
-      let written : List ℕ = answered l in
+      let written : List ℕ = outputs l in
       record { chip = chipOf u; feed = leftBy v; out = written ++ drop (length written) out; reply = replyBy v (length written) }
 
   -- that is what a feed of the chunk comes to
   fed-by : feedChunk (chipOf s) (s .feed) chunk out
       ≡ outcomeBy found (end events s (fedBy s chunk out)) (log events s (fedBy s chunk out))
-  unfolding feedChunk feedBy chunkFed eventsBy end log answered
+  unfolding feedChunk feedBy chunkFed eventsBy end log outputs
   fed-by = by found
     where
       es : List Logged
@@ -92,13 +92,13 @@ module _ (s : State) (chunk out : List ℕ) where
   fed-answer font = ap (λ (o : FeedOutcome). record { reply = o .reply; buffer = o .out }) fed-by
 
   -- whatever its tests find, the value is the number of bytes written
-  value-by : let n : ℕ = length (answered (log events s (fedBy s chunk out))) in replyBy found n .value ≡ n
-  unfolding eventsBy log answered
+  value-by : let n : ℕ = length (outputs (log events s (fedBy s chunk out))) in replyBy found n .value ≡ n
+  unfolding eventsBy log outputs
   value-by =
       by-verdict P (s .feed) (length (s .ram)) (length chunk) (length out) refl (λ shut. refl) refl (λ takes. taken-value (feedAfter (s .feed) chunk) _)
     where
       P : Verdict → Type 0
-      P v = let n : ℕ = length (answered (log events s (heardBy v))) in replyBy v n .value ≡ n
+      P v = let n : ℕ = length (outputs (log events s (heardBy v))) in replyBy v n .value ≡ n
 
 -- ---- the claim
 

@@ -91,7 +91,7 @@ module _ (s : State) (e : Event) where
       (λ _. record { ram = refl; registers = refl }) (unfold taken in λ k. if-unstored (taken-refused s (effectOf s e) k))
 
 -- what keeps RAM and registers is quiet
-quiet-kept : {c d : Chip} → Kept c d → QuietChange c d
+pub quiet-kept : {c d : Chip} → Kept c d → QuietChange c d
 quiet-kept h = record { cells = same-ram _ _ (h .ram); settings = ap settingsOf (h .registers) }
 
 -- an event is quiet if it is so wherever it is a write

@@ -4,27 +4,20 @@
 -- Assumes nothing.
 use Prim.Native.Nat.{ℕ}
 use mathlib.Core.Path.{_≡_}
-use mathlib.Core.List.{List, [], _∷_, _++_}
+use mathlib.Core.List.{List, _++_}
 use lib.ListN.{length, drop}
-use Rattle.runs.specs.Runs.{Entry, log, end}
-use Rattle.refusals.specs.Refusals.{Reply}
-use Rattle.bus.specs.declared.Event.{Event}
-use Rattle.capture.specs.Capture.{feedChunk, outputOf}
+use Rattle.runs.specs.Runs.{log, end}
+use Rattle.capture.specs.Capture.{outputs, feedChunk}
 use Rattle.calls.specs.OnePage.{State, chipOf, events, fedBy}
-
--- the two bytes of each event's reply, in turn
-unfoldable pub answered : List (Entry Event Reply) → List ℕ
-answered [] = []
-answered (x ∷ more) = outputOf (x .answer) ++ answered more
 
 -- a feed, and the bus events that it makes. (The refusal's number and the feed that is left stand in crate capture's definition)
 pub record AsEvents (s : State) (chunk out : List ℕ) : Type 0 where
   pub device : feedChunk (chipOf s) (s .feed) chunk out .chip .device ≡ end events s (fedBy s chunk out) .device
   pub ram : feedChunk (chipOf s) (s .feed) chunk out .chip .ram ≡ end events s (fedBy s chunk out) .ram
   -- the answers' bytes stand first in the output, and later bytes stay; the value is their number
-  pub output : let written : List ℕ = answered (log events s (fedBy s chunk out)) in
+  pub output : let written : List ℕ = outputs (log events s (fedBy s chunk out)) in
       feedChunk (chipOf s) (s .feed) chunk out .out ≡ written ++ drop (length written) out
-  pub value : feedChunk (chipOf s) (s .feed) chunk out .reply .value ≡ length (answered (log events s (fedBy s chunk out)))
+  pub value : feedChunk (chipOf s) (s .feed) chunk out .reply .value ≡ length (outputs (log events s (fedBy s chunk out)))
 
 -- the claim
 abbrev pub FedAreBusEvents : Type 0

@@ -54,7 +54,8 @@ feedAfter Shut (x ∷ more) = Shut
 abbrev pub outputOf : Reply → List ℕ
 outputOf r = cond (eqb (r .refusal) 0) 1 0 ∷ r .value ∷ []
 
-unfoldable pub outputs : List (Entry Logged Reply) → List ℕ
+-- those of a run's answers, in turn
+unfoldable pub outputs : {C : Type 0} → List (Entry C Reply) → List ℕ
 outputs [] = []
 outputs (x ∷ more) = outputOf (x .answer) ++ outputs more
 
@@ -121,7 +122,7 @@ abbrev pub verdictIn : FeedTest → Verdict
 verdictIn test.Passed = passed
 verdictIn (test.Failed r) = failed r
 
--- the paper's numbers for an answer: the value is the number of output bytes that this chunk wrote, also with a refusal
+-- document 02's numbers for an answer: the value is the number of output bytes that this chunk wrote, also with a refusal
 abbrev pub feedReply : FeedAnswer → Reply
 feedReply (answer.Fed n) = accepted n
 feedReply (answer.Refused r n) = refusedWith r n

@@ -34,7 +34,8 @@ host p ram = record { chip = chip (p .device) ram; traffic = p .traffic }
 abbrev pub endOf : Reply → Traffic
 endOf r = cond (eqb (r .refusal) 0) Whole (BadKind (r .value / 2 + 1))
 
--- the traffic is one chunk for a feed made anew. The output is as long as the longest input, so it has room: the traffic is taken
+-- the traffic is one chunk for a feed made anew. The output is as long as the longest input, so it has room; the RAM has 1,024 bytes: the
+-- traffic is taken (`play` asks for both)
 abbrev pub played : Device → List ℕ → List ℕ → Host
 played d ram traffic =
     let o : FeedOutcome = feedChunk (chip d ram) freshFeed traffic (replicate inputLength 0) in

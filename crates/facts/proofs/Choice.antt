@@ -13,6 +13,11 @@ pub both : {A B : Type 0} (P : A → B → Type 0) (t : Bool) (x y : A) (u v : B
 both P true x y u v h k = h
 both P false x y u v h k = k
 
+-- what follows from either outcome of a test
+pub by-test : {P : Type 0} (t : Bool) → (t ≡ true → P) → (t ≡ false → P) → P
+by-test true h k = h refl
+by-test false h k = k refl
+
 -- a test that picks one of two that are the same picks that
 pub cond-same : {A : Type 0} (t : Bool) (x : A) → cond t x x ≡ x
 cond-same true x = refl

@@ -165,6 +165,14 @@ kind-at chunk held j k e =
 pub ran-none : (chunk : List ℕ) (first : ℕ) (b : ChipBytes) (out : List ℕ) (i : ℕ) → Ran chunk first b out i b out i
 ran-none chunk first b out i = record { forth = omega arith; events = omega arith; within = λ h. h; left = λ held. refl }
 
+-- a run that ends: the bus part, which lagged behind, is put
+pub ran-to : {chunk : List ℕ} {first : ℕ} {b : ChipBytes} {out₀ : List ℕ} {i : ℕ} {xs ys ram out : List ℕ} {j : ℕ}
+    → i ≤ j → (j - i) % 2 ≡ 0 → j ≤ length chunk + 1
+    → ((held : ℕ) → from busCalls (lent ys ram) chunk held j out (j - first) ≡ from busCalls b chunk held i out₀ (i - first))
+    → xs ≡ ys → Ran chunk first b out₀ i (lent xs ram) out j
+ran-to {chunk} {first} {ram = ram} {out = out} {j = j} f e w l p =
+    record { forth = f; events = e; within = λ h. w; left = λ held. ap (λ (zs : List ℕ). from busCalls (lent zs ram) chunk held j out (j - first)) p ∙ l held }
+
 -- runs one behind the other
 pub both-run : (i j k : ℕ) → i ≤ j → (j - i) % 2 ≡ 0 → j ≤ k → (k - j) % 2 ≡ 0 → (k - i) % 2 ≡ 0
 both-run i j k g d h e = omega (arith, d, e)

@@ -41,10 +41,11 @@ headingLength = 4
 abbrev pub payloadLength : ℕ
 payloadLength = 504
 
--- how many of them are font: in the last block, what the others leave
+-- the last block's number, 9
 abbrev pub lastBlock : ℕ
 lastBlock = blockCount - 1
 
+-- how many of a block's payload are font: 504, and in the last what the others leave, 72
 abbrev pub usedLength : ℕ → ℕ
 usedLength number = cond (eqb number lastBlock) (fontLength - lastBlock * payloadLength) payloadLength
 
@@ -143,7 +144,7 @@ fontIn file = fontFrom blockCount 0 file
 abbrev pub lengthsFit : (font file : List ℕ) → Bool
 lengthsFit font file = eqb (length font) fontLength && eqb (length file) fontFileLength
 
--- an answer as the paper has it
+-- an answer as document 02 has it
 abbrev pub fileReply : FileAnswer → Reply
 fileReply Done = accepted 0
 fileReply (Refused r) = fileRefused r

@@ -11,7 +11,7 @@ ghost use Rattle.glyph.specs.Cells.{ofUser, userHigh, userSlice};
 use raster::Slice;
 
 // High bytes from here on are of no user character: SET, and number 26.
-const BLANK_FROM: u8 = 154;
+const BLANK_FROM: u8 = 128 + limits::USER_CHARACTERS as u8;
 
 // A code's high byte: does it end the line?
 pub fn ends_line(high: u8) -> bool

@@ -6,7 +6,7 @@ use mathlib.Core.Bool.{Bool, true, false, not, cond, _&&_, _||_}
 use mathlib.Core.List.{List, [], _∷_, _++_}
 use native.Mathlib.Decide.{ℕ-discrete, decLt}
 use native.Mathlib.Omega.{arith}
-use borrow.Author.Tests.{eq-eqb, le-ltb, eqb-true, eqb-false, ltb-false, leb-false}
+use borrow.Author.Tests.{eq-eqb, eqb-true, eqb-false, ltb-false, leb-false}
 use lib.Dec.{T, eqb, leb}
 use lib.ListN.{length, getD, drop, length-append, length-set, length-take, length-drop, List·getD-eq-default}
 use Rattle.facts.proofs.Choice.{either}
@@ -50,10 +50,11 @@ use Rattle.capture.proofs.Laws.{held-one, output-room, by-verdict, taken-value}
 use Rattle.pixel.specs.Pixel.{pixelAt}
 use Rattle.pixel.specs.Ask.{pixelVerdict, pixelBy, askPixel}
 use Rattle.pixel.proofs.Lines as pixel
-use Rattle.layout.specs.Layout.{busAt, registersAt, registersLength, recordLength, part, isDeaf, registersIn, putBus, putRegisters, registerBytes, putNext, deviceIn}
+use Rattle.layout.specs.Layout.{busAt, registersAt, registersLength, recordLength, part, isDeaf, registersIn, putBus, putState, putRegisters, registerBytes, putNext, deviceIn}
 use Rattle.layout.specs.FeedLayout.{feedLength, feedIn}
 use Rattle.layout.proofs.Laws.{putBus-length, putRegisters-length, putNext-length, putFrame-length, withBus, withRegisters, read-back, event-back, deaf-back, draw-back, start-back, feed-back}
 use Rattle.interface.specs.Interface.{answerOf, replyIn, notTaken, isRecord, Done, freshOn, BusDone, ignoredOn, heardOn, busOn, startedOn, startOn, DrawDone, drawnOn, drawOn, pixelOn, isFeed, chunkMax, FeedMade, feedFreshOn, ChipBytes, lent, busCalls, FeedDone, notFedOn, chunkFedOn, fedOnBy, verdictOn, lengthsTaken, feedOn, fontWriteOn, fontReadOn, Crossing}
+use Rattle.interface.specs.OnePage.{chipIn}
 use Rattle.interface.proofs.Laws.{if-taken, ignored-same, fresh-not, bus-is, bus-not-record, bus-not-kind, start-not, draw-not, cell-not, pixel-not, feed-fresh-not, feed-not, cell-is, pixel-is, feed-tests, feed-is}
 
 -- ---- an event that is not acknowledged
@@ -131,11 +132,6 @@ module _ (xs ram : List ℕ) (e : Event) where
       by false p (yes l) =
           let w = reasons .some itsBus itsRegisters ram e l (eqb-false _ _ p) in
           rw (reasons .answered (w .0) itsBus itsRegisters ram e l (w .1)) (ap deviceIn (ignored-is xs (w .0)) ∙ unheard-back xs (w .0) h)
-
-cross-bus : (xs ram : List ℕ) (kind byte : ℕ) → length xs ≡ recordLength → kind ≤ lastKind
-    → deviceIn (busOn xs ram kind byte .device) ≡ hearEvent (deviceIn xs) ram (eventOf kind byte) .device
-unfolding hearEvent
-cross-bus xs ram kind byte h k = ap (λ (r : BusDone). deviceIn (r .device)) (sym (bus-is xs ram kind byte h k)) ∙ heard-back xs ram (eventOf kind byte) h
 
 -- ---- the record after a frame start and a draw
 
@@ -230,6 +226,12 @@ unfolding drawOn drawnOn
 draw-silence xs ram font line n =
     if-taken (λ (r : DrawDone). (r .device ≡ xs) × (r .line ≡ line)) (isRecord xs) _ _ (λ e. draw-cases xs ram font line (eqb-true _ _ e) .1 n) (refl, refl)
 
+deafness : (xs ram : List ℕ) (byte : ℕ) → length xs ≡ recordLength → length ram ≡ ramLength → deviceIn xs .bus .state ≡ Slave → (byte ≡ 0xBA → ⊥) → (byte ≡ 0xBB → ⊥)
+    → busOn xs ram 1 byte ≡ record { device = putState Deaf xs; ram = ram; answer = answerOf (refused (NotAcknowledged unheard.NotAddressed)) }
+deafness xs ram byte h k s a b =
+    sym (bus-is xs ram 1 byte h (omega arith))
+    ∙ unheard-on xs ram (Byte byte) k (subst (λ (t : BusState). Applies unheard.NotAddressed t (Byte byte)) (sym s) (unknown-slave byte a b))
+
 unheard-by : (xs ram : List ℕ) (kind byte : ℕ) (why : Unheard) → length xs ≡ recordLength → kind ≤ lastKind
     → hearEvent (deviceIn xs) ram (eventOf kind byte) .reply .refusal ≡ numberOf (NotAcknowledged why)
     → busOn xs ram kind byte ≡ record { device = ignoredOn (deafens why) xs; ram = ram; answer = answerOf (refused (NotAcknowledged why)) }
@@ -284,11 +286,11 @@ draw-length xs ram font line =
 
 -- ---- the answers, and the other buffers
 
-bus-rest : (xs ram : List ℕ) (kind byte : ℕ) → length xs ≡ recordLength → kind ≤ lastKind
+bus-whole : (xs ram : List ℕ) (kind byte : ℕ) → length xs ≡ recordLength → kind ≤ lastKind
     → let o : EventOutcome = hearEvent (deviceIn xs) ram (eventOf kind byte) in
-    let r : BusDone = busOn xs ram kind byte in (r .ram ≡ o .ram) × (r .answer ≡ answerOf (o .reply))
-unfolding busOn heardOn
-bus-rest xs ram kind byte h k = rw (eq-eqb _ _ h, le-ltb _ _ k) (refl, refl)
+    let r : BusDone = busOn xs ram kind byte in (deviceIn (r .device) ≡ o .device) × (r .ram ≡ o .ram) × (r .answer ≡ answerOf (o .reply))
+unfolding heardOn hearEvent
+bus-whole xs ram kind byte h k = rw (← (bus-is xs ram kind byte h k)) (heard-back xs ram (eventOf kind byte) h, refl, refl)
 
 start-whole : (xs : List ℕ) (lines : ℕ) → length xs ≡ recordLength
     → let o : StartOutcome = startFrame (deviceIn xs) lines in
@@ -316,21 +318,14 @@ feed-fresh-length : (fs : List ℕ) → length (feedFreshOn fs .feed) ≡ length
 unfolding feedFreshOn
 feed-fresh-length fs = if-taken (λ (r : FeedMade). length (r .feed) ≡ length fs) (isFeed fs) _ _ (λ e. sym (eqb-true _ _ e)) refl
 
--- what is lent, read as the device and its RAM
-abbrev pub readLent : ChipBytes → Chip
-readLent l = chip (deviceIn (l .device)) (l .ram)
-
 -- a fed event that a bus call takes
 abbrev pub Taken : ChipBytes → Logged → Type 0
 Taken l x = (length (l .device) ≡ recordLength) × (x .kind ≤ lastKind)
 
 -- it leaves what the device's event leaves
-pub taken-back : (l : ChipBytes) (x : Logged) → Taken l x → readLent (busCalls .after l x) ≡ busEvents .after (readLent l) x
+pub taken-back : (l : ChipBytes) (x : Logged) → Taken l x → chipIn (busCalls .after l x) ≡ busEvents .after (chipIn l) x
 taken-back l x t =
-    λ i.
-    chip
-    (cross-bus (l .device) (l .ram) (x .kind) (x .byte) (t .0) (t .1) i)
-    (bus-rest (l .device) (l .ram) (x .kind) (x .byte) (t .0) (t .1) .0 i)
+    let b = bus-whole (l .device) (l .ram) (x .kind) (x .byte) (t .0) (t .1) in λ i. chip (b .0 i) (b .1 i)
 
 -- all events that a chunk finishes are taken: their kinds are good, and the record keeps its length
 pub all-taken : (f : Feed) (chunk : List ℕ) (l : ChipBytes) → length (l .device) ≡ recordLength → AsMade Taken busCalls l (finished f chunk)
@@ -380,11 +375,11 @@ module _ (xs fs ram chunk out : List ℕ) where
     all-made = all-taken (feedIn fs) chunk its h
 
     -- the chunk's events leave the same on the bytes, and write the same
-    same-end : readLent (end busCalls its made) ≡ end busEvents (readLent its) made
-    same-end = end-read Taken busCalls busEvents readLent taken-back its made all-made
+    same-end : chipIn (end busCalls its made) ≡ end busEvents (chipIn its) made
+    same-end = end-read Taken busCalls busEvents chipIn taken-back its made all-made
 
-    same-written : outputFrom busCalls its made ≡ outputFrom busEvents (readLent its) made
-    same-written = ap outputs (log-read Taken busCalls busEvents readLent taken-back (λ l x. refl) its made all-made)
+    same-written : outputFrom busCalls its made ≡ outputFrom busEvents (chipIn its) made
+    same-written = ap outputs (log-read Taken busCalls busEvents chipIn taken-back (λ l x. refl) its made all-made)
 
     made-length : Long xs (end busCalls its made .device) × Long ram (end busCalls its made .ram)
     made-length =
@@ -392,7 +387,7 @@ module _ (xs fs ram chunk out : List ℕ) where
         (λ u x t i. let b = bus-length (u .device) (u .ram) (x .kind) (x .byte) in (b .0 ∙ i .0, b .1 ∙ i .1))
         its made all-made (refl, refl)
 
-    fed-back : (v : Verdict) → Crossed (fedOnBy v xs fs ram chunk out) (feedBy v (readLent its) (feedIn fs) chunk out)
+    fed-back : (v : Verdict) → Crossed (fedOnBy v xs fs ram chunk out) (feedBy v (chipIn its) (feedIn fs) chunk out)
     unfolding fedOnBy chunkFedOn feedBy chunkFed
     fed-back passed = (
       ap (λ (c : Chip). c .device) same-end,
@@ -404,7 +399,7 @@ module _ (xs fs ram chunk out : List ℕ) where
     fed-back (failed r) = (refl, refl, refl, refl, refl)
 
     feed-whole : length fs ≡ feedLength → length chunk ≤ chunkMax
-        → Crossed (feedOn xs fs ram chunk out) (feedChunk (readLent its) (feedIn fs) chunk out)
+        → Crossed (feedOn xs fs ram chunk out) (feedChunk (chipIn its) (feedIn fs) chunk out)
     unfolding feedChunk
     feed-whole k l = rw (← (feed-is xs h fs ram chunk out k l)) (fed-back (verdictOn fs ram chunk out))
 
@@ -502,7 +497,7 @@ unfolding fontWriteOn fontReadOn
 crossing =
     record {
       fresh = fresh-read;
-      bus = λ xs ram kind byte h k. (cross-bus xs ram kind byte h k, bus-rest xs ram kind byte h k .0, bus-rest xs ram kind byte h k .1);
+      bus = bus-whole;
       start = start-whole;
       draw = draw-whole;
       cell = λ xs ram c h. sym (cell-is xs h ram c);
@@ -544,6 +539,7 @@ crossing =
       silent-draw = draw-silence;
       silent-bus = silence;
       silent-feed = feed-silence;
+      deaf = deafness;
       unheard = unheard-by;
       silent-font-write = write-silent;
       silent-font-read = read-silent;

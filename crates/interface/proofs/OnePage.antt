@@ -10,9 +10,9 @@ use native.Mathlib.Omega.{arith}
 use borrow.Author.Tests.{eqb-true, eqb-false}
 use lib.Dec.{eqb, ltb}
 use lib.ListN.{length, set}
+use Rattle.facts.proofs.Choice.{by-test}
 use Rattle.runs.specs.Runs.{AsMade}
 use Rattle.runs.proofs.Laws.{as-made-map, kept-by-each, end-read, Apart, reordered}
-use Rattle.cells.specs.Reading.{Alike}
 use Rattle.refusals.specs.Refusals.{Reply, accepted, Verdict, passed, failed}
 use Rattle.bus.specs.Bus.{BusOutcome, busEvent}
 use Rattle.device.specs.declared.Device.{Device}
@@ -24,7 +24,7 @@ use Rattle.calls.specs.Calls.{Call, draw, ask, event, feed, anew, pixel, Answer
 use Rattle.calls.specs.OnePage as device
 use Rattle.calls.specs.OnePage.{heardAs}
 use Rattle.calls.proofs.Calls.{View, draws, asks, acts, view}
-use Rattle.calls.proofs.Quiet.{quiet-if-write, quiet-events}
+use Rattle.calls.proofs.Quiet.{quiet-kept, quiet-if-write, quiet-events}
 use Rattle.calls.proofs.OnePage.{late, same-draw, apart, still-unread}
 use Rattle.layout.specs.Layout.{busAt, registersAt, registersLength, frameAt, recordLength, put, stateNumber, busBytes, frameBytes, deviceIn}
 use Rattle.layout.specs.FeedLayout.{feedLength, feedBytes, feedIn}
@@ -367,12 +367,7 @@ module _ (font : List ℕ) (s : State) (e c : Call Logged) (p : isEvent e ≡ tr
       }
 
   apart-calls : Apart QuietTaken (calls font) (calls font) s e c
-  apart-calls = by (takenAt s e) (takenAt s c) refl refl
-    where
-      by : (t u : Bool) → takenAt s e ≡ t → takenAt s c ≡ u → Apart QuietTaken (calls font) (calls font) s e c
-      by false u t v = apart-not-event t
-      by true false t v = apart-not-other v
-      by true true t v = apart-taken t v
+  apart-calls = by-test (takenAt s e) (λ t. by-test (takenAt s c) (apart-taken t) apart-not-other) apart-not-event
 
 pub one-page-bytes : OnePageBytes
 one-page-bytes font s cs q = reordered QuietTaken (calls font) (apart-calls font) s cs (quiet-run font s cs q)
@@ -395,14 +390,13 @@ zero-no xs ram cell n = by _ (sym (crossing .cell xs ram cell (zero-long xs ram 
 still-no : (font : List ℕ) (cell : ℕ) (s : State) (c : Call Logged) → QuietTaken s c → cellOn (s .device) (s .ram) cell ≡ 0
     → cellOn (after font s c .device) (after font s c .ram) cell ≡ 0
 unfolding QuietTaken reads
-still-no font cell s c q n = by (takenAt s c) refl
-  where
-    by : (t : Bool) → takenAt s c ≡ t → cellOn (after font s c .device) (after font s c .ram) cell ≡ 0
-    by true t =
-        crossing .cell _ _ cell (same-length font s c .0 ∙ zero-long (s .device) (s .ram) cell n)
-        ∙ ap (λ (v : device.State). answerOf (askCell (v .device) (v .ram) cell)) (carried font s c t .state)
-        ∙ ap answerOf (still-unread font cell (reads s) (heard c) (q t) (zero-no (s .device) (s .ram) cell n))
-    by false t = rw (untouched font s c t .state) n
+still-no font cell s c q n =
+    by-test (takenAt s c)
+    (λ t.
+    crossing .cell _ _ cell (same-length font s c .0 ∙ zero-long (s .device) (s .ram) cell n)
+    ∙ ap (λ (v : device.State). answerOf (askCell (v .device) (v .ram) cell)) (carried font s c t .state)
+    ∙ ap answerOf (still-unread font cell (reads s) (heard c) (q t) (zero-no (s .device) (s .ram) cell n)))
+    (λ t. rw (untouched font s c t .state) n)
 
 pub no-stays-bytes : NoStaysBytes
 no-stays-bytes font s cs cell q n =
@@ -413,14 +407,11 @@ no-stays-bytes font s cs cell q n =
 -- one that is not taken is
 if-taken-quiet : (s : State) (x : Logged) → (Taken (lentIn s) x → Quiet (lentIn s) x) → Quiet (lentIn s) x
 unfolding make
-if-taken-quiet s x q = by (takenAt s (event x)) refl
-  where
-    by : (t : Bool) → takenAt s (event x) ≡ t → Quiet (lentIn s) x
-    by true t = q (bus-taken s x t)
-    by false t = subst (λ (u : State). QuietChange (chipIn (lentIn s)) (chipIn (lentIn u))) (sym (untouched [] s (event x) t .state)) nothing
-      where
-        nothing : QuietChange (chipIn (lentIn s)) (chipIn (lentIn s))
-        nothing = record { cells = unfold Alike in λ c m. refl; settings = refl }
+if-taken-quiet s x q =
+    by-test (takenAt s (event x)) (λ t. q (bus-taken s x t))
+    (λ t.
+    subst (λ (u : State). QuietChange (chipIn (lentIn s)) (chipIn (lentIn u))) (sym (untouched [] s (event x) t .state))
+    (quiet-kept (record { ram = refl; registers = refl })))
 
 heard-quiet : (s : State) (x : Logged) → device.Quiet (reads s) (heardAs x) → Quiet (lentIn s) x
 unfolding reads

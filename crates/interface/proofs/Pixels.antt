@@ -3,11 +3,12 @@
 -- Assumes nothing.
 use Prim.Native.Nat.{ℕ, _+_}
 use mathlib.Core.Path.{_≡_, refl, sym, ap, _∙_, subst}
-use mathlib.Core.Bool.{Bool, true, false, cond, and-false}
+use mathlib.Core.Bool.{Bool, cond, and-false}
 use mathlib.Core.List.{List}
 use native.Mathlib.Nat.{zero-add, add-zero}
 use native.Mathlib.Omega.{arith}
 use lib.ListN.{length, getD}
+use Rattle.facts.proofs.Choice.{by-test}
 use Rattle.runs.specs.Runs.{end}
 use Rattle.runs.proofs.Laws.{kept-by-each, counted}
 use Rattle.registers.specs.declared.Registers.{Registers}
@@ -48,27 +49,22 @@ module _ (font : List ℕ) (r : Registers) (mem : List ℕ) (f lines : ℕ) wher
 
   one-call-bytes : (n : ℕ) (s : State) (c : Call Logged) → StayPut font s c → At font r mem f lines n (reads s)
       → At font r mem f lines (n + drawnBy s c) (reads (after font s c))
-  one-call-bytes n s c p i = by (takenAt s c) refl
-    where
-      by : (t : Bool) → takenAt s c ≡ t → At font r mem f lines (n + drawnBy s c) (reads (after font s c))
-      by true t =
-          let one = carried font s c t in
-          let same = ap (λ (a : Answer ℕ). drew isAccepted (record { call = c; answer = a })) (one .answers) ∙ same-drew font (reads s) (view c) in
-          rw (one .state, same) (one-call font r mem f lines n (reads s) (heard c)
-          (unfold reads in subst (λ (u : device.State). Kept (chipIn (lentIn s)) (device.chipOf u)) (one .state) p) i)
-      by false t =
-          let none = untouched font s c t in
-          rw (none .answers, none .state, and-false (isDraw c), add-zero) i
+  one-call-bytes n s c p i =
+      by-test (takenAt s c)
+      (λ t.
+      let one = carried font s c t in
+      let same = ap (λ (a : Answer ℕ). drew isAccepted (record { call = c; answer = a })) (one .answers) ∙ same-drew font (reads s) (view c) in
+      rw (one .state, same) (one-call font r mem f lines n (reads s) (heard c)
+      (unfold reads in subst (λ (u : device.State). Kept (chipIn (lentIn s)) (device.chipOf u)) (one .state) p) i))
+      (λ t. let none = untouched font s c t in rw (none .answers, none .state, and-false (isDraw c), add-zero) i)
 
 -- ---- the claims
 
 pub stay-put-bytes : StayPutBytes
 unfolding reads
-stay-put-bytes font s c p = by (takenAt s c) refl
-  where
-    by : (t : Bool) → takenAt s c ≡ t → StayPut font s c
-    by true t = subst (λ (u : device.State). Kept (chipIn (lentIn s)) (device.chipOf u)) (sym (carried font s c t .state)) p
-    by false t = rw (untouched font s c t .state) (record { ram = refl; registers = refl })
+stay-put-bytes font s c p =
+    by-test (takenAt s c) (λ t. subst (λ (u : device.State). Kept (chipIn (lentIn s)) (device.chipOf u)) (sym (carried font s c t .state)) p)
+    (λ t. rw (untouched font s c t .state) (record { ram = refl; registers = refl }))
 
 pub pixels-agree-bytes : PixelsAgreeBytes
 unfolding reads

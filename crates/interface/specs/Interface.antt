@@ -10,6 +10,7 @@ use lib.ListN.{length}
 use Rattle.limits.specs.Limits.{ramLength, lineCells}
 use Rattle.runs.specs.Runs.{Machine}
 use Rattle.refusals.specs.declared.Unheard.{Unheard}
+use Rattle.refusals.specs.declared.Unheard.the-variants as unheard
 use Rattle.refusals.specs.declared.Refusal.{Refusal}
 use Rattle.refusals.specs.declared.Refusal.the-variants.{NotAcknowledged}
 use Rattle.refusals.specs.Refusals.{numberOf, Reply, refused, Verdict, passed, failed}
@@ -336,8 +337,11 @@ pub record Crossing : Type 0 where
   pub silent-bus : (xs ram : List ℕ) (kind byte : ℕ) → (kind ≡ 1 → deviceIn xs .bus .state ≡ Slave → length ram ≡ ramLength → ⊥)
       → (hearEvent (deviceIn xs) ram (eventOf kind byte) .reply .refusal ≡ 0 → ⊥)
       → (busOn xs ram kind byte .device ≡ xs) × (busOn xs ram kind byte .ram ≡ ram)
-  -- .. except deaf after an unknown slave address. By the refusal's number (document 02, K6): 5, 13 and 14 write no byte; 12 sets byte 0 to 1,
-  -- and no other (in a deaf device it is 1 already: silent-bus). To which events each is answered: crate bus's specs/Unheard.antt
+  -- .. except deaf after an unknown slave address: byte 0 is 1, and no other changes
+  pub deaf : (xs ram : List ℕ) (byte : ℕ) → length xs ≡ recordLength → length ram ≡ ramLength → deviceIn xs .bus .state ≡ Slave → (byte ≡ 0xBA → ⊥) → (byte ≡ 0xBB → ⊥)
+      → busOn xs ram 1 byte ≡ record { device = putState Deaf xs; ram = ram; answer = answerOf (refused (NotAcknowledged unheard.NotAddressed)) }
+  -- by the refusal's number (document 02, K6): 5, 13 and 14 write no byte; 12 sets byte 0 to 1, and no other (in a deaf device it is 1 already:
+  -- silent-bus). To which events each is answered: crate bus's specs/Unheard.antt
   pub unheard : (xs ram : List ℕ) (kind byte : ℕ) (why : Unheard) → length xs ≡ recordLength → kind ≤ lastKind
       → hearEvent (deviceIn xs) ram (eventOf kind byte) .reply .refusal ≡ numberOf (NotAcknowledged why)
       → busOn xs ram kind byte ≡ record { device = ignoredOn (deafens why) xs; ram = ram; answer = answerOf (refused (NotAcknowledged why)) }

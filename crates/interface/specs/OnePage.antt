@@ -20,7 +20,7 @@ use Rattle.calls.specs.Calls.{Call, draw, ask, event, feed, anew, pixel, Answer
 use Rattle.calls.specs.OnePage as device
 use Rattle.layout.specs.Layout.{recordLength, deviceIn}
 use Rattle.layout.specs.FeedLayout.{feedIn}
-use Rattle.interface.specs.Interface.{BusDone, busOn, DrawDone, drawOn, cellOn, pixelOn, FeedMade, feedFreshOn, ChipBytes, busCalls, FeedDone, feedOn, fedEventsOn}
+use Rattle.interface.specs.Interface.{BusDone, busOn, DrawDone, drawOn, cellOn, pixelOn, FeedMade, feedFreshOn, ChipBytes, lent, busCalls, FeedDone, feedOn, fedEventsOn}
 
 -- the bytes of the device's record, of the RAM and of the feed's record as a call left them
 pub record State : Type 0 where
@@ -29,7 +29,7 @@ pub record State : Type 0 where
   pub feed : List ℕ
 
 abbrev pub lentIn : State → ChipBytes
-lentIn s = record { device = s .device; ram = s .ram }
+lentIn s = lent (s .device) (s .ram)
 
 -- each call by the definition that the promise of its function cites: a draw is a call of osd_draw, a cell question of osd_cell, an event of osd_bus,
 -- given by kind and byte, and so on. The reply is the number that it returns

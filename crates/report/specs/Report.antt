@@ -29,6 +29,7 @@ fontFrom = registersFrom + 16
 abbrev pub countAt : ℕ
 countAt = fontFrom + fontLength
 
+-- 5,650 bytes in all
 abbrev pub inputLength : ℕ
 inputLength = countAt + 2
 

@@ -2,7 +2,6 @@
 -- Assumes nothing.
 use Prim.Native.Nat.{ℕ, _+_, _-_, _%_, _≤_, _<_}
 use mathlib.Core.Path.{_≡_, refl, sym, ap, ap₂, _∙_}
-use mathlib.Core.List.{List}
 use native.Mathlib.Omega.{arith}
 use borrow.Author.Needs.{needs}
 use denote.Ref.{now}
@@ -12,7 +11,7 @@ use Rattle.bus.specs.declared.BusState.the-variants.{Read}
 use Rattle.capture.specs.Places.{from}
 use Rattle.layout.specs.Layout.{putBus}
 use Rattle.interface.specs.Interface.{lent, busCalls}
-use Rattle.feed_bytes.proofs.Runs.{at, fetched-first, fetched-on, InRun, in-run, kind-at, kind-before, ran-none}
+use Rattle.feed_bytes.proofs.Runs.{at, fetched-first, fetched-on, InRun, in-run, kind-at, kind-before, ran-none, ran-to}
 use Rattle.feed_bytes.proofs.read_run.Statement.{statement}
 use Rattle.feed_bytes.proofs.read_run.Tie as tie
 
@@ -60,16 +59,8 @@ loop-holds c =
 
 returns-4 : tie.Need-returns-4 Inv-loop μ-loop
 returns-4 c =
-    let at-loop = c .before .before .before .before .before .before .before in
-    let at-start = at-loop .before .before .before .before .before .before .before .before .before .before .before .before in
-    let l = at-loop .loop in
-    let a = at-start .args in
-    record {
-      forth = l .inv .3;
-      events = l .inv .4;
-      within = λ h. l .inv .5;
-      left = λ held. ap (λ (xs : List ℕ). from busCalls (lent xs (now (a .ram))) (now (a .chunk)) held (l .k + 1) (l .out) (l .k + 1 - a .first)) (c .before .before .end-run .ensures) ∙ l .inv .7 held;
-    }
+    let l = c .before .before .before .before .before .before .before .loop in
+    ran-to (l .inv .3) (l .inv .4) (l .inv .5) (l .inv .7) (c .before .before .end-run .ensures)
 
 -- the event at hand is one of the run
 on : (c : tie.After-load Inv-loop μ-loop)
@@ -115,16 +106,8 @@ slice-write-out-2 c =
 
 returns-5 : tie.Need-returns-5 Inv-loop μ-loop
 returns-5 c =
-    let at-loop = c .before .before .before .before .before in
-    let at-start = at-loop .before .before .before .before .before .before .before .before .before .before .before .before in
-    let l = at-loop .loop in
-    let a = at-start .args in
-    record {
-      forth = l .inv .3;
-      events = l .inv .4;
-      within = λ h. l .inv .5;
-      left = λ held. ap (λ (xs : List ℕ). from busCalls (lent xs (now (a .ram))) (now (a .chunk)) held (l .k + 1) (l .out) (l .k + 1 - a .first)) (c .before .before .end-run2 .ensures) ∙ l .inv .7 held;
-    }
+    let l = c .before .before .before .before .before .loop in
+    ran-to (l .inv .3) (l .inv .4) (l .inv .5) (l .inv .7) (c .before .before .end-run2 .ensures)
 
 pub read-run-spec : {M : Type 1} → statement M
 read-run-spec =

@@ -2,7 +2,6 @@
 -- Assumes nothing.
 use Prim.Native.Nat.{ℕ, _+_, _-_, _%_, _≤_, _<_}
 use mathlib.Core.Path.{_≡_, refl, sym, ap, _∙_}
-use mathlib.Core.List.{List}
 use native.Mathlib.Omega.{arith}
 use borrow.Author.Needs.{needs}
 use denote.Ref.{now}
@@ -12,7 +11,7 @@ use Rattle.bus.specs.declared.BusState.the-variants.{Write}
 use Rattle.capture.specs.Places.{from}
 use Rattle.layout.specs.Layout.{putBus}
 use Rattle.interface.specs.Interface.{lent, busCalls}
-use Rattle.feed_bytes.proofs.Runs.{at, stored-first, stored-on, InRun, in-run, kind-at, kind-before, ran-none}
+use Rattle.feed_bytes.proofs.Runs.{at, stored-first, stored-on, InRun, in-run, kind-at, kind-before, ran-none, ran-to}
 use Rattle.feed_bytes.proofs.write_run.Statement.{statement}
 use Rattle.feed_bytes.proofs.write_run.Tie as tie
 
@@ -61,13 +60,7 @@ loop-holds c =
 returns-4 : tie.Need-returns-4 Inv-loop μ-loop
 returns-4 c =
     let l = c .before .before .before .before .before .before .before .loop in
-    let a = c .before .before .before .before .before .before .before .before .before .before .before .before .before .before .before .before .before .before .before .args in
-    record {
-      forth = l .inv .3;
-      events = l .inv .4;
-      within = λ h. l .inv .5;
-      left = λ held. ap (λ (xs : List ℕ). from busCalls (lent xs (l .ram)) (now (a .chunk)) held (l .k + 1) (l .out) (l .k + 1 - a .first)) (c .before .before .end-run .ensures) ∙ l .inv .7 held;
-    }
+    ran-to (l .inv .3) (l .inv .4) (l .inv .5) (l .inv .7) (c .before .before .end-run .ensures)
 
 -- the event at hand is one of the run
 on : (c : tie.After-slice-known7 Inv-loop μ-loop)
@@ -116,13 +109,7 @@ slice-write-out-2 c =
 returns-5 : tie.Need-returns-5 Inv-loop μ-loop
 returns-5 c =
     let l = c .before .before .before .before .before .loop in
-    let a = c .before .before .before .before .before .before .before .before .before .before .before .before .before .before .before .before .before .args in
-    record {
-      forth = l .inv .3;
-      events = l .inv .4;
-      within = λ h. l .inv .5;
-      left = λ held. ap (λ (xs : List ℕ). from busCalls (lent xs (l .ram)) (now (a .chunk)) held (l .k + 1) (l .out) (l .k + 1 - a .first)) (c .before .before .end-run2 .ensures) ∙ l .inv .7 held;
-    }
+    ran-to (l .inv .3) (l .inv .4) (l .inv .5) (l .inv .7) (c .before .before .end-run2 .ensures)
 
 pub write-run-spec : {M : Type 1} → statement M
 write-run-spec =
