@@ -13,7 +13,7 @@ use Rattle.registers.specs.declared.Settings.{Settings}
 use Rattle.registers.specs.Registers.{settingsOf, pageOf}
 use Rattle.raster.specs.declared.Slice.{Slice}
 use Rattle.raster.specs.Raster.{stripLines, interpolated, firstPixelOf, hiddenIn}
-use Rattle.walk.specs.Walk.{even, next, pageAddress, isSpacing, zoomedBy, codesAt, spacingLines, heightOf, showsCodes}
+use Rattle.walk.specs.Walk.{even, next, pageAddress, isSpacing, zoomedBy, codesAt, passedOver, heightOf, showsCodes}
 use Rattle.glyph.specs.Glyph.{fromFont, numberIn, isUser, endsLine, fontByte, userCell, twelve}
 use Rattle.paint.specs.Pixels.{plainOf, flashes, foreground, background}
 use Rattle.pixel.specs.declared.Pair.{Pair}
@@ -26,18 +26,33 @@ pairAt ram a = record { low = getD ram (even a) 0; high = getD ram (even a + 1) 
 
 -- ---- "Walk of a frame": which strip does line y fall in, and which of its lines is it?
 
--- spacing has SL lines; characters have CH lines, or twice that with ZY. SL or CH of 0 is taken as 1 (H)
+-- spacing has SL lines; characters have CH lines, or twice that with ZY. CH of 0 is taken as 1 (H)
 abbrev pub linesOf : ℕ → Pair → ℕ
-linesOf ch d = cond (isSpacing (d .high)) (spacingLines (d .low)) (stripLines (heightOf ch) (zoomedBy (d .high)))
+linesOf ch d = cond (isSpacing (d .high)) (d .low) (stripLines (heightOf ch) (zoomedBy (d .high)))
 
--- line y, counted from the first line of the strip whose descriptor lies at an address, is a line of that strip, where lines count from 1, or it
--- falls in the strips after it. n is how many strips may still be passed: y is enough, since each has a line at least, and where n is 0 so is y
+-- spacing with SL 0 is passed over (K9)
+abbrev pub isPassed : Pair → Bool
+isPassed d = passedOver (d .low) (d .high)
+
+-- and the next is read at once: where the first descriptor lies that is not passed over, of n + 1 in a row from an address on; or else the last of them
+unfoldable pub stripFrom : (n : ℕ) → List ℕ → ℕ → ℕ
+stripFrom zero ram a = a
+stripFrom (suc n) ram a = cond (isPassed (pairAt ram a)) (stripFrom n ram (next a)) a
+
+-- line y of the strip whose descriptor lies at an address. Lines of a strip count from 1
+abbrev pub lineAt : List ℕ → ℕ → ℕ → StripLine
+lineAt ram a y = record { descriptor = pairAt ram a; line = record { 0 = y + 1 } }
+
+-- line y, counted from the first line of the strip that the descriptors from an address on begin, is a line of that strip, or it falls in the strips
+-- after it. Where 512 descriptors in a row are passed over, it falls in none, and nor do the lines after it (K9): the last of the 512 is its
+-- descriptor, which is spacing, so that it is plain. n is how many strips may still be passed: y is enough, since each has a line at least, and where
+-- n is 0 so is y
 unfoldable pub fallsIn : (n : ℕ) (ram : List ℕ) (ch a y : ℕ) → StripLine
-fallsIn zero ram ch a y = record { descriptor = pairAt ram a; line = record { 0 = y + 1 } }
+fallsIn zero ram ch a y = lineAt ram (stripFrom 511 ram a) y
 fallsIn (suc n) ram ch a y =
-    cond (ltb y (linesOf ch (pairAt ram a)))
-    (record { descriptor = pairAt ram a; line = record { 0 = y + 1 } })
-    (fallsIn n ram ch (next a) (y - linesOf ch (pairAt ram a)))
+    let b : ℕ = stripFrom 511 ram a in
+    let d : Pair = pairAt ram b in
+    cond (isPassed d || ltb y (linesOf ch d)) (lineAt ram b y) (fallsIn n ram ch (next b) (y - linesOf ch d))
 
 -- ---- "From line to slice"
 

@@ -3,13 +3,14 @@
 ghost use mathlib.Core.Path.{_≡_};
 ghost use Prim.Native.Nat.{_+_, _<_};
 ghost use lib.ListN.{length};
-ghost use Rattle.limits.specs.Limits.{ramLength, frameLines};
+ghost use Rattle.limits.specs.Limits.{ramLength, ramPairs, frameLines};
 ghost use Rattle.raster.specs.Raster.{InStrip, OnScreen};
 ghost use Rattle.walk.specs.Walk.{zoomedBy, heightOf};
 ghost use Rattle.glyph.specs.Glyph.{Lent};
 ghost use Rattle.paint.specs.Pixels.{foreground, background};
 ghost use Rattle.pixel.specs.Pixel.{pairAt, fallsIn, sliceOf, ended, isForeground, codeOf, foregroundAt, besideAt, rowPixel, pixelAt};
 ghost use Rattle.pixel.specs.Ask.{pixelReply, askPixel};
+ghost use Rattle.pixel.specs.Rounds.{roundOf};
 use device::Device;
 use raster::ScanLine;
 use raster::Slice;
@@ -66,39 +67,89 @@ fn line_of(descriptor: Pair, number: u32) -> StripLine
     }
 }
 
-// Strip by strip: the strip that line y falls in, of those from a descriptor on. Each kind of strip is tested by itself: where their lines
-// come together before the test, the compiler counts them by a shift, and a strip takes half as long again.
-fn falls_in(ram: &[u8], ch: u8, first: u16, y: u16) -> StripLine
+// The 512 descriptors of RAM, once round: line y was found in a strip of theirs, or lies past them all, so many lines on. Then the
+// last descriptor stands for its strip.
+pub struct Round {
+    pub found: bool,
+    pub line: StripLine,
+    pub left: u32,
+}
+
+// Descriptor by descriptor, once round RAM. Each kind of strip is tested by itself: where their lines come together before the test, the
+// compiler counts them by a shift, and a strip takes half as long again.
+fn round(ram: &[u8], ch: u8, first: u16, y: u32) -> Round
     requires { ⌜ length (now ram) ≡ ramLength ⌝ }
     requires { ⌜ y < frameLines ⌝ }
-    ensures { λ r. ⌜ r ≡ fallsIn y (now (ram .entry)) ch first y ⌝ }
+    ensures { λ r. ⌜ r ≡ roundOf ramPairs (now (ram .entry)) ch first y ⌝ }
 {
     let height = walk::height(ch) as u32;
     let mut at = first as usize;
-    let mut left = y as u32;
-    loop {
+    let mut left = y;
+    let mut more = limits::RAM_PAIRS;
+    while more > 0 {
         let descriptor = pair_at(ram, at);
         if walk::is_spacing(descriptor.high) {
-            let lines = walk::spacing_lines(descriptor.low) as u32;
+            let lines = descriptor.low as u32;
             if left < lines {
-                return line_of(descriptor, left);
+                return Round {
+                    found: true,
+                    line: line_of(descriptor, left),
+                    left: left,
+                };
             }
             left -= lines;
         } else {
             if walk::zoom(descriptor.high) {
                 if left < 2 * height {
-                    return line_of(descriptor, left);
+                    return Round {
+                        found: true,
+                        line: line_of(descriptor, left),
+                        left: left,
+                    };
                 }
                 left -= 2 * height;
             } else {
                 if left < height {
-                    return line_of(descriptor, left);
+                    return Round {
+                        found: true,
+                        line: line_of(descriptor, left),
+                        left: left,
+                    };
                 }
                 left -= height;
             }
         }
         at = walk::next_address(at);
+        more -= 1;
     }
+    Round {
+        found: false,
+        line: line_of(pair_at(ram, at + limits::RAM_LENGTH - 2), left),
+        left: left,
+    }
+}
+
+// The strip that line y falls in, of those from a descriptor on. While RAM stays put its descriptors come round again, with as many
+// lines each time: whole rounds of lines are left out, so two rounds are walked at the most. Where a round has no line there is no strip.
+fn falls_in(ram: &[u8], ch: u8, first: u16, y: u16) -> StripLine
+    requires { ⌜ length (now ram) ≡ ramLength ⌝ }
+    requires { ⌜ y < frameLines ⌝ }
+    ensures { λ r. ⌜ r ≡ fallsIn y (now (ram .entry)) ch first y ⌝ }
+{
+    let once = round(ram, ch, first, y as u32);
+    if once.found {
+        return once.line;
+    }
+    let lines = y as u32 - once.left;
+    if lines == 0 {
+        return once.line;
+    }
+    let mut left = once.left;
+    while left >= lines {
+        left -= lines;
+    }
+    let again = round(ram, ch, first, left);
+    again.line
 }
 
 fn foreground_pixel(low: u8) -> u8

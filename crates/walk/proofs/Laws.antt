@@ -1,25 +1,27 @@
 -- The laws of the walk: addresses lie below 1,024, and the strip on screen is at one of its lines.
 -- Assumes nothing.
-use Prim.Native.Nat.{ℕ, zero, suc, _+_, _-_, _≤_, _<_}
+use Prim.Native.Nat.{ℕ, zero, suc, _+_, _-_, _*_, _≤_, _<_}
 use mathlib.Core.Path.{_≡_, refl, sym, ap, ap₂, _∙_}
-use mathlib.Core.Bool.{Bool, true, false, cond, false≢true}
+use mathlib.Core.Bool.{Bool, true, false, cond, _&&_, false≢true}
 use native.Mathlib.Omega.{arith}
-use borrow.Author.Tests.{eqb-false, eq-eqb, ne-eqb}
+use borrow.Author.Tests.{eqb-true, eqb-false, eq-eqb, ne-eqb}
 use mathlib.Core.List.{List, [], _∷_}
 use lib.Dec.{eqb}
-use lib.ListN.{getD}
-use Rattle.limits.specs.Limits.{ramLength}
+use lib.ListN.{length, getD}
+use Rattle.limits.specs.Limits.{ramLength, ramPairs}
 use Rattle.facts.proofs.Choice.{either}
 use Rattle.cells.specs.Reading.{Role, descriptor, done, read, fmap, value, cells}
-use Rattle.cells.proofs.Bounds.{Only}
-use Rattle.cells.proofs.Counts.{Few, few-done, two, few-two}
+use Rattle.cells.proofs.Laws.{value-fmap, cells-fmap}
+use Rattle.cells.proofs.Bounds.{Only, only-fmap}
+use Rattle.cells.proofs.Counts.{Few, few-done, few-fmap, two, few-two}
 use Rattle.raster.specs.declared.ScanLine.{ScanLine}
-use Rattle.raster.specs.Raster.{beforeFirst}
+use Rattle.raster.specs.Raster.{beforeFirst, linesAfter}
 use Rattle.raster.proofs.Laws.{some-after, one-less, last-none, following-in}
 use Rattle.walk.specs.declared.Strip.{Strip}
 use Rattle.walk.specs.declared.Strip.the-variants.{Spacing, Characters}
 use Rattle.walk.specs.declared.Walk.{Walk}
-use Rattle.walk.specs.Walk.{even, next, readPair, walkAt, spacingLines, heightOf, isSpacing, enabledBy, zoomedBy, codesAt, showsCodes, stripOf, over, linesLeft, begun, advanced, nextLine, OnLine, walked}
+use Rattle.walk.specs.declared.Walked.{Walked}
+use Rattle.walk.specs.Walk.{even, next, walkAt, plainRest, heightOf, isSpacing, enabledBy, zoomedBy, codesAt, passedOver, showsCodes, stripOf, over, linesLeft, nextStrip, begun, advanced, onward, nextLine, OnLine, walked}
 
 -- ---- addresses
 
@@ -64,11 +66,22 @@ unfolding advancedBy
 left-by zero t = omega arith
 left-by (suc k) t = left-by k (advanced t) ∙ omega (arith, left-advanced t)
 
--- a strip that has just begun has a line
-pub stripOf-some : (ch low high : ℕ) → 1 ≤ linesLeft (stripOf ch low high)
+-- a descriptor is passed over exactly if its strip has none
+pub none-passed : (ch low high : ℕ) → passedOver low high ≡ eqb (linesLeft (stripOf ch low high)) 0
 unfolding stripOf linesLeft
-stripOf-some ch low high =
-    either (λ (s : Strip). 1 ≤ linesLeft s) (isSpacing high) _ _ (omega arith) (some-after (heightOf ch) (zoomedBy high) (omega arith))
+none-passed ch low high = by (isSpacing high)
+  where
+    by : (t : Bool)
+        → t && eqb low 0
+        ≡ eqb (linesLeft (cond t (Spacing low) (Characters (codesAt low high) (heightOf ch) (zoomedBy high) (enabledBy high) beforeFirst))) 0
+    by true = refl
+    by false = sym (ne-eqb (linesAfter beforeFirst (heightOf ch) (zoomedBy high)) 0 (λ e. omega (arith, e, some-after (heightOf ch) (zoomedBy high) (omega arith))))
+
+pub passed-none : (ch low high : ℕ) → passedOver low high ≡ true → linesLeft (stripOf ch low high) ≡ 0
+passed-none ch low high e = eqb-true _ 0 (sym (none-passed ch low high) ∙ e)
+
+pub stripOf-some : (ch low high : ℕ) → passedOver low high ≡ false → 1 ≤ linesLeft (stripOf ch low high)
+stripOf-some ch low high e = omega (arith, eqb-false (linesLeft (stripOf ch low high)) 0 (sym (none-passed ch low high) ∙ e))
 
 -- ---- the strip of a descriptor
 
@@ -79,7 +92,7 @@ unfolding stripOf
 codes-shown ch low high e = by (isSpacing high) (enabledBy high) e
   where
     by : (t u : Bool) → cond t false u ≡ true
-        → cond t (Spacing (spacingLines low)) (Characters (codesAt low high) (heightOf ch) (zoomedBy high) u beforeFirst)
+        → cond t (Spacing low) (Characters (codesAt low high) (heightOf ch) (zoomedBy high) u beforeFirst)
         ≡ Characters (codesAt low high) (heightOf ch) (zoomedBy high) true beforeFirst
     by true u q = absurd (false≢true q)
     by false u q = ap (λ (b : Bool). Characters (codesAt low high) (heightOf ch) (zoomedBy high) b beforeFirst) q
@@ -91,8 +104,8 @@ unfolding stripOf
 codes-none P ch low high e f g = by (isSpacing high) (enabledBy high) e
   where
     by : (t u : Bool) → cond t false u ≡ false
-        → P (cond t (Spacing (spacingLines low)) (Characters (codesAt low high) (heightOf ch) (zoomedBy high) u beforeFirst))
-    by true u q = f (spacingLines low)
+        → P (cond t (Spacing low) (Characters (codesAt low high) (heightOf ch) (zoomedBy high) u beforeFirst))
+    by true u q = f low
     by false true q = absurd (false≢true (sym q))
     by false false q = g (codesAt low high) (heightOf ch) (zoomedBy high) beforeFirst
 
@@ -104,47 +117,95 @@ unfolding linesLeft advanced OnLine
 left-on (Spacing left) h = tt
 left-on (Characters address height zoom enabled line) h = following-in line height zoom h
 
--- ---- the walk's next line. No other file opens `nextLine`: what is above cites these
+-- ---- the next strip. No other file opens `nextStrip`: what is above cites these
 
--- the strip whose descriptor lies at an address
+-- the strip whose descriptor lies at an address, and whether it is passed over
 abbrev pub stripAt : List ℕ → ℕ → ℕ → Strip
 stripAt ram ch a = stripOf ch (getD ram (even a) 0) (getD ram (even a + 1) 0)
 
+abbrev pub passedAt : List ℕ → ℕ → Bool
+passedAt ram a = passedOver (getD ram (even a) 0) (getD ram (even a + 1) 0)
+
 -- a strip that has just begun is not over
-pub stripOf-begun : (ch low high : ℕ) → over (stripOf ch low high) ≡ false
-stripOf-begun ch low high = left-over (stripOf ch low high) (stripOf-some ch low high)
+pub stripOf-begun : (ch low high : ℕ) → passedOver low high ≡ false → over (stripOf ch low high) ≡ false
+stripOf-begun ch low high e = left-over (stripOf ch low high) (stripOf-some ch low high e)
 
--- a strip with a line left goes on, and nothing is read
-pub step-on : (ch : ℕ) (w : Walk) → over (w .strip) ≡ false → nextLine ch w ≡ done (walkAt (w .descriptor) (advanced (w .strip)))
-unfolding nextLine begun fmap
-step-on ch w e = rw e
+-- a descriptor more: it is passed over, or begins its strip
+module _ (ram : List ℕ) (n ch a : ℕ) where
+  pub pass-value : passedAt ram a ≡ true → value ram (nextStrip (suc n) ch a) ≡ value ram (nextStrip n ch (next a))
+  unfolding nextStrip value
+  pass-value e = ap (λ (t : Bool). value ram (cond t (nextStrip n ch (next a)) (done (walkAt (next a) (stripAt ram ch a))))) e
 
--- one that is over gives way to the next descriptor's
-step-read : (ch : ℕ) (w : Walk) → over (w .strip) ≡ true
-    → nextLine ch w
-    ≡ (readPair descriptor (w .descriptor) λ low high. done (walkAt (next (w .descriptor)) (advanced (stripOf ch low high))))
-unfolding nextLine begun fmap
-step-read ch w e = rw e
+  pub pass-cells : passedAt ram a ≡ true → cells ram (nextStrip (suc n) ch a) ≡ even a ∷ (even a + 1) ∷ cells ram (nextStrip n ch (next a))
+  unfolding nextStrip cells
+  pass-cells e = rw e
+
+  pub begin-value : passedAt ram a ≡ false → value ram (nextStrip (suc n) ch a) ≡ walkAt (next a) (stripAt ram ch a)
+  unfolding nextStrip value
+  begin-value e = ap (λ (t : Bool). value ram (cond t (nextStrip n ch (next a)) (done (walkAt (next a) (stripAt ram ch a))))) e
+
+  pub begin-cells : passedAt ram a ≡ false → cells ram (nextStrip (suc n) ch a) ≡ even a ∷ (even a + 1) ∷ []
+  unfolding nextStrip cells
+  begin-cells e = rw e
+
+-- any address of a descriptor stands for its even one
+nextStrip-even : (n ch a b : ℕ) → even a ≡ even b → nextStrip (suc n) ch a ≡ nextStrip (suc n) ch b
+unfolding nextStrip
+nextStrip-even n ch a b p =
+    let e : next a ≡ next b = sym (next-even a) ∙ ap next p ∙ next-even b in
+    ap₂ (λ (x y : ℕ). read descriptor x λ low. read descriptor (x + 1) λ high. cond (passedOver low high) (nextStrip n ch y) (done (walkAt y (stripOf ch low high)))) p e
+
+-- n descriptors at the most, two cells each at an even address; and the strip has a line, or the rest of the frame is plain
+abbrev Begun : Walk → Type 0
+Begun w = OnLine (advanced (w .strip))
+
+nextStrip-only : (P : Role → ℕ → Type 0) → ((c : ℕ) → c < ramLength → P descriptor c) → (n ch a : ℕ) → Only P Begun (nextStrip n ch a)
+unfolding Only nextStrip
+nextStrip-only P descriptors zero ch a = unfold OnLine advanced in tt
+nextStrip-only P descriptors (suc n) ch a =
+    let later = nextStrip-only P descriptors n ch (next a) in
+    (descriptors _ (omega arith), λ low. (descriptors _ (even-bound a), λ high. by low high (passedOver low high) refl later))
+  where
+    by : (low high : ℕ) (t : Bool) → passedOver low high ≡ t → Only P Begun (nextStrip n ch (next a))
+        → Only P Begun (cond t (nextStrip n ch (next a)) (done (walkAt (next a) (stripOf ch low high))))
+    by low high true e later = later
+    by low high false e later = left-on (stripOf ch low high) (stripOf-some ch low high e)
+
+nextStrip-few : (r : Role) (ram : List ℕ) (n ch a : ℕ) → Few r ram (n * two r descriptor) (nextStrip n ch a)
+unfolding nextStrip
+nextStrip-few r ram zero ch a = few-done r ram _ _
+nextStrip-few r ram (suc n) ch a =
+    few-two r ram descriptor _ (n * two r descriptor) _ _ _ (omega arith)
+    (either (Few r ram (n * two r descriptor)) (passedAt ram a) _ _ (nextStrip-few r ram n ch (next a)) (few-done r ram _ _))
+
+-- ---- the walk's next line. No other file opens `nextLine`: what is above cites these
+
+module _ (ch : ℕ) (w : Walk) where
+  -- a strip with a line left goes on, and nothing is read
+  pub step-on : over (w .strip) ≡ false → nextLine ch w ≡ done (onward w)
+  unfolding nextLine begun fmap
+  step-on e = rw e
+
+  -- one that is over gives way to the next
+  pub step-begin : over (w .strip) ≡ true → w .plain ≡ false → nextLine ch w ≡ fmap onward (nextStrip ramPairs ch (w .descriptor))
+  unfolding nextLine begun
+  step-begin e f = rw (e, f)
+
+  -- or, in the plain rest, to nothing
+  pub step-plain : over (w .strip) ≡ true → w .plain ≡ true → nextLine ch w ≡ done (plainRest (w .descriptor))
+  unfolding nextLine begun fmap advanced
+  step-plain e f = rw (e, f)
 
 -- whichever strip is over, and whichever of its two addresses the descriptor is given by
-pub step-same : (ch a b : ℕ) (t u : Strip) → over t ≡ true → over u ≡ true → even a ≡ even b → nextLine ch (walkAt a t) ≡ nextLine ch (walkAt b u)
-step-same ch a b t u e f p =
-    let n : next a ≡ next b = sym (next-even a) ∙ ap next p ∙ next-even b in
-    step-read ch (walkAt a t) e
-    ∙ ap₂ (λ (x y : ℕ). read descriptor x λ low. read descriptor (x + 1) λ high. done (walkAt y (advanced (stripOf ch low high)))) p n
-    ∙ sym (step-read ch (walkAt b u) f)
+pub step-same : (ch : ℕ) (w : Walk) (b : ℕ) → over (w .strip) ≡ true → w .plain ≡ false → even (w .descriptor) ≡ even b
+    → nextLine ch w ≡ nextLine ch (walkAt b (Spacing 0))
+unfolding over
+step-same ch w b e f p =
+    step-begin ch w e f ∙ ap (fmap onward) (nextStrip-even 511 ch (w .descriptor) b p) ∙ sym (step-begin ch (walkAt b (Spacing 0)) refl refl)
 
--- what it finds and what it reads, where the strip is over and where it has a line left
+-- what it finds and what it reads
 module _ (ram : List ℕ) (ch : ℕ) (w : Walk) where
-  pub read-value : over (w .strip) ≡ true → value ram (nextLine ch w) ≡ walkAt (next (w .descriptor)) (advanced (stripAt ram ch (w .descriptor)))
-  unfolding value
-  read-value e = ap (value ram) (step-read ch w e)
-
-  pub read-cells : over (w .strip) ≡ true → cells ram (nextLine ch w) ≡ even (w .descriptor) ∷ (even (w .descriptor) + 1) ∷ []
-  unfolding cells
-  read-cells e = ap (cells ram) (step-read ch w e)
-
-  pub on-value : over (w .strip) ≡ false → value ram (nextLine ch w) ≡ walkAt (w .descriptor) (advanced (w .strip))
+  pub on-value : over (w .strip) ≡ false → value ram (nextLine ch w) ≡ onward w
   unfolding value
   on-value e = ap (value ram) (step-on ch w e)
 
@@ -152,40 +213,97 @@ module _ (ram : List ℕ) (ch : ℕ) (w : Walk) where
   unfolding cells
   on-cells e = ap (cells ram) (step-on ch w e)
 
--- it reads at most a descriptor, two cells at an even address, and brings the strip to one of its lines
+  pub over-value : over (w .strip) ≡ true → w .plain ≡ false → value ram (nextLine ch w) ≡ onward (value ram (nextStrip ramPairs ch (w .descriptor)))
+  over-value e f = ap (value ram) (step-begin ch w e f) ∙ value-fmap ram onward (nextStrip ramPairs ch (w .descriptor))
+
+  pub over-cells : over (w .strip) ≡ true → w .plain ≡ false → cells ram (nextLine ch w) ≡ cells ram (nextStrip ramPairs ch (w .descriptor))
+  over-cells e f = ap (cells ram) (step-begin ch w e f) ∙ cells-fmap ram onward (nextStrip ramPairs ch (w .descriptor))
+
+  pub plain-value : over (w .strip) ≡ true → w .plain ≡ true → value ram (nextLine ch w) ≡ plainRest (w .descriptor)
+  unfolding value
+  plain-value e f = ap (value ram) (step-plain ch w e f)
+
+  pub plain-cells : over (w .strip) ≡ true → w .plain ≡ true → cells ram (nextLine ch w) ≡ []
+  unfolding cells
+  plain-cells e f = ap (cells ram) (step-plain ch w e f)
+
+-- it reads descriptors at most, 512 of two cells at an even address, and brings the strip to one of its lines
 pub nextLine-only : (P : Role → ℕ → Type 0) → ((c : ℕ) → c < ramLength → P descriptor c) → (ch : ℕ) (w : Walk)
     → Only P (λ (v : Walk). OnLine (v .strip)) (nextLine ch w)
 unfolding Only
-nextLine-only P descriptors ch w = by (over (w .strip)) refl
+nextLine-only P descriptors ch w = by (over (w .strip)) (w .plain) refl refl
   where
-    by : (t : Bool) → over (w .strip) ≡ t → Only P (λ (v : Walk). OnLine (v .strip)) (nextLine ch w)
-    by true e =
-        rw (step-read ch w e) (
-          descriptors _ (omega arith),
-          λ low. (descriptors _ (even-bound (w .descriptor)), λ high. left-on (stripOf ch low high) (stripOf-some ch low high)),
-        )
-    by false e = rw (step-on ch w e) (left-on (w .strip) (over-left (w .strip) e))
+    by : (t u : Bool) → over (w .strip) ≡ t → w .plain ≡ u → Only P (λ (v : Walk). OnLine (v .strip)) (nextLine ch w)
+    by false u e f = rw (step-on ch w e) (left-on (w .strip) (over-left (w .strip) e))
+    by true true e f = rw (step-plain ch w e f) (unfold OnLine in tt)
+    by true false e f = rw (step-begin ch w e f) (only-fmap P Begun _ onward _ (nextStrip-only P descriptors ramPairs ch (w .descriptor)) (λ v q. q))
 
-pub nextLine-few : (r : Role) (ram : List ℕ) (ch : ℕ) (w : Walk) → Few r ram (two r descriptor) (nextLine ch w)
-nextLine-few r ram ch w = by (over (w .strip)) refl
+pub nextLine-few : (r : Role) (ram : List ℕ) (ch : ℕ) (w : Walk) → Few r ram (ramPairs * two r descriptor) (nextLine ch w)
+nextLine-few r ram ch w = by (over (w .strip)) (w .plain) refl refl
   where
-    by : (t : Bool) → over (w .strip) ≡ t → Few r ram (two r descriptor) (nextLine ch w)
-    by true e = rw (step-read ch w e) (few-two r ram descriptor _ 0 _ _ _ (omega arith) (few-done r ram 0 _))
-    by false e = rw (step-on ch w e) (few-done r ram _ _)
+    by : (t u : Bool) → over (w .strip) ≡ t → w .plain ≡ u → Few r ram (ramPairs * two r descriptor) (nextLine ch w)
+    by false u e f = rw (step-on ch w e) (few-done r ram _ _)
+    by true true e f = rw (step-plain ch w e f) (few-done r ram _ _)
+    by true false e f = rw (step-begin ch w e f) (few-fmap r ram _ onward _ (nextStrip-few r ram ramPairs ch (w .descriptor)))
 
 -- ---- what the code's steps need
 
 pub left-pos : (left : ℕ) → eqb left 0 ≡ false → 1 ≤ left
 left-pos left e = omega (arith, eqb-false left 0 e)
 
--- the walk's next line where the strip is over: a descriptor is read
-pub walked-read : (ram : List ℕ) (ch : ℕ) (w : Walk) → over (w .strip) ≡ true
-    → walked ram ch w ≡ record { walk = walkAt (next (w .descriptor)) (advanced (stripAt ram ch (w .descriptor))); cells = 2 }
-unfolding walked
-walked-read ram ch w e = rw (read-value ram ch w e, read-cells ram ch w e)
-
--- and where it has a line left
-pub walked-on : (ram : List ℕ) (ch : ℕ) (w : Walk) → over (w .strip) ≡ false
-    → walked ram ch w ≡ record { walk = walkAt (w .descriptor) (advanced (w .strip)); cells = 0 }
+-- the walk's next line where a strip has a line left
+pub walked-on : (ram : List ℕ) (ch : ℕ) (w : Walk) → over (w .strip) ≡ false → walked ram ch w ≡ record { walk = onward w; cells = 0 }
 unfolding walked
 walked-on ram ch w e = rw (on-value ram ch w e, on-cells ram ch w e)
+
+-- in the plain rest
+pub walked-plain : (ram : List ℕ) (ch : ℕ) (w : Walk) → over (w .strip) ≡ true → w .plain ≡ true
+    → walked ram ch w ≡ record { walk = plainRest (w .descriptor); cells = 0 }
+unfolding walked
+walked-plain ram ch w e f = rw (plain-value ram ch w e f, plain-cells ram ch w e f)
+
+-- and where a strip begins
+pub walked-begin : (ram : List ℕ) (ch : ℕ) (w : Walk) → over (w .strip) ≡ true → w .plain ≡ false
+    → walked ram ch w ≡ walked ram ch (walkAt (w .descriptor) (Spacing 0))
+unfolding walked
+walked-begin ram ch w e f = rw (step-same ch w (w .descriptor) e f refl)
+
+-- there: the descriptors from an address on, of which so many are left of 512
+unfoldable pub walkedBy : List ℕ → (ch left a : ℕ) → Walked
+walkedBy ram ch left a =
+    record { walk = onward (value ram (nextStrip left ch a)); cells = 2 * (ramPairs - left) + length (cells ram (nextStrip left ch a)) }
+
+module _ (ram : List ℕ) (ch : ℕ) where
+  pub by-all : (a : ℕ) → walkedBy ram ch ramPairs (even a) ≡ walked ram ch (walkAt a (Spacing 0))
+  unfolding walkedBy walked over
+  by-all a =
+      let w : Walk = walkAt a (Spacing 0) in
+      let e : nextStrip ramPairs ch (even a) ≡ nextStrip ramPairs ch a = nextStrip-even 511 ch (even a) a (omega arith) in
+      rw e
+      (ap₂ (λ (v : Walk) (n : ℕ). record { walk = v; cells = n }) (sym (over-value ram ch w refl refl))
+      (omega (arith, ap length (over-cells ram ch w refl refl))))
+
+  module _ (left a : ℕ) (some : 1 ≤ left) (most : left ≤ ramPairs) where
+    abbrev one-more : suc (left - 1) ≡ left
+    one-more = omega arith
+
+    pub by-pass : passedAt ram a ≡ true → walkedBy ram ch (left - 1) (next a) ≡ walkedBy ram ch left a
+    unfolding walkedBy
+    by-pass e =
+        let v = ap (λ (n : ℕ). value ram (nextStrip n ch a)) one-more in
+        let l = ap (λ (n : ℕ). length (cells ram (nextStrip n ch a))) one-more in
+        let p = ap length (pass-cells ram (left - 1) ch a e) in
+        ap₂ (λ (w : Walk) (n : ℕ). record { walk = onward w; cells = n }) (sym (pass-value ram (left - 1) ch a e) ∙ v) (omega (arith, l, p))
+
+    pub by-strip : passedAt ram a ≡ false
+        → record { walk = walkAt (next a) (advanced (stripAt ram ch a)); cells = 2 * (ramPairs - (left - 1)) } ≡ walkedBy ram ch left a
+    unfolding walkedBy
+    by-strip e =
+        let v = ap (λ (n : ℕ). value ram (nextStrip n ch a)) one-more in
+        let l = ap (λ (n : ℕ). length (cells ram (nextStrip n ch a))) one-more in
+        let p = ap length (begin-cells ram (left - 1) ch a e) in
+        ap₂ (λ (w : Walk) (n : ℕ). record { walk = onward w; cells = n }) (sym (begin-value ram (left - 1) ch a e) ∙ v) (omega (arith, l, p))
+
+  pub by-none : (a : ℕ) → record { walk = plainRest a; cells = ramLength } ≡ walkedBy ram ch 0 a
+  unfolding walkedBy nextStrip value cells advanced
+  by-none a = refl

@@ -2,15 +2,16 @@
 -- Assumes nothing.
 use Prim.Native.Nat.{ℕ, zero, suc, _+_, _≤_}
 use mathlib.Core.Path.{_≡_, refl, ap, _∙_}
-use mathlib.Core.Bool.{true}
+use mathlib.Core.Bool.{true, false}
 use mathlib.Core.List.{List}
 use native.Mathlib.Nat.{zero-add}
 use native.Mathlib.Omega.{arith}
+use Rattle.limits.specs.Limits.{ramPairs}
 use Rattle.cells.specs.Reading.{value}
 use Rattle.walk.specs.declared.Strip.{Strip}
 use Rattle.walk.specs.declared.Walk.{Walk}
-use Rattle.walk.specs.Walk.{next, walkAt, over, linesLeft, advanced, nextLine}
-use Rattle.walk.proofs.Laws.{left-over, left-advanced, advancedBy, stripAt, read-value, on-value}
+use Rattle.walk.specs.Walk.{next, walkAt, over, linesLeft, nextStrip, advanced, onward, nextLine}
+use Rattle.walk.proofs.Laws.{left-over, left-advanced, advancedBy, stripAt, on-value, over-value}
 
 module _ (ram : List ℕ) (ch : ℕ) where
   -- after so many lines
@@ -38,11 +39,12 @@ module _ (ram : List ℕ) (ch : ℕ) where
       ap (walkAfter k) (on-value ram ch (walkAt a t) (left-over t (omega arith)))
       ∙ on-strip k a (advanced t) (omega (arith, left-advanced t))
 
-  -- in the next descriptor's strip
-  pub next-strip : (k : ℕ) (w : Walk) → over (w .strip) ≡ true → 1 ≤ k → k ≤ linesLeft (stripAt ram ch (w .descriptor))
-      → walkAfter k w ≡ walkAt (next (w .descriptor)) (advancedBy k (stripAt ram ch (w .descriptor)))
+  -- in the next strip, which is that of the descriptor at b
+  pub next-strip : (k b : ℕ) (w : Walk) → over (w .strip) ≡ true → w .plain ≡ false
+      → value ram (nextStrip ramPairs ch (w .descriptor)) ≡ walkAt (next b) (stripAt ram ch b) → 1 ≤ k → k ≤ linesLeft (stripAt ram ch b)
+      → walkAfter k w ≡ walkAt (next b) (advancedBy k (stripAt ram ch b))
   unfolding walkAfter advancedBy
-  next-strip zero w o m h = absurd (omega arith)
-  next-strip (suc k) w o m h =
-      ap (walkAfter k) (read-value ram ch w o)
-      ∙ on-strip k (next (w .descriptor)) (advanced (stripAt ram ch (w .descriptor))) (omega (arith, left-advanced (stripAt ram ch (w .descriptor))))
+  next-strip zero b w o f e m h = absurd (omega arith)
+  next-strip (suc k) b w o f e m h =
+      ap (walkAfter k) (over-value ram ch w o f ∙ ap onward e)
+      ∙ on-strip k (next b) (advanced (stripAt ram ch b)) (omega (arith, left-advanced (stripAt ram ch b)))

@@ -1,7 +1,7 @@
--- Document 01, "Walk of a frame": descriptors and strips, line by line.
+-- Document 01, "Walk of a frame": descriptors and strips, line by line, as request K9 mends it: spacing of zero lines is passed over.
 -- Assumes nothing.
-use Prim.Native.Nat.{ℕ, _+_, _-_, _*_, _/_, _%_, max}
-use mathlib.Core.Bool.{Bool, false, cond}
+use Prim.Native.Nat.{ℕ, zero, suc, _+_, _-_, _*_, _/_, _%_, max}
+use mathlib.Core.Bool.{Bool, true, false, cond, _&&_}
 use lib.Dec.{eqb}
 use lib.ListN.{length}
 use mathlib.Core.List.{List}
@@ -27,7 +27,7 @@ next a = even (a + 2)
 abbrev pub readPair : {A : Type 0} → Role → ℕ → (ℕ → ℕ → Reading A) → Reading A
 readPair r a k = read r (even a) λ low. read r (even a + 1) λ high. k low high
 
--- a page begins at P times 64
+-- a page nextStrip at P times 64
 abbrev pub pageAddress : ℕ → ℕ
 pageAddress p = p * 64
 
@@ -35,7 +35,11 @@ pageAddress p = p * 64
 
 -- the walk in a strip, with the next descriptor at an address
 abbrev pub walkAt : ℕ → Strip → Walk
-walkAt a t = record { descriptor = a; strip = t }
+walkAt a t = record { descriptor = a; strip = t; plain = false }
+
+-- the walk where 512 descriptors in a row were passed over (K9): no strip has a line, and the rest of the frame is plain
+abbrev pub plainRest : ℕ → Walk
+plainRest a = record { descriptor = a; strip = Spacing 0; plain = true }
 
 -- a frame start sets the descriptor address to P times 64; the first line reads the first descriptor
 unfoldable pub walkFrom : ℕ → Walk
@@ -59,9 +63,9 @@ zoomedBy high = eqb (high / 32 % 2) 1
 abbrev pub codesAt : ℕ → ℕ → ℕ
 codesAt low high = even (high % 4 * 256 + low)
 
--- the low byte of spacing is SL, the number of lines; 0 is taken as 1 (H)
-abbrev pub spacingLines : ℕ → ℕ
-spacingLines low = max 1 low
+-- the low byte of spacing is SL, the number of lines. A spacing descriptor with SL 0 is passed over (K9)
+abbrev pub passedOver : ℕ → ℕ → Bool
+passedOver low high = isSpacing high && eqb low 0
 
 -- the height of characters is CH; 0 is taken as 1 (H)
 abbrev pub heightOf : ℕ → ℕ
@@ -75,7 +79,7 @@ showsCodes high = cond (isSpacing high) false (enabledBy high)
 unfoldable pub stripOf : ℕ → ℕ → ℕ → Strip
 stripOf ch low high =
     cond (isSpacing high)
-    (Spacing (spacingLines low))
+    (Spacing low)
     (Characters (codesAt low high) (heightOf ch) (zoomedBy high) (enabledBy high) beforeFirst)
 
 -- ---- the strip on screen
@@ -90,11 +94,19 @@ unfoldable pub linesLeft : Strip → ℕ
 linesLeft (Spacing left) = left
 linesLeft (Characters address height zoom enabled line) = linesAfter line height zoom
 
--- a descriptor is read at the first line of its strip, and CH is taken there
+-- the descriptors from an address on, read at one line: those that are passed over, and the next at once, which nextStrip its strip. CH is taken
+-- there. n is how many are read in a row; where all of them are passed over, that line and the rest of the frame are plain (K9)
+unfoldable pub nextStrip : (n ch a : ℕ) → Reading Walk
+nextStrip zero ch a = done (plainRest a)
+nextStrip (suc n) ch a =
+    readPair descriptor a λ low high. cond (passedOver low high) (nextStrip n ch (next a)) (done (walkAt (next a) (stripOf ch low high)))
+
+-- a descriptor is read at the first line of its strip: where the strip on screen is over, 512 in a row at the most, and none where the rest of the
+-- frame is plain
 unfoldable pub begun : ℕ → Walk → Reading Walk
 begun ch w =
     cond (over (w .strip))
-    (readPair descriptor (w .descriptor) λ low high. done (walkAt (next (w .descriptor)) (stripOf ch low high)))
+    (cond (w .plain) (done (plainRest (w .descriptor))) (nextStrip ramPairs ch (w .descriptor)))
     (done w)
 
 -- the strip at its next line
@@ -102,9 +114,13 @@ unfoldable pub advanced : Strip → Strip
 advanced (Spacing left) = Spacing (left - 1)
 advanced (Characters address height zoom enabled line) = Characters address height zoom enabled (following line)
 
+-- the walk with its strip at the next line
+abbrev pub onward : Walk → Walk
+onward w = record { descriptor = w .descriptor; strip = advanced (w .strip); plain = w .plain }
+
 -- the walk at the frame's next line: the strip on screen, and its line
 unfoldable pub nextLine : ℕ → Walk → Reading Walk
-nextLine ch w = fmap (λ b. walkAt (b .descriptor) (advanced (b .strip))) (begun ch w)
+nextLine ch w = fmap onward (begun ch w)
 
 -- the strip on screen is at one of its lines
 unfoldable pub OnLine : Strip → Type 0

@@ -1,10 +1,10 @@
 // The walk of a frame over its descriptors: which strip is on screen, and which of its lines.
 ghost use mathlib.Core.Path.{_≡_};
-ghost use Prim.Native.Nat.{max};
 ghost use mathlib.Core.Bool.{false};
 ghost use lib.ListN.{length};
 ghost use Rattle.limits.specs.Limits.{ramLength};
-ghost use Rattle.walk.specs.Walk.{even, next, walkFrom, isSpacing, enabledBy, zoomedBy, codesAt, spacingLines, heightOf, showsCodes, stripOf, over, linesLeft, advanced, walked};
+ghost use Rattle.walk.specs.Walk.{even, next, walkFrom, isSpacing, enabledBy, zoomedBy, codesAt, passedOver, heightOf, showsCodes, stripOf, over, linesLeft, advanced, walkAt, plainRest, walked};
+ghost use Rattle.walk.specs.declared.Strip.the-variants.{Spacing};
 use raster::ScanLine;
 
 // The strip on screen. One with no line left gives way to the next descriptor at the next line.
@@ -31,6 +31,8 @@ pub struct Walk {
     // the address of the next descriptor
     pub descriptor: u16,
     pub strip: Strip,
+    // 512 descriptors in a row were passed over: no more are read, and after the strip the rest of the frame is plain
+    pub plain: bool,
 }
 
 // The walk at the next line, and how many cells that read.
@@ -51,15 +53,6 @@ pub fn next_address(a: usize) -> usize
     ensures { λ r. ⌜ r ≡ next a ⌝ }
 {
     (a % limits::RAM_LENGTH + 2) / 2 % limits::RAM_PAIRS * 2
-}
-
-fn at_least_one(n: u8) -> u8
-    ensures { λ r. ⌜ r ≡ max 1 n ⌝ }
-{
-    if n == 0 {
-        return 1;
-    }
-    n
 }
 
 // The high byte of a descriptor: spacing, or characters?
@@ -83,18 +76,24 @@ pub fn zoom(high: u8) -> bool
     high / 32 % 2 == 1
 }
 
-// How many lines spacing has, by its low byte.
-pub fn spacing_lines(low: u8) -> u8
-    ensures { λ r. ⌜ r ≡ spacingLines low ⌝ }
+// Spacing of zero lines.
+pub fn is_passed_over(low: u8, high: u8) -> bool
+    ensures { λ r. ⌜ r ≡ passedOver low high ⌝ }
 {
-    at_least_one(low)
+    if is_spacing(high) {
+        return low == 0;
+    }
+    false
 }
 
 // The height of characters, by CH.
 pub fn height(ch: u8) -> u8
     ensures { λ r. ⌜ r ≡ heightOf ch ⌝ }
 {
-    at_least_one(ch)
+    if ch == 0 {
+        return 1;
+    }
+    ch
 }
 
 // Where the codes of a descriptor's strip start: at an even address.
@@ -119,7 +118,7 @@ pub fn descriptor_lines(ch: u8, low: u8, high: u8) -> u16
     ensures { λ r. ⌜ r ≡ linesLeft (stripOf ch low high) ⌝ }
 {
     if is_spacing(high) {
-        return spacing_lines(low) as u16;
+        return low as u16;
     }
     ScanLine::before_first().lines_after(height(ch), zoom(high))
 }
@@ -130,9 +129,7 @@ impl Strip {
         ensures { λ r. ⌜ r ≡ stripOf ch low high ⌝ }
     {
         if is_spacing(high) {
-            return Strip::Spacing {
-                left: spacing_lines(low),
-            };
+            return Strip::Spacing { left: low };
         }
         Strip::Characters {
             address: code_address(low, high),
@@ -205,32 +202,72 @@ impl Walk {
         Walk {
             descriptor: page as u16 * 64,
             strip: Strip::Spacing { left: 0 },
+            plain: false,
         }
     }
 
-    // The walk at the frame's next line. A descriptor is read, and CH taken, where the strip on screen is over.
+    // The walk where 512 descriptors in a row were passed over.
+    fn of_plain_rest(descriptor: u16) -> Walk
+        ensures { λ r. ⌜ r ≡ plainRest descriptor ⌝ }
+    {
+        Walk {
+            descriptor: descriptor,
+            strip: Strip::Spacing { left: 0 },
+            plain: true,
+        }
+    }
+
+    // The first line of the next strip, by the descriptors from an address on. CH is taken here.
+    fn begin(ram: &[u8], ch: u8, descriptor: u16) -> Walked
+        requires { ⌜ length (now ram) ≡ ramLength ⌝ }
+        ensures { λ r. ⌜ r ≡ walked (now (ram .entry)) ch (walkAt descriptor (Spacing 0)) ⌝ }
+    {
+        let mut at = even_address(descriptor as usize);
+        let mut left = limits::RAM_PAIRS;
+        while left > 0 {
+            let low = ram[at];
+            let high = ram[at + 1];
+            let next = next_address(at);
+            left -= 1;
+            if is_passed_over(low, high) {
+                at = next;
+            } else {
+                return Walked {
+                    walk: Walk {
+                        descriptor: next as u16,
+                        strip: Strip::of_descriptor(ch, low, high).advance(),
+                        plain: false,
+                    },
+                    cells: (2 * (limits::RAM_PAIRS - left)) as u16,
+                };
+            }
+        }
+        Walked {
+            walk: Walk::of_plain_rest(at as u16),
+            cells: limits::RAM_LENGTH as u16,
+        }
+    }
+
+    // The walk at the frame's next line. Descriptors are read where the strip on screen is over.
     pub fn next_line(self, ram: &[u8], ch: u8) -> Walked
         requires { ⌜ length (now ram) ≡ ramLength ⌝ }
         ensures { λ r. ⌜ r ≡ walked (now (ram .entry)) ch self ⌝ }
     {
         let strip = self.strip;
         if strip.is_over() {
-            let at = even_address(self.descriptor as usize);
-            let low = ram[at];
-            let high = ram[at + 1];
-            let next = Strip::of_descriptor(ch, low, high).advance();
-            return Walked {
-                walk: Walk {
-                    descriptor: next_address(at) as u16,
-                    strip: next,
-                },
-                cells: 2,
-            };
+            if self.plain {
+                return Walked {
+                    walk: Walk::of_plain_rest(self.descriptor),
+                    cells: 0,
+                };
+            }
+            return Walk::begin(ram, ch, self.descriptor);
         }
         Walked {
             walk: Walk {
                 descriptor: self.descriptor,
                 strip: strip.advance(),
+                plain: self.plain,
             },
             cells: 0,
         }

@@ -8,7 +8,7 @@ use Rattle.walk.proofs.descriptor_lines.Tie as tie
 
 returns : tie.Need-returns
 unfolding stripOf linesLeft
-returns c = rw (sym (c .before .before .is-spacing .ensures) ∙ c .before .if1 .taken) (c .spacing-lines .ensures)
+returns c = rw (sym (c .before .is-spacing .ensures) ∙ c .if1 .taken)
 
 returns-2 : tie.Need-returns-2
 unfolding stripOf linesLeft
@@ -27,8 +27,6 @@ descriptor-lines-spec =
     tie.close
     (tie.spec
     (λ c κs. search needs)
-    (λ c κs. search needs)
-    (λ c. search needs)
     returns
     (λ c κs. search needs)
     (λ c κs. search needs)

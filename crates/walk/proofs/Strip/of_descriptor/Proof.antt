@@ -1,7 +1,6 @@
 -- `Strip::of_descriptor`: bit 7 picks the case of `stripOf`.
 -- Assumes nothing.
-use mathlib.Core.Path.{sym, ap, _∙_}
-use Rattle.walk.specs.declared.Strip.the-variants.{Spacing}
+use mathlib.Core.Path.{sym, _∙_}
 use Rattle.walk.specs.Walk.{stripOf}
 use borrow.Author.Needs.{needs}
 use Rattle.walk.proofs.Strip.of_descriptor.Statement.{statement}
@@ -9,8 +8,7 @@ use Rattle.walk.proofs.Strip.of_descriptor.Tie as tie
 
 returns : tie.Need-returns
 unfolding stripOf
-returns c =
-    rw (sym (c .before .before .is-spacing .ensures) ∙ c .before .if1 .taken) (ap Spacing (c .spacing-lines .ensures))
+returns c = rw (sym (c .before .is-spacing .ensures) ∙ c .if1 .taken)
 
 returns-2 : tie.Need-returns-2
 unfolding stripOf
@@ -29,7 +27,6 @@ pub of-descriptor-spec : {M : Type 1} → statement M
 of-descriptor-spec =
     tie.close
     (tie.spec
-    (λ c κs. search needs)
     (λ c κs. search needs)
     returns
     (λ c κs. search needs)
