@@ -38,9 +38,9 @@ frameLines = 2048
 abbrev pub badLineCount : ℕ → Bool
 badLineCount lines = eqb lines 0 || ltb frameLines lines
 
--- a line reads at most 246 cells
+-- a line reads at most 1,268 cells (document 02, K9)
 abbrev pub lineCells : ℕ
-lineCells = 246
+lineCells = 1268
 
 -- addresses on the bus are 0000 to 3FFF
 abbrev pub addressSpace : ℕ

@@ -1,9 +1,10 @@
--- How many cells a line reads: in each role, and so in all at most 246.
+-- How many cells a line reads: in each role, and so in all at most 1,268.
 -- Assumes nothing.
 use Prim.Native.Nat.{ℕ, zero, suc, _+_, _*_, _≤_, _<_}
 use mathlib.Core.List.{List, []}
 use native.Mathlib.Omega.{arith}
 use lib.ListN.{length, getD}
+use Rattle.limits.specs.Limits.{ramPairs, lineCells}
 use Rattle.facts.proofs.Choice.{either}
 use Rattle.cells.specs.Reading.{Role, descriptor, code, slice, value, cells, sameRole, cellsAs}
 use Rattle.cells.proofs.Counts.{Few, few-done, few-bind, few-fmap, two, few-two, few-all}
@@ -45,16 +46,16 @@ module _ (r : Role) (ram : List ℕ) where
       either (Few r ram (n * each r)) enabled _ _ (codes-few n (interpolated line height zoom) address) (few-done r ram _ [])
 
   -- a line: what the walk reads, and a code and a user slice for each character
-  scan-few : (s : Settings) (w : Walk) → Few r ram (two r descriptor + charactersOf (s .ld) (s .dd) * each r) (scan s w)
+  scan-few : (s : Settings) (w : Walk) → Few r ram (ramPairs * two r descriptor + charactersOf (s .ld) (s .dd) * each r) (scan s w)
   unfolding scanBy shownBy
   scan-few s w =
       let n : ℕ = charactersOf (s .ld) (s .dd) in
-      few-bind r ram (two r descriptor) (n * each r) (nextLine (s .ch) w) _ (nextLine-few r ram (s .ch) w)
+      few-bind r ram (ramPairs * two r descriptor) (n * each r) (nextLine (s .ch) w) _ (nextLine-few r ram (s .ch) w)
       (few-fmap r ram (n * each r) _ _
       (either (Few r ram (n * each r)) (s .osd) _ _ (row-few n (value ram (nextLine (s .ch) w) .strip)) (few-done r ram _ [])))
 
--- two cells of descriptor
-pub scan-descriptors : (s : Settings) (w : Walk) (ram : List ℕ) → length (cellsAs descriptor ram (scan s w)) ≤ 2
+-- two cells for each descriptor
+pub scan-descriptors : (s : Settings) (w : Walk) (ram : List ℕ) → length (cellsAs descriptor ram (scan s w)) ≤ 2 * ramPairs
 unfolding two each sameRole
 scan-descriptors s w ram = omega (arith, scan-few descriptor ram s w)
 
@@ -78,10 +79,10 @@ codes-most n s a ram = omega (arith, few-all (λ r. n * each r) ram (codes n s a
 pub characters-bound : (ld dd : ℕ) → ld < 64 → charactersOf ld dd ≤ 61
 characters-bound ld dd h = omega arith
 
--- a line reads at most 246 cells: 2 of descriptor, 61 codes, 61 user slices
-pub line-most : (r : Registers) (w : Walk) (ram : List ℕ) → length (cells ram (scan (settingsOf r) w)) ≤ 246
+-- a line reads at most 1,268 cells: 512 descriptors, 61 codes, 61 user slices
+pub line-most : (r : Registers) (w : Walk) (ram : List ℕ) → length (cells ram (scan (settingsOf r) w)) ≤ lineCells
 unfolding two each sameRole
 line-most r w ram =
     let s : Settings = settingsOf r in
     let n : ℕ = charactersOf (s .ld) (s .dd) in
-    omega (arith, few-all (λ q. two q descriptor + n * each q) ram (scan s w) (λ q. scan-few q ram s w), characters-bound (s .ld) (s .dd) (ld-bound r))
+    omega (arith, few-all (λ q. ramPairs * two q descriptor + n * each q) ram (scan s w) (λ q. scan-few q ram s w), characters-bound (s .ld) (s .dd) (ld-bound r))

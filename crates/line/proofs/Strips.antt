@@ -9,6 +9,7 @@ use lib.ListN.{length, take, drop, replicate, length-append, length-replicate, r
 use lib.Seq.{take-at, drop-at}
 use borrow.Rule.Slice.PartMut.{post-is}
 use Rattle.facts.proofs.Choice.{cond-same}
+use Rattle.limits.specs.Limits.{lineCells}
 use Rattle.cells.specs.Reading.{Role, Reading, done, value, cells}
 use Rattle.cells.proofs.Laws.{value-bind, cells-bind, value-fmap, cells-fmap}
 use Rattle.cells.proofs.Bounds.{only-value}
@@ -179,7 +180,7 @@ module _ (row : Settings → Strip → Reading (List Place)) (ram : List ℕ) (s
   unfolding scanBy
   scan-value = value-bind ram (nextLine (s .ch) w) _ ∙ value-fmap ram _ (row s (value ram (nextLine (s .ch) w) .strip))
 
-  -- what it reads: its descriptor, and its row
+  -- what it reads: its descriptors, and its row
   pub scan-cells : cells ram (scanBy row s w) ≡ cells ram (nextLine (s .ch) w) ++ cells ram (row s (value ram (nextLine (s .ch) w) .strip))
   unfolding scanBy
   scan-cells =
@@ -212,7 +213,7 @@ module _ (ram font : List ℕ) (r : Registers) (w : Walk) (f : ℕ) (out : List 
       subst (λ (t : Walked). LineDrawn ram font r w f out (record { walk = t .walk; cells = t .cells + n }) out′) (sym q′)
       (taken (subst₂ (λ (t : Settings) (u : Walked). StripDrawn ram font t (u .walk .strip) f out n out′) e q′ d))
 
-  -- its cells are at most 246
+  -- its cells are at most 1,268
   pub line-cells : (s : Settings) (k : Walked) → s ≡ settingsOf r → k ≡ walked ram (s .ch) w → StripDrawn ram font s (k .walk .strip) f out n out′
-      → k .cells + n ≤ 246
+      → k .cells + n ≤ lineCells
   line-cells s k e q d = omega (arith, line-drawn s k e q d .reads, line-most r w ram)

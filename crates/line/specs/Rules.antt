@@ -17,13 +17,13 @@ use Rattle.line.specs.Line.{Place, Scanned, scan, paint}
 
 -- what a line reads over a RAM of any length
 pub record FewCells (line : Reading Scanned) (ram : List ℕ) : Type 0 where
-  -- one descriptor, of two cells
-  pub descriptors : length (cellsAs descriptor ram line) ≤ 2
+  -- 512 descriptors, of two cells each (K9)
+  pub descriptors : length (cellsAs descriptor ram line) ≤ 2 * 512
   -- 61 codes, of two cells each
   pub codes : length (cellsAs code ram line) ≤ 2 * 61
   -- 61 user slices, of two cells each
   pub slices : length (cellsAs slice ram line) ≤ 2 * 61
-  -- so at most 246, a cell read twice counted twice
+  -- so at most 1,268, a cell read twice counted twice
   pub most : length (cells ram line) ≤ lineCells
   -- each is a cell of the RAM
   pub below : (c : ℕ) → T (among c (cells ram line)) → c < ramLength
