@@ -2,7 +2,7 @@
 -- Assumes nothing.
 use Prim.Native.Nat.{ℕ, _+_, _-_, _*_, _/_, _%_, _≤_, _<_, min}
 use mathlib.Core.Path.{_≡_, refl, sym, ap, ap₂, _∙_, subst}
-use mathlib.Core.Bool.{Bool, true, false, _&&_, _||_, true≢false, or-false, or-true, or-assoc}
+use mathlib.Core.Bool.{Bool, true, false, cond, _&&_, _||_, true≢false, or-false, or-true, or-assoc}
 use mathlib.Core.List.{List}
 use native.Mathlib.Omega.{arith}
 use borrow.Author.Tests.{lt-ltb, le-ltb}
@@ -18,7 +18,7 @@ use Rattle.walk.specs.declared.Strip.{Strip}
 use Rattle.walk.specs.declared.Strip.the-variants.{Spacing, Characters}
 use Rattle.walk.specs.declared.Walk.{Walk}
 use Rattle.walk.specs.Walk.{heightOf, zoomedBy, codesAt, showsCodes, stripOf, linesLeft}
-use Rattle.walk.proofs.Laws.{stripOf-some, codes-shown, codes-none}
+use Rattle.walk.proofs.Laws.{stripOf-some, codes-shown, codes-begin, codes-none}
 use Rattle.glyph.specs.Cells.{ofUser, userSlice}
 use Rattle.ahead.specs.Ahead.{remaining}
 use Rattle.ahead.specs.declared.Sought.{Sought}
@@ -119,7 +119,7 @@ whole-looked ram q low high marks marks′ r bytes w e l =
     let strip = stripOf (q .settings .ch) low high in
     let t = codes-shown (q .settings .ch) low high e in
     strip-shown ram q strip (linesLeft strip) marks marks′ r bytes w t (q .whole) refl
-    (stripOf-some (q .settings .ch) low high) (omega arith)
+    (stripOf-some (q .settings .ch) low high (codes-begin low high e)) (omega arith)
     (whole-shown q (zoomedBy high) w
     ∙ ap (λ (n : ℕ). userShown (q .cell) beforeFirst n (heightOf (q .settings .ch)) (zoomedBy high)) (sym (ap linesLeft t)))
     l
@@ -137,14 +137,14 @@ sum-start ram q marks left a =
 
 -- at the descriptor of a number
 module _ {ram : List ℕ} {q : Sought} {marks₀ : List ℕ} {left₀ a₀ : ℕ} {marks : List ℕ} {left : ℕ} (p : ℕ)
-    (sum : SumSame ram q marks₀ left₀ a₀ marks left (2 * p)) (below : p < 512) where
+    (sum : SumSame ram q marks₀ left₀ a₀ marks left (2 * p)) (below : p < 512) (posed : Posed q) where
   pub lines-here : (near : ℕ) → Kept marks → Far ram q near → 1 ≤ left → q .cell / 2 ≡ p
       → Adds ram q (linesRead ram q left₀ a₀) marks₀ marks (record { found = true; near = near })
   lines-here near k f h e =
       found-adds ram q (linesRead ram q left₀ a₀) marks₀ marks (record { found = true; near = near }) k f refl
       (sum .same
       ∙ ap (λ (x : Bool). sofar ram q marks || x)
-      (descriptor-here ram (q .settings) (q .cell) left (2 * p) h (code-even p below) (omega (arith, e)))
+      (descriptor-here ram (q .settings) (q .cell) (posed .cell) left (2 * p) h (code-even p below) (omega (arith, e)))
       ∙ or-true (sofar ram q marks))
 
   pub lines-over : (near : ℕ) → Kept marks → Far ram q near → left ≤ 0 → Adds ram q (linesRead ram q left₀ a₀) marks₀ marks (record { found = false; near = near })
@@ -166,7 +166,7 @@ module _ {ram : List ℕ} {q : Sought} {marks₀ : List ℕ} {left₀ a₀ : ℕ
     step =
         sum .same
         ∙ ap (λ (x : Bool). sofar ram q marks || x)
-        (descriptor-on ram (q .settings) (q .cell) left (2 * p) h (code-even p below) t lines (λ y. e (omega (arith, y))) is m
+        (descriptor-on ram (q .settings) (q .cell) (posed .cell) left (2 * p) h (code-even p below) t lines (λ y. e (omega (arith, y))) is m
         ∙ ap (λ (x : ℕ). stripRead ram q lines t || linesRead ram q (left - linesLeft t) x) (code-next p))
         ∙ sym (or-assoc (sofar ram q marks) (stripRead ram q lines t) after)
 
@@ -196,15 +196,15 @@ module _ {ram : List ℕ} {q : Sought} {marks₀ : List ℕ} {left₀ a₀ : ℕ
 module _ (ram : List ℕ) (left : ℕ) (w : Walk) (q : Sought) (k : ℕ) (e : k ≡ min (linesLeft (w .strip)) left) {marks₁ : List ℕ} {r₁ : Looked}
     (first : Adds ram q (stripRead ram q k (w .strip)) (replicate 16 0) marks₁ r₁) where
   all : among (q .cell) (cells ram (remaining (q .settings) left w))
-      ≡ (sofar ram q (replicate 16 0) || stripRead ram q k (w .strip)) || linesRead ram q (left - k) (w .descriptor)
+      ≡ (sofar ram q (replicate 16 0) || stripRead ram q k (w .strip)) || linesRead ram q (cond (w .plain) 0 (left - k)) (w .descriptor)
   all =
-      strip-passed ram (q .settings) left (w .descriptor) (w .strip) k (q .cell) e
+      strip-passed ram (q .settings) left w k (q .cell) e
       ∙ or-with _ (or-with (stripRead ram q k (w .strip)) (sym (no-row ram (q .cell) (q .codes))))
 
   pub found-first : r₁ .found ≡ true → among (q .cell) (cells ram (remaining (q .settings) left w)) ≡ true
   found-first y = all ∙ or-with _ (first .hit y)
 
-  module _ {marks₂ : List ℕ} {r₂ : Looked} (later : Adds ram q (linesRead ram q (left - k) (w .descriptor)) marks₁ marks₂ r₂) (z : r₁ .found ≡ false) where
+  module _ {marks₂ : List ℕ} {r₂ : Looked} (later : Adds ram q (linesRead ram q (cond (w .plain) 0 (left - k)) (w .descriptor)) marks₁ marks₂ r₂) (z : r₁ .found ≡ false) where
     pub found-later : r₂ .found ≡ true → among (q .cell) (cells ram (remaining (q .settings) left w)) ≡ true
     found-later y = all ∙ or-with _ (sym (first .miss z)) ∙ later .hit y
 

@@ -2,6 +2,7 @@
 // if it starts closely before it; the rows that show the cell's slice are marked, and then looked through for its user character.
 ghost use mathlib.Core.Path.{_≡_};
 ghost use Prim.Native.Nat.{ℕ, _+_, _*_, _≤_, _<_, min};
+ghost use mathlib.Core.Bool.{cond};
 ghost use lib.ListN.{length};
 ghost use Rattle.limits.specs.Limits.{ramLength, ramPairs};
 ghost use Rattle.cells.specs.Reading.{cells, among};
@@ -188,7 +189,8 @@ fn look_whole(
     }
 }
 
-// The lines from a descriptor on. Descriptors go round all of RAM, so within 512 strips they meet the cell or the frame's end.
+// The lines from a descriptor on. Descriptors go round all of RAM, so within 512 they meet the cell or the frame's end; so do 512 that are
+// passed over.
 fn look_lines(
     ram: &[u8],
     marks: &mut [u32; 16],
@@ -365,6 +367,13 @@ fn seek(settings: Settings, cell: u16) -> Sought
     }
 }
 
+// The lines after the strip on screen: in the plain rest of a frame none of them reads.
+fn lines_to_look(plain: bool, left: u16) -> u16
+    ensures { λ r. ⌜ r ≡ cond plain 0 left ⌝ }
+{
+    if plain { 0 } else { left }
+}
+
 // Do the frame's remaining lines read the cell?
 pub fn reads(ram: &[u8], settings: Settings, left: u16, walk: Walk, cell: u16) -> bool
     requires { ⌜ length (now ram) ≡ ramLength ⌝ }
@@ -379,14 +388,8 @@ pub fn reads(ram: &[u8], settings: Settings, left: u16, walk: Walk, cell: u16) -
     if first.found {
         return true;
     }
-    let looked = look_lines(
-        ram,
-        &mut marks,
-        first.near,
-        sought,
-        left - k,
-        walk.descriptor,
-    );
+    let rest = lines_to_look(walk.plain, left - k);
+    let looked = look_lines(ram, &mut marks, first.near, sought, rest, walk.descriptor);
     if looked.found {
         return true;
     }

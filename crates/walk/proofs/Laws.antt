@@ -77,8 +77,14 @@ none-passed ch low high = by (isSpacing high)
     by true = refl
     by false = sym (ne-eqb (linesAfter beforeFirst (heightOf ch) (zoomedBy high)) 0 (λ e. omega (arith, e, some-after (heightOf ch) (zoomedBy high) (omega arith))))
 
-pub passed-none : (ch low high : ℕ) → passedOver low high ≡ true → linesLeft (stripOf ch low high) ≡ 0
-passed-none ch low high e = eqb-true _ 0 (sym (none-passed ch low high) ∙ e)
+pub passed-strip : (ch low high : ℕ) → passedOver low high ≡ true → stripOf ch low high ≡ Spacing 0
+unfolding stripOf
+passed-strip ch low high e = by (isSpacing high) e
+  where
+    by : (t : Bool) → t && eqb low 0 ≡ true
+        → cond t (Spacing low) (Characters (codesAt low high) (heightOf ch) (zoomedBy high) (enabledBy high) beforeFirst) ≡ Spacing 0
+    by true q = ap Spacing (eqb-true low 0 q)
+    by false q = absurd (false≢true q)
 
 pub stripOf-some : (ch low high : ℕ) → passedOver low high ≡ false → 1 ≤ linesLeft (stripOf ch low high)
 stripOf-some ch low high e = omega (arith, eqb-false (linesLeft (stripOf ch low high)) 0 (sym (none-passed ch low high) ∙ e))
@@ -96,6 +102,14 @@ codes-shown ch low high e = by (isSpacing high) (enabledBy high) e
         ≡ Characters (codesAt low high) (heightOf ch) (zoomedBy high) true beforeFirst
     by true u q = absurd (false≢true q)
     by false u q = ap (λ (b : Bool). Characters (codesAt low high) (heightOf ch) (zoomedBy high) b beforeFirst) q
+
+-- it is not passed over
+pub codes-begin : (low high : ℕ) → showsCodes high ≡ true → passedOver low high ≡ false
+codes-begin low high e = by (isSpacing high) e
+  where
+    by : (t : Bool) → cond t false (enabledBy high) ≡ true → t && eqb low 0 ≡ false
+    by true q = absurd (false≢true q)
+    by false q = refl
 
 -- none are: it is spacing, or has DE 0
 pub codes-none : (P : Strip → Type 0) (ch low high : ℕ) → showsCodes high ≡ false → ((left : ℕ) → P (Spacing left))

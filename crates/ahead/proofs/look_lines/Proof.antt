@@ -5,10 +5,8 @@ use mathlib.Core.Path.{refl, ap}
 use native.Mathlib.Omega.{arith}
 use borrow.Author.Needs.{needs}
 use denote.Ref.{now}
-use lib.ListN.{getD}
 use Rattle.walk.specs.Walk.{linesLeft}
-use Rattle.walk.proofs.Laws.{stripOf-some}
-use Rattle.ahead.specs.Looking.{Far, Kept}
+use Rattle.ahead.specs.Looking.{codesTo, Far, Kept}
 use Rattle.ahead.proofs.Looks.{SumSame, sum-start, sum-on, lines-here, lines-last, lines-found, lines-over}
 use Rattle.ahead.proofs.look_lines.Statement.{statement}
 use Rattle.ahead.proofs.look_lines.Tie as tie
@@ -18,7 +16,7 @@ Inv-loop ram marks₀ nearest sought all descriptor own p₀ left₀ near₀ mar
     (p < 512) × (Kept marks) × (Far ram sought near) × (SumSame ram sought marks₀ all descriptor marks left (2 * p))
 
 abbrev μ-loop : tie.MeasureT-loop
-μ-loop ram marks₀ nearest sought all descriptor own p₀ left₀ near₀ marks p left near = left
+μ-loop ram marks₀ nearest sought all descriptor own p₀ left₀ near₀ marks p left near = codesTo (sought .cell) (2 * p)
 
 loop-holds : tie.Need-loop-holds Inv-loop μ-loop
 loop-holds c =
@@ -29,7 +27,7 @@ loop-holds c =
 returns : tie.Need-returns Inv-loop μ-loop
 returns c =
     let l = c .before .before .loop in
-    lines-here (l .p) (l .inv .3) (l .inv .0) (l .near) (l .inv .1) (l .inv .2) (c .before .loop-test .taken) (c .if1 .taken)
+    lines-here (l .p) (l .inv .3) (l .inv .0) (c .before .before .before .before .before .pre .1 .0) (l .near) (l .inv .1) (l .inv .2) (c .before .loop-test .taken) (c .if1 .taken)
 
 look-strip-requires : tie.Need-look-strip-requires Inv-loop μ-loop
 look-strip-requires c κs =
@@ -45,7 +43,7 @@ returns-2 c =
     let n = d .before .before in
     let l = n .before .before .before .before .before .loop in
     let shorter : l .left ≤ linesLeft (d .of-descriptor .result) = omega (arith, ap linesLeft (d .of-descriptor .ensures), n .descriptor-lines .ensures, d .before .if2 .taken) in
-    lines-last (l .p) (l .inv .3) (l .inv .0) (d .of-descriptor .result) (d .of-descriptor .ensures) (n .before .before .before .before .loop-test .taken)
+    lines-last (l .p) (l .inv .3) (l .inv .0) (n .before .before .before .before .before .before .before .before .pre .1 .0) (d .of-descriptor .result) (d .of-descriptor .ensures) (n .before .before .before .before .loop-test .taken)
     (n .before .before .before .if1 .left) (l .left) (omega (arith, shorter)) (c .look-strip .ensures) shorter
 
 look-whole-requires : tie.Need-look-whole-requires Inv-loop μ-loop
@@ -58,16 +56,17 @@ returns-3 : tie.Need-returns-3 Inv-loop μ-loop
 returns-3 c =
     let n = c .before .before .before .before in
     let l = n .before .before .before .before .before .loop in
-    lines-found (l .p) (l .inv .3) (l .inv .0) _ refl (n .before .before .before .before .loop-test .taken) (n .before .before .before .if1 .left) _
+    lines-found (l .p) (l .inv .3) (l .inv .0) (n .before .before .before .before .before .before .before .before .pre .1 .0) _ refl (n .before .before .before .before .loop-test .taken) (n .before .before .before .if1 .left) _
     (omega (arith, n .descriptor-lines .ensures, c .before .before .before .if2 .left)) (c .before .look-whole .ensures) (c .if3 .taken)
 
+-- the cell's own descriptor is one nearer
 loop-less : tie.Need-loop-less Inv-loop μ-loop
 loop-less c =
     let n = c .before .before .before .before in
     let l = n .before .before .before .before .before .loop in
-    let a = n .before .before .before .before .before .before .before .before .args in
-    let some = stripOf-some (a .sought .settings .ch) (getD (now (a .ram)) (2 * l .p) 0) (getD (now (a .ram)) (2 * l .p + 1) 0) in
-    omega (arith, some, n .descriptor-lines .ensures, c .before .before .before .if2 .left, n .before .before .before .before .loop-test .taken)
+    let q = n .before .before .before .before .before .before .before .before .pre .1 .0 in
+    let e = n .before .before .before .if1 .left in
+    omega (arith, q .cell, l .inv .0, e)
 
 loop-again : tie.Need-loop-again Inv-loop μ-loop
 loop-again c =
@@ -78,14 +77,14 @@ loop-again c =
       w .kept,
       w .far,
       rw (n .descriptor-lines .ensures)
-          (sum-on (l .p) (l .inv .3) (l .inv .0) _ refl (n .before .before .before .before .loop-test .taken) (n .before .before .before .if1 .left) _
+          (sum-on (l .p) (l .inv .3) (l .inv .0) (n .before .before .before .before .before .before .before .before .pre .1 .0) _ refl (n .before .before .before .before .loop-test .taken) (n .before .before .before .if1 .left) _
           (omega (arith, n .descriptor-lines .ensures, c .before .before .before .if2 .left)) w (c .if3 .left)),
     )
 
 returns-4 : tie.Need-returns-4 Inv-loop μ-loop
 returns-4 c =
     let l = c .before .loop in
-    lines-over (l .p) (l .inv .3) (l .inv .0) (l .near) (l .inv .1) (l .inv .2) (omega (arith, c .loop-test .left))
+    lines-over (l .p) (l .inv .3) (l .inv .0) (c .before .before .before .before .pre .1 .0) (l .near) (l .inv .1) (l .inv .2) (omega (arith, c .loop-test .left))
 
 pub look-lines-spec : {M : Type 1} → statement M
 look-lines-spec =

@@ -26,23 +26,25 @@ returns c =
 
 returns-2 : tie.Need-returns-2
 returns-2 c =
-    let f = c .before .before .before .before in
+    let f = c .before .before .before .before .before in
     let a = f .before .before .before .before .before .before .args in
     let q = f .before .before .before .before .seek in
     let e = f .before .before .least .ensures ∙ ap (λ (x : ℕ). min x (a .left)) (f .before .before .before .lines-left .ensures) in
     rw (sym (q .ensures .0), sym (q .ensures .1))
-    (sym (found-later (now (a .ram)) (a .left) (a .walk) (q .result) _ e (f .look-strip .ensures) (c .before .look-lines .ensures) (c .before .before .before .if1 .left) (c .if2 .taken)))
+    (sym (found-later (now (a .ram)) (a .left) (a .walk) (q .result) _ e (f .look-strip .ensures) (rw (c .before .before .before .lines-to-look .ensures) at (c .before .look-lines .ensures))
+    (c .before .before .before .before .if1 .left) (c .if2 .taken)))
 
 returns-3 : tie.Need-returns-3
 returns-3 c =
-    let at-if = c .before .before .before .before .before in
+    let at-if = c .before .before .before .before .before .before in
     let f = at-if .before in
     let a = f .before .before .before .before .before .before .args in
     let q = f .before .before .before .before .seek in
     let e = f .before .before .least .ensures ∙ ap (λ (x : ℕ). min x (a .left)) (f .before .before .before .lines-left .ensures) in
     c .any-row .ensures
     ∙ rw (sym (q .ensures .0), sym (q .ensures .1))
-    (found-row (now (a .ram)) (a .left) (a .walk) (q .result) _ e (f .look-strip .ensures) (c .before .before .before .look-lines .ensures) (at-if .if1 .left) (c .before .before .if2 .left))
+    (found-row (now (a .ram)) (a .left) (a .walk) (q .result) _ e (f .look-strip .ensures) (rw (c .before .before .before .before .before .lines-to-look .ensures) at (c .before .before .before .look-lines .ensures))
+    (at-if .if1 .left) (c .before .before .if2 .left))
 
 pub reads-spec : {M : Type 1} → statement M
 reads-spec =
@@ -54,6 +56,7 @@ reads-spec =
     look-strip-requires
     returns
     (λ c. search needs)
+    (λ c κs. search needs)
     (λ c κs. search needs)
     returns-2
     (λ c κs. search needs)
