@@ -145,10 +145,12 @@ stripIn kind lines address line =
     (Spacing lines)
     (Characters address lines (eqb (kind / 2 % 2) 1) (eqb (kind / 4 % 2) 1) (record { 0 = line }))
 
--- with its strip as numbers
+-- with its strip as numbers. Beside the strip's kind stands whether the rest of the frame is plain (K9)
 abbrev pub frameWith : Frame → Packed → List ℕ
 frameWith f p =
-    f .number ∷ (wordBytes (f .left) ++ (wordBytes (f .walk .descriptor) ++ (p .kind ∷ p .lines ∷ (wordBytes (p .address) ++ wordBytes (p .line)))))
+    f .number
+    ∷ (wordBytes (f .left)
+    ++ (wordBytes (f .walk .descriptor) ++ ((p .kind + cond (f .walk .plain) 8 0) ∷ p .lines ∷ (wordBytes (p .address) ++ wordBytes (p .line)))))
 
 abbrev pub frameBytes : Frame → List ℕ
 frameBytes f = frameWith f (packed (f .walk .strip))
@@ -158,7 +160,12 @@ frameIn bytes =
     record {
       left = word bytes 1;
       number = getD bytes 0 0;
-      walk = record { descriptor = word bytes 3; strip = stripIn (getD bytes 5 0) (getD bytes 6 0) (word bytes 7) (word bytes 9) };
+      walk =
+          record {
+            descriptor = word bytes 3;
+            strip = stripIn (getD bytes 5 0) (getD bytes 6 0) (word bytes 7) (word bytes 9);
+            plain = eqb (getD bytes 5 0 / 8 % 2) 1;
+          };
     }
 
 -- ---- parts put in their places

@@ -194,6 +194,7 @@ fn frame_in(bytes: &[u8]) -> Frame
         walk: Walk {
             descriptor: buffers::word_at(bytes, 3),
             strip: strip_in(bytes[5], bytes[6], address, line),
+            plain: bytes[5] / 8 % 2 == 1,
         },
     }
 }
@@ -239,8 +240,16 @@ fn pack(strip: Strip) -> Packed
     }
 }
 
+// The plain rest of a frame, beside the strip's kind.
+fn plain_bit(plain: bool) -> u8
+    ensures { λ r. ⌜ r ≡ cond plain 8 0 ⌝ }
+{
+    if plain { 8 } else { 0 }
+}
+
 // With its strip as numbers.
 fn frame_bytes(frame: Frame, strip: Packed) -> [u8; FRAME_LENGTH]
+    requires { ⌜ strip .kind < 8 ⌝ }
     ensures { λ r. ⌜ r ≡ frameWith frame strip ⌝ }
 {
     let walk = frame.walk;
@@ -250,7 +259,7 @@ fn frame_bytes(frame: Frame, strip: Packed) -> [u8; FRAME_LENGTH]
         (frame.left / 256) as u8,
         (walk.descriptor % 256) as u8,
         (walk.descriptor / 256) as u8,
-        strip.kind,
+        strip.kind + plain_bit(walk.plain),
         strip.lines,
         (strip.address % 256) as u8,
         (strip.address / 256) as u8,
