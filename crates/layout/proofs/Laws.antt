@@ -1,6 +1,6 @@
 -- Reading back what was written: each part by itself, and the record with a part put in its place.
 -- Assumes nothing.
-use Prim.Native.Nat.{ℕ, _+_, _≤_, _<_}
+use Prim.Native.Nat.{ℕ, _+_, _/_, _%_, _≤_, _<_}
 use mathlib.Core.Path.{_≡_, refl, sym, ap, _∙_}
 use mathlib.Core.Bool.{Bool, true, false, cond}
 use mathlib.Core.List.{List, _++_, append-assoc}
@@ -55,20 +55,38 @@ state-back (Low high) = refl
 state-back Write = refl
 state-back Read = refl
 
-strip-back : (s : Strip) → stripIn (packed s .kind) (packed s .lines) (packed s .address) (packed s .line) ≡ s
-strip-back (Spacing left) = refl
-strip-back (Characters address height false false line) = refl
-strip-back (Characters address height false true line) = refl
-strip-back (Characters address height true false line) = refl
-strip-back (Characters address height true true line) = refl
+strip-back : (r : Bool) (s : Strip) → stripIn (packed r s .kind) (packed r s .lines) (packed r s .address) (packed r s .line) ≡ s
+strip-back false (Spacing left) = refl
+strip-back false (Characters address height false false line) = refl
+strip-back false (Characters address height false true line) = refl
+strip-back false (Characters address height true false line) = refl
+strip-back false (Characters address height true true line) = refl
+strip-back true (Spacing left) = refl
+strip-back true (Characters address height false false line) = refl
+strip-back true (Characters address height false true line) = refl
+strip-back true (Characters address height true false line) = refl
+strip-back true (Characters address height true true line) = refl
+
+plain-back : (r : Bool) (s : Strip) → eqb (packed r s .kind / 8 % 2) 1 ≡ r
+plain-back false (Spacing left) = refl
+plain-back false (Characters address height false false line) = refl
+plain-back false (Characters address height false true line) = refl
+plain-back false (Characters address height true false line) = refl
+plain-back false (Characters address height true true line) = refl
+plain-back true (Spacing left) = refl
+plain-back true (Characters address height false false line) = refl
+plain-back true (Characters address height false true line) = refl
+plain-back true (Characters address height true false line) = refl
+plain-back true (Characters address height true true line) = refl
 
 bus-back : (b : Bus) → busIn (busBytes b) ≡ b
 bus-back b = rw (state-back (b .state), word-read (b .counter))
 
 frame-back : (f : Frame) → frameIn (frameBytes f) ≡ f
 frame-back f =
-    let p = packed (f .walk .strip) in
-    rw (word-read (f .left), word-read (f .walk .descriptor), word-read (p .address), word-read (p .line), strip-back (f .walk .strip))
+    let w = f .walk in
+    let p = packed (w .plain) (w .strip) in
+    rw (word-read (f .left), word-read (w .descriptor), word-read (p .address), word-read (p .line), strip-back (w .plain) (w .strip), plain-back (w .plain) (w .strip))
 
 -- a state other than idle is read from its own number
 pub numbered : (n held k : ℕ) → stateNumber (stateOf n held) ≡ k → 0 < k → n ≡ k

@@ -133,11 +133,11 @@ nextIn bytes = getD bytes 0 0
 
 -- ---- the frame
 
--- the strip on screen as numbers
-abbrev pub packed : Strip → Packed
-packed (Spacing left) = record { kind = 0; lines = left; address = 0; line = 0 }
-packed (Characters address height zoom enabled line) =
-    record { kind = 1 + cond zoom 2 0 + cond enabled 4 0; lines = height; address = address; line = line .0 }
+-- the strip on screen as numbers. Its kind also says whether the rest of the frame is plain (K9)
+abbrev pub packed : Bool → Strip → Packed
+packed plain (Spacing left) = record { kind = cond plain 8 0; lines = left; address = 0; line = 0 }
+packed plain (Characters address height zoom enabled line) =
+    record { kind = 1 + cond zoom 2 0 + cond enabled 4 0 + cond plain 8 0; lines = height; address = address; line = line .0 }
 
 abbrev pub stripIn : ℕ → ℕ → ℕ → ℕ → Strip
 stripIn kind lines address line =
@@ -145,15 +145,13 @@ stripIn kind lines address line =
     (Spacing lines)
     (Characters address lines (eqb (kind / 2 % 2) 1) (eqb (kind / 4 % 2) 1) (record { 0 = line }))
 
--- with its strip as numbers. Beside the strip's kind stands whether the rest of the frame is plain (K9)
+-- with its strip as numbers
 abbrev pub frameWith : Frame → Packed → List ℕ
 frameWith f p =
-    f .number
-    ∷ (wordBytes (f .left)
-    ++ (wordBytes (f .walk .descriptor) ++ ((p .kind + cond (f .walk .plain) 8 0) ∷ p .lines ∷ (wordBytes (p .address) ++ wordBytes (p .line)))))
+    f .number ∷ (wordBytes (f .left) ++ (wordBytes (f .walk .descriptor) ++ (p .kind ∷ p .lines ∷ (wordBytes (p .address) ++ wordBytes (p .line)))))
 
 abbrev pub frameBytes : Frame → List ℕ
-frameBytes f = frameWith f (packed (f .walk .strip))
+frameBytes f = frameWith f (packed (f .walk .plain) (f .walk .strip))
 
 abbrev pub frameIn : List ℕ → Frame
 frameIn bytes =

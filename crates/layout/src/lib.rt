@@ -3,7 +3,7 @@
 ghost use mathlib.Core.Path.{_≡_};
 ghost use mathlib.Core.Bool.{cond};
 ghost use mathlib.Core.List.{_∷_};
-ghost use Prim.Native.Nat.{_+_};
+ghost use Prim.Native.Nat.{_+_, _≤_, _<_};
 ghost use lib.ListN.{length};
 ghost use Rattle.buffers.specs.Buffers.{wordBytes};
 ghost use Rattle.layout.specs.Layout.{busAt, busLength, registersLength, frameLength, recordLength, put, stateNumber, heldHigh, stateOf, busIn, registersIn, packed, stripIn, frameWith, frameIn, putBus, putRegisters, putNext, putFrame, deviceBytes, deviceIn};
@@ -37,7 +37,7 @@ const FRAME_LENGTH: usize = 11;
 
 // A strip as its bytes have it.
 pub struct Packed {
-    // 0 spacing; 1 characters, with 2 for ZY and 4 for DE
+    // 0 spacing; 1 characters, with 2 for ZY and 4 for DE; with 8 the rest of the frame is plain
     pub kind: u8,
     // spacing: lines left; characters: height
     pub lines: u8,
@@ -207,7 +207,7 @@ fn frame_of(device: &[u8]) -> Frame
 }
 
 fn kind_of(zoom: bool, enabled: bool) -> u8
-    ensures { λ r. ⌜ r ≡ 1 + cond zoom 2 0 + cond enabled 4 0 ⌝ }
+    ensures { λ r. ⌜ (r ≡ 1 + cond zoom 2 0 + cond enabled 4 0) × (r < 8) ⌝ }
 {
     if zoom {
         return if enabled { 7 } else { 3 };
@@ -215,12 +215,18 @@ fn kind_of(zoom: bool, enabled: bool) -> u8
     if enabled { 5 } else { 1 }
 }
 
-fn pack(strip: Strip) -> Packed
-    ensures { λ r. ⌜ r ≡ packed strip ⌝ }
+fn plain_bit(plain: bool) -> u8
+    ensures { λ r. ⌜ (r ≡ cond plain 8 0) × (r ≤ 8) ⌝ }
+{
+    if plain { 8 } else { 0 }
+}
+
+fn pack(plain: bool, strip: Strip) -> Packed
+    ensures { λ r. ⌜ r ≡ packed plain strip ⌝ }
 {
     match strip {
         Strip::Spacing { left } => Packed {
-            kind: 0,
+            kind: plain_bit(plain),
             lines: left,
             address: 0,
             line: 0,
@@ -232,7 +238,7 @@ fn pack(strip: Strip) -> Packed
             enabled,
             line,
         } => Packed {
-            kind: kind_of(zoom, enabled),
+            kind: kind_of(zoom, enabled) + plain_bit(plain),
             lines: height,
             address: address,
             line: line.0,
@@ -240,16 +246,8 @@ fn pack(strip: Strip) -> Packed
     }
 }
 
-// The plain rest of a frame, beside the strip's kind.
-fn plain_bit(plain: bool) -> u8
-    ensures { λ r. ⌜ r ≡ cond plain 8 0 ⌝ }
-{
-    if plain { 8 } else { 0 }
-}
-
 // With its strip as numbers.
 fn frame_bytes(frame: Frame, strip: Packed) -> [u8; FRAME_LENGTH]
-    requires { ⌜ strip .kind < 8 ⌝ }
     ensures { λ r. ⌜ r ≡ frameWith frame strip ⌝ }
 {
     let walk = frame.walk;
@@ -259,7 +257,7 @@ fn frame_bytes(frame: Frame, strip: Packed) -> [u8; FRAME_LENGTH]
         (frame.left / 256) as u8,
         (walk.descriptor % 256) as u8,
         (walk.descriptor / 256) as u8,
-        strip.kind + plain_bit(walk.plain),
+        strip.kind,
         strip.lines,
         (strip.address % 256) as u8,
         (strip.address / 256) as u8,
@@ -274,7 +272,7 @@ pub fn write_frame(device: &mut [u8], frame: Frame)
 {
     let walk = frame.walk;
     let strip = walk.strip;
-    let bytes = frame_bytes(frame, pack(strip));
+    let bytes = frame_bytes(frame, pack(walk.plain, strip));
     buffers::put(device, FRAME_AT, &bytes);
 }
 

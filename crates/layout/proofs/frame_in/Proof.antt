@@ -6,9 +6,9 @@ use Rattle.layout.proofs.frame_in.Tie as tie
 
 returns : tie.Need-returns
 returns c =
-    let k = c .before .before .before in
+    let k = c .before .before .before .before in
     let l = k .before .before in
-    rw (c .strip-in .ensures, k .word-at4 .ensures, l .word-at3 .ensures, l .before .word-at2 .ensures, l .before .before .word-at .ensures)
+    rw (c .before .strip-in .ensures, k .word-at4 .ensures, l .word-at3 .ensures, l .before .word-at2 .ensures, l .before .before .word-at .ensures)
 
 pub frame-in-spec : {M : Type 1} → statement M
 frame-in-spec =
@@ -22,4 +22,5 @@ frame-in-spec =
     (λ c. search needs)
     (λ c. search needs)
     (λ c κs. search needs)
+    (λ c. search needs)
     returns)
