@@ -63,7 +63,7 @@
  *     osd_bus(device, sizeof device, ram, sizeof ram, OSD_BYTE, 0x3F);
  *     osd_bus(device, sizeof device, ram, sizeof ram, OSD_BYTE, 0xF3);
  *     osd_bus(device, sizeof device, ram, sizeof ram, OSD_BYTE, 0x80);
- *     osd_bus(device, sizeof device, ram, sizeof ram, OSD_STOP, 0);      // and likewise the page's descriptors and codes
+ *     osd_bus(device, sizeof device, ram, sizeof ram, OSD_STOP, 0);      // and likewise the page: descriptors, a closing spacing, codes
  *     osd_frame_start(device, sizeof device, 288);
  *     for (int i = 0; i < 288; i++)
  *         if (OSD_REFUSAL(osd_draw(device, sizeof device, ram, sizeof ram, font, sizeof font, line, sizeof line)) == OSD_ACCEPTED)
@@ -189,10 +189,16 @@ typedef uint64_t osd_len;
  * Descriptors. Two bytes at an even address, low byte first. A frame's first lies at cell 64 * P, each next one 2 cells on, after
  * cell 1022 at cell 0. One is read at the first line of its strip.
  *
- *     spacing      low:   SL, the lines of the strip; 0 counts as 1
+ *     spacing      low:   SL, the lines of the strip; with SL 0 it is passed over, and the next is read at once, at the same line
  *                  high:  bit 7 is 0; the others do not count
  *     characters   low:   bits 7 to 0 of the code address; bit 0 counts as 0
  *                  high:  bit 7 is 1; bit 6 DE; bit 5 ZY; bits 4 to 2 do not count; bits 1, 0: bits 9, 8 of the code address
+ *
+ * If 512 descriptors in a row, read at one line, are passed over (a whole round of RAM), that line and the rest of the frame are plain, 0
+ * with OSD 0, and nothing more is read, whatever is written meanwhile, until the next frame start; OSD and FBK still count from line to
+ * line. So a page must close with spacing that lasts to the frame's end, several of up to 255 lines if need be: behind the last strip of a
+ * page that does not, zeros are passed over, and the frame goes on in whatever lies behind them. A RAM of zeros is plain; its first
+ * line reads all 1,024 cells.
  *
  * A strip of characters has CH lines, with ZY (zoom) twice as many. With DE 0 its lines are plain, and no code is read. Line j of
  * the strip, counted from 1, shows slice (36 * n + CH) / (2 * CH), rounded down, where n is j, or with ZY (j + 1) / 2 rounded down.
@@ -263,12 +269,13 @@ typedef uint64_t osd_len;
  *     21      frame number
  *     22, 23  lines of the frame left; 0: no frame, or all its lines drawn
  *     24, 25  address of the next descriptor
- *     26      strip on screen: bit 0 characters (else spacing), bit 1 ZY, bit 2 DE
+ *     26      strip on screen: bit 0 characters (else spacing), bit 1 ZY, bit 2 DE; bit 3: 512 descriptors in a row were passed over,
+ *             and no more are read: behind the strip on screen (spacing with no line left, if no bytes were corrupted) all is plain
  *     27      characters: height (CH as taken); spacing: lines left
  *     28, 29  characters: code address; spacing: 0
  *     30, 31  characters: scan line of the strip, from 1; spacing: 0
  *
- * Any bytes are some record: another bus state is idle; byte 1 is read in state 4 only, of byte 26 only bits 0 to 2, and bytes 28
+ * Any bytes are some record: another bus state is idle; byte 1 is read in state 4 only, of byte 26 only bits 0 to 3, and bytes 28
  * to 31 (like bits 1 and 2 of byte 26) for characters only. Of any record an acknowledged bus event writes bytes 0 and 1 anew, the
  * counter where it is set or goes up (it counts modulo 4000 hexadecimal), and a register that is stored, in its own byte; an unknown
  * slave address writes byte 0 alone, and no other refused event writes any.
@@ -337,7 +344,8 @@ uint32_t osd_frame_start(uint8_t *device, osd_len device_len, uint32_t lines);
 
 /*
  * Draws the frame's next line into `line`.
- * Refusals: OSD_NOT_TAKEN, OSD_RAM_LENGTH, OSD_FONT_LENGTH, OSD_NO_LINE, OSD_LINE_LENGTH. Value: how many RAM cells the line read.
+ * Refusals: OSD_NOT_TAKEN, OSD_RAM_LENGTH, OSD_FONT_LENGTH, OSD_NO_LINE, OSD_LINE_LENGTH. Value: how many RAM cells the line read, 1,268
+ * at the most.
  */
 uint32_t osd_draw(uint8_t *device, osd_len device_len, const uint8_t *ram, osd_len ram_len, const uint8_t *font, osd_len font_len,
                   uint8_t *line, osd_len line_len);

@@ -161,7 +161,7 @@ over-same ram s zero w b e q f = refl
 over-same ram s (suc n) w b e q f = rw (step-same (s .ch) w b (e (omega arith)) q f)
 
 -- in the plain rest nothing is read
-plain-none : (ram : List ℕ) (s : Settings) (n : ℕ) (w : Walk) → (1 ≤ n → over (w .strip) ≡ true) → w .plain ≡ true → cells ram (remaining s n w) ≡ []
+pub plain-none : (ram : List ℕ) (s : Settings) (n : ℕ) (w : Walk) → (1 ≤ n → over (w .strip) ≡ true) → w .plain ≡ true → cells ram (remaining s n w) ≡ []
 unfolding remaining cells over hasRow
 plain-none ram s zero w e q = refl
 plain-none ram s (suc n) w e q =

@@ -1,3 +1,4 @@
 pub mod Device
 pub mod FirstCells
 pub mod ReadCount
+pub mod ZeroSpacing

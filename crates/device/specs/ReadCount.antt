@@ -1,4 +1,4 @@
--- Document 01, "Pixels": the count that a draw reports, at most 1,268 (crate line's specs/Rules.antt has which cells those are).
+-- Document 01, "Pixels": the count that a draw reports, at most 1,268 by request K9 (crate line's specs/Rules.antt has which cells those are).
 -- For every device record, made-up ones too, and every RAM, font and line buffer; a refused draw has the value 0.
 -- Assumes nothing.
 use Prim.Native.Nat.{ℕ, _≤_}

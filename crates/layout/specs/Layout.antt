@@ -10,12 +10,12 @@
 --     21     frame number
 --     22, 23 lines of the frame left; 0: no frame, or all its lines drawn
 --     24, 25 address of the next descriptor
---     26     strip on screen: bit 0 characters (else spacing), bit 1 ZY, bit 2 DE
+--     26     strip on screen: bit 0 characters (else spacing), bit 1 ZY, bit 2 DE; bit 3: after it the rest of the frame is plain (K9)
 --     27     characters: height (CH as taken); spacing: lines left
 --     28, 29 characters: code address; spacing: 0
 --     30, 31 characters: scan line of the strip; spacing: 0
 --
--- Any 32 bytes are read as some record: another bus state is idle; byte 1 is read in state 4 only, of byte 26 only bits 0 to 2, and
+-- Any 32 bytes are read as some record: another bus state is idle; byte 1 is read in state 4 only, of byte 26 only bits 0 to 3, and
 -- bytes 28 to 31 (like bits 1 and 2 of byte 26) for characters only.
 -- Assumes nothing.
 use Prim.Native.Nat.{ℕ, _+_, _/_, _%_, _≤_}

@@ -1,6 +1,6 @@
 -- Request K4: the slices with which a line's codes are looked up.
--- For every record of settings and every walk, made-up ones too: where a strip has no line left the next descriptor is read, so a line is
--- always one of its strip's.
+-- For every record of settings and every walk, made-up ones too: where a strip has no line left the next is read, or the rest of the frame is
+-- plain (K9), so a line of characters is always one of its strip's.
 -- Assumes nothing.
 use Prim.Native.Nat.{ℕ}
 use mathlib.Core.Path.{_≡_}

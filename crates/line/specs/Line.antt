@@ -1,5 +1,5 @@
 -- Document 01, "Codes and glyphs" along a row, and "Pixels", as request K7 mends it: a line is scanned, then painted.
--- `scan` reads descriptor, codes and user slices and no font, so the cells that a line reads are known without one.
+-- `scan` reads descriptors, codes and user slices and no font, so the cells that a line reads are known without one.
 -- `paint` makes the line's W pixels of what was scanned.
 -- Assumes nothing.
 use Prim.Native.Nat.{ℕ, zero, suc, _-_, min}
@@ -58,7 +58,7 @@ codes = codesBy glyphOf
 abbrev pub shownRow : Settings → Strip → Reading (List Place)
 shownRow = shownBy glyphOf
 
--- a line reads its descriptor, with OSD 0 too, and then its row, over any way to read a row
+-- a line reads its descriptors, if any, with OSD 0 too, and then its row, over any way to read a row
 unfoldable pub scanBy : (Settings → Strip → Reading (List Place)) → Settings → Walk → Reading Scanned
 scanBy row s w = bind (nextLine (s .ch) w) λ v. fmap (λ places. record { walk = v; row = places }) (row s (v .strip))
 

@@ -1,5 +1,5 @@
 -- Document 01, "Pixels": how many cells a line reads and which, and how many pixels it has and which.
--- For every record of registers and every walk, made-up ones too: the walk's next line brings any strip to one of its lines.
+-- For every record of registers and every walk, made-up ones too: the walk's next line is one of its strip's lines, or plain with no strip (K9).
 -- Assumes nothing.
 use Prim.Native.Nat.{ℕ, _*_, _≤_, _<_}
 use mathlib.Core.Path.{_≡_}

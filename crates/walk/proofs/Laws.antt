@@ -3,6 +3,7 @@
 use Prim.Native.Nat.{ℕ, zero, suc, _+_, _-_, _*_, _≤_, _<_}
 use mathlib.Core.Path.{_≡_, refl, sym, ap, ap₂, _∙_}
 use mathlib.Core.Bool.{Bool, true, false, cond, _&&_, false≢true}
+use native.Mathlib.Nat.{zero-add, add-zero}
 use native.Mathlib.Omega.{arith}
 use borrow.Author.Tests.{eqb-true, eqb-false, eq-eqb, ne-eqb}
 use mathlib.Core.List.{List, [], _∷_}
@@ -10,7 +11,7 @@ use lib.Dec.{eqb}
 use lib.ListN.{length, getD}
 use Rattle.limits.specs.Limits.{ramLength, ramPairs}
 use Rattle.facts.proofs.Choice.{either}
-use Rattle.cells.specs.Reading.{Role, descriptor, done, read, fmap, value, cells}
+use Rattle.cells.specs.Reading.{Role, descriptor, Reading, done, read, fmap, value, cells}
 use Rattle.cells.proofs.Laws.{value-fmap, cells-fmap}
 use Rattle.cells.proofs.Bounds.{Only, only-fmap}
 use Rattle.cells.proofs.Counts.{Few, few-done, few-fmap, two, few-two}
@@ -168,6 +169,50 @@ unfolding nextStrip
 nextStrip-even n ch a b p =
     let e : next a ≡ next b = sym (next-even a) ∙ ap next p ∙ next-even b in
     ap₂ (λ (x y : ℕ). read descriptor x λ low. read descriptor (x + 1) λ high. cond (passedOver low high) (nextStrip n ch y) (done (walkAt y (stripOf ch low high)))) p e
+
+-- k that are passed over, one after the other
+module _ (ram : List ℕ) (ch : ℕ) where
+  abbrev PassedRun : ℕ → ℕ → Type 0
+  PassedRun k a = (i : ℕ) → i < k → passedAt ram (a + 2 * i) ≡ true
+
+  run-on : (k a : ℕ) → PassedRun (suc k) a → PassedRun k (next a)
+  run-on k a h i l =
+      let e : even (next a + 2 * i) ≡ even (a + 2 * suc i) = omega arith in
+      ap (λ (x : ℕ). passedOver (getD ram x 0) (getD ram (x + 1) 0)) e ∙ h (suc i) (omega arith)
+
+  run-first : (k a : ℕ) → PassedRun (suc k) a → passedAt ram a ≡ true
+  run-first k a h = let e : even a ≡ even (a + 2 * 0) = omega arith in ap (λ (x : ℕ). passedOver (getD ram x 0) (getD ram (x + 1) 0)) e ∙ h 0 (omega arith)
+
+  run-more : (k n : ℕ) → suc k + suc n ≡ suc (k + suc n)
+  run-more k n = omega arith
+
+  pub run-value : (k n a : ℕ) → PassedRun k a → value ram (nextStrip (k + suc n) ch a) ≡ value ram (nextStrip (suc n) ch (a + 2 * k))
+  run-value zero n a h = ap₂ (λ (m x : ℕ). value ram (nextStrip m ch x)) (zero-add (suc n)) (sym (add-zero a))
+  run-value (suc k) n a h =
+      ap (λ (m : ℕ). value ram (nextStrip m ch a)) (run-more k n)
+      ∙ pass-value ram (k + suc n) ch a (run-first k a h)
+      ∙ run-value k n (next a) (run-on k a h)
+      ∙ ap (value ram) (nextStrip-even n ch (next a + 2 * k) (a + 2 * suc k) (omega arith))
+
+  pub run-cells : (k n a : ℕ) → PassedRun k a
+      → length (cells ram (nextStrip (k + suc n) ch a)) ≡ 2 * k + length (cells ram (nextStrip (suc n) ch (a + 2 * k)))
+  run-cells zero n a h =
+      ap₂ (λ (m x : ℕ). length (cells ram (nextStrip m ch x))) (zero-add (suc n)) (sym (add-zero a)) ∙ sym (zero-add _)
+  run-cells (suc k) n a h =
+      let more = ap (λ (m : ℕ). length (cells ram (nextStrip m ch a))) (run-more k n) in
+      let pass = ap length (pass-cells ram (k + suc n) ch a (run-first k a h)) in
+      let rest = run-cells k n (next a) (run-on k a h) in
+      let same = ap (λ (p : Reading Walk). length (cells ram p)) (nextStrip-even n ch (next a + 2 * k) (a + 2 * suc k) (omega arith)) in
+      omega (arith, more, pass, rest, same)
+
+  -- all 512: a whole round of RAM
+  pub all-value : (a : ℕ) → PassedRun ramPairs a → value ram (nextStrip ramPairs ch a) ≡ plainRest (next (a + 2 * 511))
+  unfolding nextStrip value
+  all-value a h = run-value 511 0 a (λ i l. h i (omega arith)) ∙ pass-value ram 0 ch (a + 2 * 511) (h 511 (omega arith))
+
+  pub all-cells : (a : ℕ) → PassedRun ramPairs a → length (cells ram (nextStrip ramPairs ch a)) ≡ ramLength
+  unfolding nextStrip cells
+  all-cells a h = omega (arith, run-cells 511 0 a (λ i l. h i (omega arith)), ap length (pass-cells ram 0 ch (a + 2 * 511) (h 511 (omega arith))))
 
 -- n descriptors at the most, two cells each at an even address; and the strip has a line, or the rest of the frame is plain
 abbrev Begun : Walk → Type 0

@@ -27,7 +27,7 @@ next a = even (a + 2)
 abbrev pub readPair : {A : Type 0} → Role → ℕ → (ℕ → ℕ → Reading A) → Reading A
 readPair r a k = read r (even a) λ low. read r (even a + 1) λ high. k low high
 
--- a page nextStrip at P times 64
+-- a page begins at P times 64
 abbrev pub pageAddress : ℕ → ℕ
 pageAddress p = p * 64
 
@@ -37,7 +37,7 @@ pageAddress p = p * 64
 abbrev pub walkAt : ℕ → Strip → Walk
 walkAt a t = record { descriptor = a; strip = t; plain = false }
 
--- the walk where 512 descriptors in a row were passed over (K9): no strip has a line, and the rest of the frame is plain
+-- the walk where 512 descriptors in a row were passed over (K9): no strip is on screen, and that line and the rest of the frame are plain
 abbrev pub plainRest : ℕ → Walk
 plainRest a = record { descriptor = a; strip = Spacing 0; plain = true }
 
@@ -94,8 +94,8 @@ unfoldable pub linesLeft : Strip → ℕ
 linesLeft (Spacing left) = left
 linesLeft (Characters address height zoom enabled line) = linesAfter line height zoom
 
--- the descriptors from an address on, read at one line: those that are passed over, and the next at once, which nextStrip its strip. CH is taken
--- there. n is how many are read in a row; where all of them are passed over, that line and the rest of the frame are plain (K9)
+-- the descriptors from an address on, read at one line: those that are passed over, and the next at once, which begins its strip. CH is taken
+-- there. n is how many are read in a row at the most; where all n are passed over, that line and the rest of the frame are plain (K9)
 unfoldable pub nextStrip : (n ch a : ℕ) → Reading Walk
 nextStrip zero ch a = done (plainRest a)
 nextStrip (suc n) ch a =

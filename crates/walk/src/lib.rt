@@ -7,7 +7,7 @@ ghost use Rattle.walk.specs.Walk.{even, next, walkFrom, isSpacing, enabl
 ghost use Rattle.walk.specs.declared.Strip.the-variants.{Spacing};
 use raster::ScanLine;
 
-// The strip on screen. One with no line left gives way to the next descriptor at the next line.
+// The strip on screen. One with no line left gives way at the next line: to the next strip, or to the plain rest of the frame.
 pub enum Strip {
     Spacing {
         // lines still to come
