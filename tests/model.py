@@ -113,17 +113,8 @@ class Device:
             cells.append(a)
             return ram[a]
 
-        if self.line_of_strip == self.strip_lines:
-            low, high = read(self.descriptor), read(self.descriptor | 1)
-            self.descriptor = (self.descriptor + 2) & 1023
-            self.line_of_strip = 0
-            if high & 0x80:
-                self.kind, self.shown, self.zoom = 'characters', high >> 6 & 1, high >> 5 & 1
-                self.codes = ((high & 3) << 8 | low) & 0x3FE
-                self.height = self.registers[2] & 63 or 1
-                self.strip_lines = self.height << self.zoom
-            else:
-                self.kind, self.strip_lines = 'spacing', low or 1
+        if self.kind != 'rest' and self.line_of_strip == self.strip_lines:
+            self.next_strip(read)
         self.line_of_strip += 1
         self.left -= 1
 
@@ -132,7 +123,7 @@ class Device:
             return [0] * width
         plain = 8 if control & 0x40 else 0
         line = [plain] * width
-        if self.kind == 'spacing' or not self.shown:
+        if self.kind != 'characters' or not self.shown:
             return line
         n = -(-self.line_of_strip // 2) if self.zoom else self.line_of_strip
         s = max(1, math.floor(Fraction(18 * n, self.height) + Fraction(1, 2)))      # 1 to 18: request K2 takes 0 as 1
@@ -165,6 +156,24 @@ class Device:
             before = row[11]
             x += 12
         return line
+
+    def next_strip(self, read):
+        """Reads descriptors up to that of the line's strip. By request K9 a spacing of 0 lines is passed over; behind 512 of them in a
+        row stands the plain rest of the frame, which reads no more."""
+        self.line_of_strip = 0
+        for _ in range(512):
+            low, high = read(self.descriptor), read(self.descriptor | 1)
+            self.descriptor = (self.descriptor + 2) & 1023
+            if high & 0x80:
+                self.kind, self.shown, self.zoom = 'characters', high >> 6 & 1, high >> 5 & 1
+                self.codes = ((high & 3) << 8 | low) & 0x3FE
+                self.height = self.registers[2] & 63 or 1
+                self.strip_lines = self.height << self.zoom
+                return
+            if low > 0:
+                self.kind, self.strip_lines = 'spacing', low
+                return
+        self.kind = 'rest'
 
     # ---- cell question: (refusal, 1 or 0)
 
@@ -201,13 +210,17 @@ def pixel(registers, ram, font, lines, frame, x, y):
     if from_first < 0:
         return (0, plain)
 
-    # the strip, and in `end` its last line, counted from 1
+    # the RAM stays put, so that 512 descriptors in a row are all it has: by request K9, spacings of 0 lines alone leave all plain
+    if all(ram[a] == 0 and ram[a + 1] < 0x80 for a in range(0, 1024, 2)):
+        return (0, plain)
+
+    # the strip, and in `end` its last line, counted from 1; a spacing has as many lines as it says, and with 0 of them none
     ch = max(registers[2] % 64, 1)
     at, end = 64 * (registers[3] % 8), 0
     while True:
         low, high = ram[at], ram[at + 1]
         if high < 0x80:
-            height = max(low, 1)
+            height = low
         else:
             height = 2 * ch if high & 0x20 else ch
         end += height
