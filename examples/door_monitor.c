@@ -158,11 +158,14 @@ int main(void)
     /* from register 3FF0 on: LD, DD 4 (characters from pixel 36), CH 18, OSD on with page 0 */
     static const uint8_t settings[] = {OSD_START, 0, OSD_BYTE, OSD_SLAVE_WRITE, OSD_BYTE, 0x3F, OSD_BYTE, 0xF0,
                                        OSD_BYTE, 6, OSD_BYTE, 4, OSD_BYTE, 18, OSD_BYTE, 0x80, OSD_STOP, 0};
-    /* page 0, at cell 0: a spacing line, then a row of characters at cell 512: O and K in white on blue, and the end of the line */
-    static const uint8_t page_0[] = {1, 0x00, 0x00, 0xC2};
+    /*
+     * Page 0, at cell 0: a spacing line, then a row of characters at cell 512: O and K in white on blue, and the end of the line. A
+     * spacing to the frame's end closes it, lest the frame go on into whatever the RAM has behind it.
+     */
+    static const uint8_t page_0[] = {1, 0x00, 0x00, 0xC2, 255, 0x00};
     static const uint8_t text_0[] = {0x71, 'O', 0x71, 'K', 0x00, 0xFF};
     /* page 1, at cell 64: the same with the row at cell 600, K and O */
-    static const uint8_t page_1[] = {1, 0x00, 0x58, 0xC2};
+    static const uint8_t page_1[] = {1, 0x00, 0x58, 0xC2, 255, 0x00};
     static const uint8_t text_1[] = {0x71, 'K', 0x71, 'O', 0x00, 0xFF};
     /* P 1, with OSD, FBK and FL as they are */
     static const uint8_t to_page_1[] = {0x81};

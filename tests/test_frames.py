@@ -192,7 +192,8 @@ class Numbers:
 
 @case
 def power_up():
-    # the very first draw has no frame; then the reset values draw 768 zeros and read one descriptor
+    # the very first draw has no frame; then the reset values draw 768 zeros. RAM of zeros is 512 spacings of 0 lines: the first line
+    # reads them all, and the others nothing
     lend(768)
     draw(way=DIGEST)
     start(3)
@@ -704,6 +705,7 @@ def first_cells_as_descriptors_and_codes():
 
 @case
 def every_height():
+    fill(ram, 1)            # behind the strips stand spacings of one line
     for s in range(19):
         user(4, s, s << 6 | 0b100001)
     codes(400, (0x70, 0x84), (0x61, 0x09), (0x4A, 0x41))
@@ -865,7 +867,7 @@ def every_high_byte():
 
 @case
 def spacing_strips():
-    # of 1, 0 (one line), 3 and 255 lines, each followed by characters; the high byte's other bits play no part
+    # of 1, 0 (passed over), 3 and 255 lines, each followed by characters; the high byte's other bits play no part
     codes(128, (0x73, 0x81))
     user(1, 18, 0b101100111000)
     a = strip(0, 128)
@@ -875,8 +877,8 @@ def spacing_strips():
     cell(a, 255, 0x20)
     strip(a + 2, 128)
     settings(ch=1, fbk=1)
-    start(300)
-    draw(14)
+    start(268)
+    draw(12)
     draw(252, SUM)
     show_sum()
     draw(4)
@@ -895,7 +897,8 @@ def a_height_change_leaves_a_spacing_strip():
 
 @case
 def osd_and_fbk_change_between_lines():
-    # OSD 0: zeros, descriptors read and nothing else, and the strip goes on underneath
+    # OSD 0: zeros, descriptors read and nothing else, and the strip goes on underneath; spacings of one line behind the strips
+    fill(ram, 1)
     codes(128, (0x73, 0x81), (0x4A, 0x41))
     for s in range(19):
         user(1, s, 0b100000000000 | s << 3)
@@ -928,6 +931,7 @@ def other_settings_change_between_lines():
 @case
 def height_changes_in_mid_strip():
     # the strip keeps the CH of its first line, for its end and for its slices; the next strip takes the new one
+    fill(ram, 1)            # behind the strips stand spacings of one line
     for s in range(19):
         user(1, s, 0b100000000000 | s << 3)
     codes(128, (0x73, 0x81))
@@ -987,6 +991,7 @@ def a_page_change_in_a_frame():
 @case
 def descriptors_over_cell_1023():
     # from page 7 on, 288 spacing strips of one line reach cell 1022; cell 0 comes next
+    fill(ram, 1)
     codes(100, (0x71, 0x41), (0x62, 0x42))
     codes(110, (0x53, 0x43))
     strip(1020, 100)

@@ -306,7 +306,7 @@ do('bitmap')    # no frame
 page(3)
 frame(60, 0)
 do('bitmap')
-for n in (2, 1, 1, 9, 1, 6, 8, 20, 10, 1, 1, 1):    # rows end behind 13, 33 (zoom), 44 and 54 lines; 59: one is left
+for n in (2, 1, 1, 9, 1, 6, 8, 20, 10, 1, 1, 1):    # rows end behind 13, 33 (zoom), 43 and 53 lines; 59: one is left
     do('draws', n)
     do('bitmap')
 do('say')
