@@ -884,6 +884,465 @@ def spacing_strips():
     draw(4)
 
 
+# spacings of 0 lines (request K9); RAM is all such, but for what a case puts there
+
+def shown(*counts):
+    """Draws a line for each of these read counts, known by hand; the model must count them."""
+    for count in counts:
+        draw()
+        assert output[-1].split()[:2] == ['0', str(count)], (count, output[-1])
+
+
+def zero_spacings(a, n, high=0):
+    """So many, in cells that have other bytes."""
+    for _ in range(n):
+        cell(a, 0, high)
+        a = (a + 2) % 1024
+    return a
+
+
+@case
+def zero_spacings_at_the_frame_start():
+    # passed over, and the next descriptor is read at once: 1 or 2 of them and a strip, which has all its lines, or a spacing
+    settings(ld=3, ch=2, p=3)
+    for n in (1, 2):
+        fill(ram, 0)
+        codes(600, (0x71, 0x41))
+        spacing(strip(192 + 2 * n, 600), 3)
+        start(5)
+        ask(190, 12)
+        shown(2 * n + 2 + 2)
+        ask(190, 12)
+        shown(2, 2, 0, 0)
+        spacing(192 + 2 * n, 2)
+        start(3)
+        shown(2 * n + 2, 0)
+        ask(190, 12)
+        shown(2)
+    # 511 and a strip, which they lead to once more each time that it ends, whatever was passed over at lines before; its code is one
+    # of them, a black character
+    fill(ram, 0)
+    strip(190, 600)
+    start(7)
+    ask(188, 6)
+    shown(1024 + 2, 2)
+    ask(188, 6)
+    shown(1024 + 2, 2, 1024 + 2)
+    ask(188, 6)
+    shown(2)
+    ask(188, 6)
+    shown(1024 + 2)
+    ask(188, 6)
+    spacing(190, 2)
+    start(4)
+    shown(1024, 0, 1024, 0)
+    # 512: that line and the rest are plain, and nothing more is read
+    fill(ram, 0)
+    start(4)
+    for a in (0, 188, 1020):
+        ask(a, 6)
+    shown(1024)
+    for a in (0, 188, 1020):
+        ask(a, 6)
+    shown(0, 0, 0)
+    draw()
+
+
+@case
+def zero_spacings_between_strips():
+    # 1 and 2 of them, before strips and spacings of every kind
+    codes(600, (0x71, 0x41))
+    codes(604, (0x12, 0x42))
+    a = strip(strip(0, 600) + 2, 604, zy=1)
+    a = spacing(a + 4, 1)
+    a = strip(a + 2, 600, de=0)
+    a = strip(a + 4, 604)
+    spacing(a, 9)
+    settings(ld=3, ch=2)
+    start(12)
+    ask(a - 8, 8)
+    shown(4, 2, 6, 2, 2, 2, 6, 4, 0)
+    ask(a - 8, 8)
+    shown(8)
+    ask(a - 8, 8)
+    shown(2, 2)
+    # hundreds of them: what was passed over at one line does not count at the next
+    fill(ram, 0)
+    for at in (2, 602, 1020):
+        strip(at, 700)
+    settings(ld=3, ch=1, p=1)
+    start(9)
+    shown(*[2 * n + 2 + 2 for n in (269, 208, 2, 299, 208, 2, 299, 208, 2)])
+
+
+@case
+def zero_spacings_at_the_last_line():
+    # passed over there as at any other line; but nothing is read ahead, and those behind the last line's strip are not read
+    codes(600, (0x71, 0x41))
+    settings(ld=3, ch=2)
+    for n in (1, 2):
+        strip(strip(0, 600) + 2 * n, 600)
+        for lines in (1, 2, 3, 4):
+            start(lines)
+            for count in (4, 2, 2 * n + 4, 2)[:lines]:
+                ask(0, 12)
+                shown(count)
+            ask(0, 12)
+        cell(2 + 2 * n, 0, 0)
+    # a spacing strip and those behind it
+    spacing(0, 3)
+    start(3)
+    ask(0, 6)
+    shown(2, 0)
+    ask(0, 6)
+    shown(0)
+    # 511 and the strip that was shown; 512, as the strip's descriptor is taken away behind its last line
+    fill(ram, 0)
+    strip(0, 600)
+    for high in (0xC2, 0x42):
+        start(3)
+        shown(4, 2)
+        cell(0, 0, high)
+        ask(0, 4)
+        shown(1024 + 2 if high & 0x80 else 1024)
+        ask(0, 4)
+        draw()
+    # a frame of one line
+    start(1)
+    shown(1024)
+    draw()
+
+
+@case
+def zero_spacings_over_cell_1023():
+    # from page 7 on spacings of one line, 286 or more of them, and then some of 0 lines up to cell 1023 or beyond it
+    settings(ld=3, ch=1, p=7)
+    for first, n in ((1022, 1), (1022, 2), (0, 1), (1020, 4)):
+        fill(ram, 1)
+        codes(300, (0x71, 0x41))
+        strip(zero_spacings(first, n, high=n), 300)
+        before = (first - 448) % 1024 // 2
+        start(before + 2)
+        draw(before - 1, SUM)
+        ask(1020, 4)
+        ask(0, 6)
+        shown(2)
+        ask(1020, 4)
+        ask(0, 6)
+        shown(2 * n + 4)
+        ask(1020, 4)
+        ask(0, 6)
+        shown(2)
+        show_sum()
+    # once round, from pages 0, 1 and 7 on: 511 and a strip, or 512
+    for p in (0, 1, 7):
+        fill(ram, 0)
+        last = (64 * p - 2) % 1024
+        strip(last, 300)
+        settings(ld=3, ch=1, p=p)
+        start(2)
+        shown(1024 + 2, 1024 + 2)
+        cell(last, 0, 0x7F)
+        start(2)
+        shown(1024, 0)
+
+
+@case
+def high_bits_of_zero_spacings():
+    # bits 6 to 0 do not matter, alone and all; with bit 7 a low byte of 0 is a code address, and its strip is not passed over
+    codes(600, (0x71, 0x41))
+    spacing(strip(2, 600), 9)
+    settings(ld=3, ch=1)
+    for high in (0x01, 0x02, 0x04, 0x08, 0x10, 0x20, 0x40, 0x60, 0x43, 0x7F, 0x80, 0xA0, 0xC0, 0xFF):
+        cell(0, 0, high)
+        start(3)
+        ask(0, 4)
+        if high < 0x80:
+            shown(6, 2, 0)
+        else:
+            draw(3)
+    # a low byte of 1 is a line, whatever the high byte
+    for high in (0x00, 0x7F, 0x40):
+        cell(0, 1, high)
+        start(2)
+        shown(2, 4)
+    # each of them among the 512
+    fill(ram, 0)
+    for i in range(512):
+        cell(2 * i + 1, i % 127 + 1)
+    settings(ld=3, ch=1, p=5)
+    start(3)
+    shown(1024)
+    ask(318, 4)
+    shown(0, 0)
+    # and a strip with the low byte 0 as the last of the 512, with DE 0 and DE 1
+    for high in (0x80, 0xC0):
+        cell(319, high)
+        start(3)
+        shown(*[1024 + (2 if high & 0x40 else 0)] * 3)
+
+
+@case
+def zero_spacings_with_osd_0():
+    # their cells are read all the same, and the strip goes on underneath; behind 512 every pixel is 0, with FBK 1 too
+    codes(600, (0x71, 0x41))
+    spacing(strip(strip(4, 600) + 2, 600, zy=1), 9)
+    settings(ld=3, ch=2, osd=0, fbk=1)
+    start(8)
+    ask(0, 12)
+    shown(6)
+    ask(0, 12)
+    shown(0, 4)
+    control(osd=1, fbk=1)
+    shown(2)
+    control(osd=0)
+    shown(0)
+    fill(ram, 0)
+    strip(62, 600)
+    settings(ld=3, ch=1, osd=0, p=1)
+    start(4)
+    shown(1024, 1024)
+    control(p=1)
+    shown(1024 + 2)
+    control(osd=0, fbk=1, p=1)
+    shown(1024)
+    cell(63, 0)
+    start(6)
+    ask(60, 6)
+    shown(1024)
+    ask(60, 6)
+    shown(0)
+    control(osd=1, fbk=1)
+    shown(0)
+    control(osd=0, fbk=1)
+    shown(0)
+    control(osd=1, fbk=0)
+    shown(0)
+    ask(60, 6)
+    shown(0)
+
+
+def a_strip_for_page_2():
+    """Over the bus: it stands where the walk began, at page 2 and everywhere else that it could go on from."""
+    for a in (0, 126, 128, 130):
+        write(a, 0x00)
+        write(a + 1, 0xC3)
+    for a, x in ((768, 0x71), (769, 0x41)):
+        write(a, x)
+
+
+@case
+def the_plain_rest_of_a_frame():
+    # whatever is written, and whatever is refused: no more is read. OSD, FBK and LD are still read at each line
+    settings(ld=3, ch=2, fbk=1, p=2)
+    start(24)
+    shown(1024, 0)
+    control(fbk=0, p=2)
+    shown(0)
+    control(fbk=1, p=2)
+    shown(0)
+    control(osd=0, fbk=1, p=2)
+    shown(0)
+    control(fbk=1, p=2)
+    shown(0)
+    a_strip_for_page_2()
+    for a in (0, 126, 768):
+        ask(a, 6)
+    shown(0, 0)
+    write(0x3FF2, 1)
+    shown(0)
+    write(0x3FF0, 4)
+    draw()                      # refused: the line is too short
+    lend(62)
+    shown(0)
+    lend(61, 1023)
+    draw()
+    lend(61, 1024, 4607)
+    draw()
+    lend(61)
+    shown(0)
+    for lines in (0, 2049):
+        start(lines)            # refused: the frame goes on
+        shown(0)
+    control(osd=1, fbk=0, p=0)
+    shown(0)
+    noise(ram, 9)
+    ask(0, 6)
+    shown(0)
+    for x in (0xC1, 1, 0):      # nothing but strips, spacings of one line, and as it was
+        fill(ram, x)
+        shown(0)
+    ask(126, 6)
+    draw(8)                     # the last six lines, and two that are refused
+
+
+@case
+def frame_starts_after_the_plain_rest():
+    # the next start reads from its page on: a strip that was written meanwhile, or 512 once more; in the rest and behind it
+    settings(ld=3, ch=2, fbk=1, p=2)
+    start(5)
+    shown(1024, 0)
+    a_strip_for_page_2()
+    ask(126, 6)
+    shown(0)
+    start(3)
+    ask(126, 6)
+    shown(4, 2, 4)
+    draw()
+    fill(ram, 0)
+    start(2)
+    shown(1024, 0)
+    draw()
+    ask(126, 6)
+    start(3)
+    shown(1024, 0)
+    strip(60, 768)
+    control(p=1)                # another page, from behind the strip on
+    shown(0)
+    start(3)
+    ask(58, 6)
+    shown(2 * 511 + 2, 2, 1024 + 2)
+    # a frame that is plain has its number all the same: mode 2 shows frame 15, and hides frame 16
+    reset()
+    settings(ld=3, ch=2, fl=2)
+    fill(ram, 0)
+    start(2, times=14)
+    start(2)
+    shown(1024, 0)
+    codes(768, (0xF1, 0x41))
+    strip(2, 768)
+    for _ in range(2):
+        start(2)
+        shown(6, 2)
+
+
+@case
+def reset_in_the_plain_rest():
+    # stops the frame, and the next start reads again
+    for strip_written in (False, True, False):
+        settings(ld=3, ch=2, p=2)
+        start(9)
+        shown(1024, 0)
+        if strip_written:
+            a_strip_for_page_2()
+        reset()
+        draw()
+        ask(0, 4)
+        settings(ld=3, ch=2, p=2)
+        draw()
+        start(3)
+        ask(126, 6)
+        shown(*((4, 2, 4) if strip_written else (1024, 0, 0)))
+        fill(ram, 0)
+
+
+@case
+def zero_spacings_after_a_strip_shown():
+    # 512 behind a strip of characters, with zoom and without, and behind a spacing: all other descriptors are taken away while it is
+    # shown, and its own too, but it goes on to its end
+    settings(ld=3, ch=2)
+    for data, lines in (((0x58, 0xC2), 2), ((0x58, 0xE2), 4), ((3, 0x00), 3), ((0x58, 0x82), 2)):
+        codes(600, (0x71, 0x41))
+        spacing(strip(100, 600), 255)
+        cell(0, *data)
+        start(lines + 3)
+        ask(0, 4)
+        draw()
+        fill(ram, 0)
+        ask(0, 4)
+        draw(lines - 1)
+        ask(0, 4)
+        shown(1024)
+        ask(0, 4)
+        strip(2, 600)           # where the walk stands, and behind it
+        strip(4, 600)
+        ask(0, 6)
+        shown(0, 0)
+        fill(ram, 0)
+    # not if one of them is written anew in time, whichever it is
+    for a in (2, 4, 500, 1022, 0):
+        fill(ram, 0)
+        strip(0, 600)
+        start(3)
+        shown(4, 2)
+        cell(0, 0, 0)
+        strip(a, 600)
+        ask(a, 4)
+        shown(2 * ((a - 2) % 1024 // 2 + 1) + 2)
+
+
+@case
+def zero_spacings_and_a_height_of_0():
+    # CH 0 counts as 1, also behind those that are passed over; CH is taken at the line that passes over them
+    codes(600, (0x71, 0x41))
+    spacing(strip(strip(2, 600) + 4, 600, zy=1), 9)
+    settings(ld=3, ch=0)
+    start(6)
+    shown(6, 8, 2, 2)
+    start(9)
+    write(0x3FF2, 3)
+    shown(6)
+    write(0x3FF2, 0)
+    shown(2, 2, 8)
+    write(0x3FF2, 5)
+    shown(2, 2)
+
+
+@case
+def most_reads_with_zero_spacings():
+    # 512 descriptors, 511 of them of 0 lines, and 61 codes: 1,146 cells. A user character's code is no spacing: the 60 user slices
+    # cost as many descriptors
+    strip(126, 300)
+    settings(ld=63, ch=1, p=2)
+    start(2)
+    draw(2, DIGEST)
+    assert output[-1].split()[:2] == ['0', '1146']
+    cell(126, 0, 0)
+    for i in range(60):
+        cell(8 + 2 * i, 0x13 + i & 0x7F, 0x80 + i % 26)
+    strip(6, 8)
+    start(1)
+    draw(1, DIGEST)
+    assert output[-1].split()[:2] == ['0', '1146']
+
+
+@case
+def made_up_pages_of_zero_spacings():
+    # few strips and spacings among them, written and taken away in any order, before frames and in them
+    numbers = Numbers(512)
+
+    def put(a):
+        """A descriptor of any kind at an even address."""
+        kind = numbers.below(6)
+        if kind < 2:
+            cell(a, 0, numbers.below(128))
+        elif kind == 2:
+            spacing(a, numbers.below(4))
+        else:
+            strip(a, numbers.below(1024), de=int(kind > 3), zy=numbers.below(2))
+        return a
+
+    for i in range(48):
+        if i % 3 == 0:
+            fill(ram, 0)
+        last = put(2 * numbers.below(512))
+        settings(
+            ld=3 + numbers.below(4), ch=numbers.below(4), osd=int(numbers.below(5) > 0), fbk=numbers.below(2), p=numbers.below(8))
+        start(6 + numbers.below(12))
+        for _ in range(4):
+            ask(last, 2)
+            draw(1 + numbers.below(4), SUM)
+            n = numbers.below(8)
+            if n < 2:
+                cell(last, 0, 0)
+            elif n < 4:
+                last = put(2 * numbers.below(512))
+            elif n == 4:
+                control(osd=numbers.below(2), fbk=numbers.below(2))
+        ask(numbers.below(1020), 4)
+        show_sum()
+
+
 @case
 def a_height_change_leaves_a_spacing_strip():
     spacing(strip(spacing(0, 6), 128), 2)

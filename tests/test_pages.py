@@ -166,6 +166,7 @@ ROW1 = code(65) + code(66, 0xF1) + code(5, 0x2A, True) + code(67, 0x9B) + END_OF
 ROW2 = code(20, 0xC2, True) + code(100, 0x3B, True) + code(70) + code(5, 0x70, True) + END_OF_LINE
 ROW3 = code(71) * 12
 PAGE = [3, 0] + characters(0x200) + characters(0x221, zoom=1) + [0, 0] + characters(0x240, shown=0) + characters(0x240) + [200, 0]
+PASSED_OVER = 0x0006    # its spacing of 0 lines
 OTHER = [1, 0] + characters(0x280) + characters(0x2A0, zoom=1) + [99, 0]
 CONTROL = 0xA0  # OSD 1, FBK 0, flashing mode 2, P 0
 
@@ -202,6 +203,73 @@ def shuffled(events, every=3, questions=(2, 0x200, 0x206, 0x228, 1023)):
     return calls
 
 
+def wild(seed, n):
+    """n random draws, questions and writes; a write that would not be quiet is left out."""
+    r, trial, calls = iter(noise(100000, seed)), copy.deepcopy(host), []
+    while len(calls) < n:
+        x = next(r)
+        if x < 90:
+            new = [('draw', (252, 768, 100)[x % 3], next(r))]
+        elif x < 140:
+            new = [('ask', next(r) << 2 | x & 3)]
+        elif x < 235:
+            new = writes((x & 3) << 8 | next(r), *[next(r) for _ in range(x % 3)])
+        else:
+            new = writes(0x3FF0 + x % 16, next(r))
+        next_trial = copy.deepcopy(trial)
+        if all([next_trial.quiet(s) for s in new]):
+            trial, calls = next_trial, calls + new
+    return calls
+
+
+# spacings of 0 lines alone (request K9): the RAM as it is made. The first line reads them all, and the rest of the frame nothing: a
+# whole page is written meanwhile, and the next frame shows it
+NEW_PAGE = writes(0x0000, *PAGE) + writes(0x0200, *ROW1) + writes(0x0220, *ROW2) + writes(0x0240, *ROW3)
+assert host.ram == [0] * 1024
+do('font', 2)
+write(0x3FF0, 20, 5, 10, CONTROL)
+frame(60, 0)
+do('bitmap')
+both('control', NEW_PAGE + draws(5))    # before that line
+do('draws', 1)
+do('bitmap')
+both('quiet', shuffled(NEW_PAGE))
+both('quiet', NEW_PAGE + writes(0x0000, *[0] * len(PAGE)) + draws(4) + writes(0x0000, 0x00, 0xC2) + draws(54) + [('ask', 0)])    # and taken away
+both('quiet', wild(5, 160))
+both('control', writes(0x3FF3, CONTROL | 0x40) + draws(2))    # FBK in the rest
+both('control', writes(0x3FF0, 21) + draws(2))    # LD
+for step in NEW_PAGE:
+    do(*step)
+do('bitmap')
+do('draws', 30)
+do('report')
+frame(60, 0)
+do('bitmap')
+do('draws', 40)
+do('report')
+write(0x0000, *[0] * len(PAGE))
+for row in (0x0200, 0x0220, 0x0240):
+    write(row, *[0] * len(ROW3))
+assert not any(host.ram)
+# one row of ten lines among them: shown again and again, as long as its descriptor stands there when the next one is due
+write(0x0000, *characters(0x240))
+frame(10, 4)
+both('quiet', shuffled(writes(0x0000, 0, 0) + writes(0x0002, *characters(0x240)), 2))    # the frame ends with it: nothing is read ahead
+frame(12, 4)
+do('bitmap')
+both('control', draws(2) + writes(0x0000, 0, 0) + draws(6))    # taken away: 512 behind it
+both('control', draws(2) + writes(0x0002, *characters(0x240)) + draws(6))    # another
+both('quiet', draws(7) + writes(0x0000, 0, 0) + [('ask', 0)] + draws(1))    # taken away once it is read again
+# one that is passed over between rows
+page(1)
+frame(60, 30)
+both('quiet', shuffled(writes(0x0000, 9, 9, 9, 0x80, 9, 9)))    # descriptors before it
+both('control', writes(PASSED_OVER, 1) + draws(4))    # it gets a line
+both('control', writes(PASSED_OVER + 1, 0x80) + draws(4))    # it becomes a row
+both('control', writes(PASSED_OVER + 6, 0) + draws(30))    # a spacing behind it loses its lines
+frame(60, 34)
+both('quiet', shuffled(writes(PASSED_OVER, 1, 0x80)))    # it has been passed over
+
 page(1)
 frame(60, 4)
 both('quiet', shuffled(writes(0x0080, *range(30)) + writes(0x0280, *range(40, 70))))    # the other page
@@ -236,25 +304,6 @@ page(1, control=0x20)
 frame(60, 4)
 both('quiet', shuffled(writes(0x0200, *range(32)) + writes(38 * 5, *range(38)), 6))    # OSD 0: codes and slices are not read
 both('control', writes(0x3FF3, 0xA0) + draws(3))
-
-
-def wild(seed, n):
-    """n random draws, questions and writes; a write that would not be quiet is left out."""
-    r, trial, calls = iter(noise(100000, seed)), copy.deepcopy(host), []
-    while len(calls) < n:
-        x = next(r)
-        if x < 90:
-            new = [('draw', (252, 768, 100)[x % 3], next(r))]
-        elif x < 140:
-            new = [('ask', next(r) << 2 | x & 3)]
-        elif x < 235:
-            new = writes((x & 3) << 8 | next(r), *[next(r) for _ in range(x % 3)])
-        else:
-            new = writes(0x3FF0 + x % 16, next(r))
-        next_trial = copy.deepcopy(trial)
-        if all([next_trial.quiet(s) for s in new]):
-            trial, calls = next_trial, calls + new
-    return calls
 
 
 def rows(first, n):

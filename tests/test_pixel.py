@@ -112,11 +112,8 @@ def font_with(parts):
 
 # ---- pages
 
-# the bench example of document 01
-page(ram_with([0] * 1024, {0: characters(4) + [0, 0] + font_code(65, 0x71) + user_code(127, 0)}),
-     [0] * 2340 + [0x0F, 0x08] + [0] * 2266, 4, 4, 0x12, OSD, 1, way=PRINTED)
-
-# strips of every kind, with FBK 1 and the ninth character cut to 9 columns; CH 4 has halves to round up; mode 0 hides nothing
+# strips of every kind and a spacing of 0 lines among them, with FBK 1 and the ninth character cut to 9 columns; CH 4 has halves to
+# round up; mode 0 hides nothing
 ROW = (font_code(65, 0x71) + font_code(66, 0x48) + font_code(67, 0x2A) + user_code(2, 0x35) + user_code(25, 0x1F)
        + user_code(26, 0x53) + user_code(126, 0x7B) + font_code(127, 0xFD) + user_code(0, 0xE1) + font_code(99, 0x77))
 ENDS = user_code(20, 0x9B) + font_code(0, 0x64) + user_code(3, 0x4E) + user_code(127, 0x25) + font_code(70, 0x72) * 6
@@ -139,16 +136,16 @@ page(ram_with(rows(script.noise(1024, 77), 64, 8), {
     64: characters(0x150, zoom=1) + characters(0x0F3), 0x0F2 + 4: font_code(1, 0x28) + user_code(126, 0xAF)}),
      FONT, 6, 5, 63, OSD | flashing(1) | 1, 150, frame=32)
 
-# CH 18: each slice in turn, and spacings between; an unused register bit set; mode 2 in its first frame that hides
+# CH 18: each slice in turn, and spacings between; an unused register bit set; mode 3 in its first frame that hides
 page(rows(script.noise(1024, 123), 256, 16, spacings=3), script.noise(4608, 321),
-     9, 7, 18, OSD | FBK | flashing(2) | 8 | 4, 90, frame=16)
+     9, 7, 18, OSD | FBK | flashing(3) | 8 | 4, 90, frame=48)
 
 # as many lines and strips as there can be: the descriptors go round the RAM again and again. Where a row is not shown its high byte
-# is a user character's code, so that the rows have glyphs. Mode 2 in its last frame that shows
+# is a user character's code, so that the rows have glyphs. Mode 2 in its first frame that hides
 ram = script.noise(1024, 31)
 for a in range(1, 1024, 2):
     ram[a] = 0x80 | ram[a] % 26 if ram[a] % 5 < 2 else 0xC0 | ram[a]
-page(ram, FONT, 4, 4, 1, OSD | flashing(2) | 7, 2048, frame=15)
+page(ram, FONT, 4, 4, 1, OSD | flashing(2) | 7, 2048, frame=16)
 
 # the full width, DD 3 taken as 4: 61 characters with a black seam at the last, then a row that ends in the place of the last; mode
 # 3 in its last frame that shows
@@ -163,8 +160,13 @@ page(rows(RAM, 0, 4), FONT, 5, 4, 7, FBK, 12)
 # the first character beyond the widest line
 page(rows(RAM, 0, 4), FONT, 63, 255, 2, OSD | FBK, 3)
 
-# CH 0 taken as 1, its upper bits not kept, and many short strips; mode 3 in its first frame that hides
-page(rows(script.noise(1024, 222), 384, 64, spacings=2), FONT, 10, 8, 0xC0, OSD | flashing(3) | 6, 80, frame=48)
+# spacings of 0 lines (request K9), with any high bits: 511 of them and a strip of two lines, four times. CH 0 is taken as 1, its upper
+# bits not kept. Five of the codes are spacings, so black characters; the sixth is the strip's own descriptor, a blank one in red
+ZEROS = [x & 0x7F if a % 2 else 0 for a, x in enumerate(script.noise(1024, 222))]
+page(ram_with(ZEROS, {382: characters(372, zoom=1)}), FONT, 9, 8, 0xC0, OSD | 6, 8, way=PRINTED, black=((48, 8), (107, 8), (108, 0)))
+
+# and 512 of them: all is plain
+page(ZEROS, FONT, 4, 4, 3, OSD | FBK | 6, 5)
 
 # seams (request K7): solid, transparent and shadowed characters of the font and of the user, steady and hidden, and blank ones,
 # each beside each, with the left one's last column and the right one's first set or not. A row has three: each pair stands once at
