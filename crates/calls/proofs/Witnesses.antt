@@ -17,7 +17,7 @@ use Rattle.raster.specs.Raster.{beforeFirst, following, isLast, interpolated, s
 use Rattle.bus.specs.declared.Event.{Event}
 use Rattle.bus.specs.declared.Event.the-variants.{Byte}
 use Rattle.bus.specs.Bus.{step, ramWith, registersWith, answerTo, taken, busEvent}
-use Rattle.walk.specs.Walk.{walkFrom, stripOf, over, begun, advanced, nextLine}
+use Rattle.walk.specs.Walk.{walkFrom, stripOf, over, nextStrip, begun, advanced, nextLine}
 use Rattle.glyph.specs.Glyph.{glyphOf, inRam, ofBytes}
 use Rattle.paint.specs.Pixels.{inkOf, columns, twelveColumns}
 use Rattle.line.specs.Line.{codesBy, rowBy, shownBy, scanBy, shownOf, character, painted, paint}
@@ -126,7 +126,7 @@ pixelTest : ℕ → State → List (Call Event) → Bool
 unfolding addressing write font heard starts traffic picture buffer turning firstLine but ready alikeTest sameTest eventTest
     runTest quietTest pixelIn make isEvent busEventsOf Stores freshDevice hearEvent startFrame inFrame pixelsOf lineOn lineDrawn drawVerdict drawBy drawLine
     cellsLeft askCell log end select step ramWith registersWith answerTo taken busEvent settingsOf remaining scanBy nextLine walkFrom
-    over begun advanced stripOf rowBy shownBy codesBy glyphOf inRam bind fmap value cells cellsAs sameRole among beforeFirst following isLast
+    over nextStrip begun advanced stripOf rowBy shownBy codesBy glyphOf inRam bind fmap value cells cellsAs sameRole among beforeFirst following isLast
     interpolated sliceNumber paint painted character shownOf twelveColumns inkOf columns ofBytes
     finished feedAfter outputs feedVerdict chunkFed feedBy eventsBy feedChunk fallsIn ended rowPixel pixelAt pixelVerdict pixelBy askPixel
 pixelTest i s cs =
