@@ -163,6 +163,11 @@ module _ (ram : List ℕ) (n ch a : ℕ) where
   unfolding nextStrip cells
   begin-cells e = rw e
 
+-- none left to read
+pub rest-value : (ram : List ℕ) (ch a : ℕ) → value ram (nextStrip 0 ch a) ≡ plainRest a
+unfolding nextStrip value
+rest-value ram ch a = refl
+
 -- any address of a descriptor stands for its even one
 nextStrip-even : (n ch a b : ℕ) → even a ≡ even b → nextStrip (suc n) ch a ≡ nextStrip (suc n) ch b
 unfolding nextStrip

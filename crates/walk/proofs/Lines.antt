@@ -10,8 +10,8 @@ use Rattle.limits.specs.Limits.{ramPairs}
 use Rattle.cells.specs.Reading.{value}
 use Rattle.walk.specs.declared.Strip.{Strip}
 use Rattle.walk.specs.declared.Walk.{Walk}
-use Rattle.walk.specs.Walk.{next, walkAt, over, linesLeft, nextStrip, advanced, onward, nextLine}
-use Rattle.walk.proofs.Laws.{left-over, left-advanced, advancedBy, stripAt, on-value, over-value}
+use Rattle.walk.specs.Walk.{next, walkAt, plainRest, over, linesLeft, nextStrip, advanced, onward, nextLine}
+use Rattle.walk.proofs.Laws.{left-over, left-advanced, advancedBy, stripAt, on-value, over-value, plain-value}
 
 module _ (ram : List ℕ) (ch : ℕ) where
   -- after so many lines
@@ -48,3 +48,14 @@ module _ (ram : List ℕ) (ch : ℕ) where
   next-strip (suc k) b w o f e m h =
       ap (walkAfter k) (over-value ram ch w o f ∙ ap onward e)
       ∙ on-strip k (next b) (advanced (stripAt ram ch b)) (omega (arith, left-advanced (stripAt ram ch b)))
+
+  -- in the plain rest, which stays
+  rest-stays : (k a : ℕ) → walkAfter k (plainRest a) ≡ plainRest a
+  unfolding walkAfter over
+  rest-stays zero a = refl
+  rest-stays (suc k) a = ap (walkAfter k) (plain-value ram ch (plainRest a) refl refl) ∙ rest-stays k a
+
+  pub next-rest : (k a : ℕ) (w : Walk) → over (w .strip) ≡ true → w .plain ≡ false
+      → value ram (nextStrip ramPairs ch (w .descriptor)) ≡ plainRest a → walkAfter (suc k) w ≡ plainRest a
+  unfolding walkAfter advanced
+  next-rest k a w o f e = ap (walkAfter k) (over-value ram ch w o f ∙ ap onward e) ∙ rest-stays k a
