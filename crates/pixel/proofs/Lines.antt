@@ -1,7 +1,7 @@
 -- The pixel of a line is the one that the line has there: the walk comes, line by line, to the line that is found strip by strip.
 -- Assumes nothing.
 use Prim.Native.Nat.{ℕ, zero, suc, _+_, _-_, _≤_, _<_, min}
-use mathlib.Core.Path.{_≡_, refl, sym, ap, ap₂, _∙_}
+use mathlib.Core.Path.{_≡_, refl, sym, ap, _∙_}
 use mathlib.Core.Bool.{Bool, true, false, not, cond}
 use mathlib.Core.List.{List, [], _++_}
 use native.Mathlib.Nat.{zero-add}
@@ -10,6 +10,7 @@ use native.Mathlib.Omega.{arith}
 use borrow.Author.Tests.{lt-ltb, le-ltb}
 use lib.Dec.{ltb}
 use lib.ListN.{length, getD, replicate, length-replicate, getD-replicate}
+use Rattle.facts.proofs.Choice.{by-test}
 use Rattle.cells.specs.Reading.{Reading, done, value}
 use Rattle.registers.specs.declared.Registers.{Registers}
 use Rattle.registers.specs.declared.Settings.{Settings}
@@ -19,9 +20,9 @@ use Rattle.raster.specs.Raster.{beforeFirst, following, interpolated, widthOf, 
 use Rattle.walk.specs.declared.Strip.{Strip}
 use Rattle.walk.specs.declared.Strip.the-variants.{Spacing, Characters}
 use Rattle.walk.specs.declared.Walk.{Walk}
-use Rattle.walk.specs.Walk.{even, next, walkAt, pageAddress, walkFrom, isSpacing, enabledBy, zoomedBy, codesAt, spacingLines, heightOf, showsCodes, stripOf, over, linesLeft, advanced}
-use Rattle.walk.proofs.Laws.{next-even, none-over, advancedBy, left-by, stripAt, codes-shown}
-use Rattle.walk.proofs.Lines.{walkAfter, one-more, after-both, next-strip}
+use Rattle.walk.specs.Walk.{even, next, walkAt, plainRest, pageAddress, walkFrom, isSpacing, enabledBy, zoomedBy, codesAt, heightOf, showsCodes, stripOf, over, linesLeft, nextStrip, advanced}
+use Rattle.walk.proofs.Laws.{none-over, advancedBy, left-by, passed-strip, codes-shown, stripAt, passedAt, pass-value, begin-value, rest-value}
+use Rattle.walk.proofs.Lines.{walkAfter, one-more, after-both, next-strip, next-rest}
 use Rattle.paint.specs.Pixels.{plainOf}
 use Rattle.line.specs.declared.Pen.{Pen}
 use Rattle.line.specs.Line.{Place, Scanned, shownRow, scan, paint}
@@ -30,55 +31,96 @@ use Rattle.line.proofs.Laws.{at-front, at-rest}
 use Rattle.line.proofs.Strips.{hasRow, still-row, no-row, row-shown, paint-none, scan-value}
 use Rattle.pixel.specs.declared.Pair.{Pair}
 use Rattle.pixel.specs.declared.StripLine.{StripLine}
-use Rattle.pixel.specs.Pixel.{pairAt, linesOf, fallsIn, rowPixel, charactersPixel, pixelAt}
-use Rattle.pixel.proofs.Laws.{lines-left, lines-some, pair-same, falls-here, falls-later}
+use Rattle.pixel.specs.Pixel.{pairAt, stripFrom, fallsIn, rowPixel, charactersPixel, pixelAt}
+use Rattle.pixel.proofs.Laws.{lines-left, lines-some, strip-here, strip-next, strip-none, strip-by, firstAt, linesAt, falls-none, falls-first, falls-later}
 use Rattle.pixel.proofs.Rows.{rowOf, room-pixel}
 
 -- ---- the walk, line by line, and the strip that a line falls in
 
+-- a strip with no line, at any line
+spacing-by : (k : ℕ) → Spacing 0 ≡ advancedBy k (Spacing 0)
+unfolding advancedBy advanced
+spacing-by zero = refl
+spacing-by (suc k) = spacing-by k
+
 module _ (ram : List ℕ) (ch : ℕ) where
+  -- the next strip is that of the first descriptor that is not passed over, or the rest is plain
+  abbrev Next : ℕ → Bool → Walk
+  Next b t = cond t (plainRest (next b)) (walkAt (next b) (stripAt ram ch b))
+
+  strip-value : (n a : ℕ) → value ram (nextStrip (suc n) ch a) ≡ Next (stripFrom n ram a) (passedAt ram (stripFrom n ram a))
+  strip-value =
+      strip-by ram (λ (n a : ℕ). value ram (nextStrip (suc n) ch a) ≡ Next (stripFrom n ram a) (passedAt ram (stripFrom n ram a)))
+      (λ a. rw (strip-none ram a) (by-test (passedAt ram a)
+      (λ p. pass-value ram 0 ch a p ∙ rest-value ram ch (next a) ∙ ap (Next a) (sym p))
+      (λ p. begin-value ram 0 ch a p ∙ ap (Next a) (sym p))))
+      (λ n a p q. rw (strip-next ram n a p) (pass-value ram (suc n) ch a p ∙ q))
+      (λ n a p. rw (strip-here ram (suc n) a p) (begin-value ram (suc n) ch a p ∙ ap (Next a) (sym p)))
+
   -- the strip at its line
   abbrev shownStrip : StripLine → Strip
   shownStrip l = advancedBy (l .line .0) (stripOf ch (l .descriptor .low) (l .descriptor .high))
 
   -- the walk is at the line that y falls in
-  abbrev Falls : ℕ → ℕ → Walk → Type 0
-  Falls y a w = over (w .strip) ≡ true → even (w .descriptor) ≡ even a → walkAfter ram ch (suc y) w .strip ≡ shownStrip (fallsIn y ram ch a y)
+  abbrev Falls : ℕ → Walk → Type 0
+  Falls y w =
+      over (w .strip) ≡ true → w .plain ≡ false → walkAfter ram ch (suc y) w .strip ≡ shownStrip (fallsIn y ram ch (w .descriptor) y)
 
-  falls-first : (y a : ℕ) (w : Walk) → y < linesOf ch (pairAt ram a) → Falls y a w
-  falls-first y a w h o e =
-      let same : pairAt ram (w .descriptor) ≡ pairAt ram a = pair-same ram (w .descriptor) a e in
+  -- where the next strip's descriptor lies, and its lines
+  abbrev nextAt : Walk → ℕ
+  nextAt w = firstAt ram (w .descriptor)
+
+  abbrev lines : Walk → ℕ
+  lines w = linesAt ram ch (nextAt w)
+
+  -- no strip: the line is plain, as are all after it
+  falls-plain : (y : ℕ) (w : Walk) → passedAt ram (nextAt w) ≡ true → Falls y w
+  falls-plain y w e o f =
+      let b : ℕ = nextAt w in
+      ap (λ (v : Walk). v .strip) (next-rest ram ch y (next b) w o f (strip-value 511 (w .descriptor) ∙ ap (Next b) e))
+      ∙ spacing-by (y + 1)
+      ∙ ap (advancedBy (y + 1)) (sym (passed-strip ch (pairAt ram b .low) (pairAt ram b .high) e))
+      ∙ ap shownStrip (sym (falls-none ram ch y (w .descriptor) y e))
+
+  -- k lines into the strip
+  into : (k : ℕ) (w : Walk) → passedAt ram (nextAt w) ≡ false → over (w .strip) ≡ true → w .plain ≡ false → 1 ≤ k → k ≤ lines w
+      → walkAfter ram ch k w ≡ walkAt (next (nextAt w)) (advancedBy k (stripAt ram ch (nextAt w)))
+  into k w e o f m h =
+      let b : ℕ = nextAt w in
+      next-strip ram ch k b w o f (strip-value 511 (w .descriptor) ∙ ap (Next b) e) m (omega (arith, lines-left ch (pairAt ram b)))
+
+  falls-in : (y : ℕ) (w : Walk) → passedAt ram (nextAt w) ≡ false → y < lines w → Falls y w
+  falls-in y w e h o f =
       let from-one : suc y ≡ y + 1 = omega arith in
-      ap (λ (v : Walk). v .strip) (next-strip ram ch (suc y) w o (omega arith) (omega (arith, ap (linesOf ch) same, lines-left ch (pairAt ram (w .descriptor)))))
-      ∙ ap₂ (λ (k : ℕ) (d : Pair). advancedBy k (stripOf ch (d .low) (d .high))) from-one same
-      ∙ ap shownStrip (sym (falls-here ram ch y a y h))
+      ap (λ (v : Walk). v .strip) (into (suc y) w e o f (omega arith) (omega arith))
+      ∙ ap (λ (k : ℕ). advancedBy k (stripAt ram ch (nextAt w))) from-one
+      ∙ ap shownStrip (sym (falls-first ram ch y (w .descriptor) y h))
 
-  falls-past : (y a : ℕ) (w : Walk) → linesOf ch (pairAt ram a) ≤ y
-      → ((v : Walk) → Falls (y - linesOf ch (pairAt ram a)) (next a) v) → Falls y a w
-  falls-past y a w h ih o e =
-      let lines : ℕ = linesOf ch (pairAt ram a) in
-      let left : linesLeft (stripAt ram ch (w .descriptor)) ≡ lines =
-      sym (lines-left ch (pairAt ram (w .descriptor))) ∙ ap (linesOf ch) (pair-same ram (w .descriptor) a e) in
-      let passed : walkAfter ram ch lines w ≡ walkAt (next (w .descriptor)) (advancedBy lines (stripAt ram ch (w .descriptor))) =
-      next-strip ram ch lines w o (lines-some ch (pairAt ram a)) (omega (arith, left)) in
-      let then : suc y ≡ lines + suc (y - lines) = omega arith in
+  falls-past : (y : ℕ) (w : Walk) → passedAt ram (nextAt w) ≡ false → lines w ≤ y → ((v : Walk) → Falls (y - lines w) v)
+      → Falls y w
+  falls-past y w e h ih o f =
+      let b : ℕ = nextAt w in
+      let l : ℕ = lines w in
+      let t : Strip = advancedBy l (stripAt ram ch b) in
+      let then : suc y ≡ l + suc (y - l) = omega arith in
+      let none : linesLeft t ≡ 0 = left-by l (stripAt ram ch b) ∙ omega (arith, lines-left ch (pairAt ram b)) in
       ap (λ (k : ℕ). walkAfter ram ch k w .strip) then
-      ∙ ap (λ (v : Walk). v .strip) (after-both ram ch lines (suc (y - lines)) w)
-      ∙ ih (walkAfter ram ch lines w)
-      (ap (λ (v : Walk). over (v .strip)) passed
-      ∙ none-over (advancedBy lines (stripAt ram ch (w .descriptor))) (left-by lines (stripAt ram ch (w .descriptor)) ∙ omega (arith, left)))
-      (ap (λ (v : Walk). even (v .descriptor)) passed ∙ ap even (sym (next-even (w .descriptor)) ∙ ap next e ∙ next-even a))
-      ∙ ap shownStrip (sym (falls-later ram ch a y h))
+      ∙ ap (λ (v : Walk). v .strip) (after-both ram ch l (suc (y - l)) w)
+      ∙ ap (λ (v : Walk). walkAfter ram ch (suc (y - l)) v .strip) (into l w e o f (lines-some ch (pairAt ram b) e) (omega arith))
+      ∙ ih (walkAt (next b) t) (none-over t none) refl
+      ∙ ap shownStrip (sym (falls-later ram ch (w .descriptor) b y refl e h))
 
   -- line by line as strip by strip: n bounds the strips
-  falls-strip : (n y a : ℕ) (w : Walk) → y ≤ n → Falls y a w
-  falls-strip zero y a w h = falls-first y a w (omega (arith, lines-some ch (pairAt ram a)))
-  falls-strip (suc n) y a w h = by (decLt y (linesOf ch (pairAt ram a))) (falls-strip n (y - linesOf ch (pairAt ram a)) (next a))
+  walk-falls : (n y : ℕ) (w : Walk) → y ≤ n → Falls y w
+  walk-falls zero y w h =
+      by-test (passedAt ram (nextAt w)) (falls-plain y w)
+      (λ e. falls-in y w e (omega (arith, lines-some ch (pairAt ram (nextAt w)) e)))
+  walk-falls (suc n) y w h =
+      by-test (passedAt ram (nextAt w)) (falls-plain y w) (by (decLt y (lines w)) (walk-falls n (y - lines w)))
     where
-      by : Dec (y < linesOf ch (pairAt ram a)) → ((v : Walk) → y - linesOf ch (pairAt ram a) ≤ n → Falls (y - linesOf ch (pairAt ram a)) (next a) v)
-          → Falls y a w
-      by (yes l) ih = falls-first y a w l
-      by (no l) ih = falls-past y a w (omega arith) (λ v. ih v (omega (arith, lines-some ch (pairAt ram a))))
+      by : Dec (y < lines w) → ((v : Walk) → y - lines w ≤ n → Falls (y - lines w) v) → passedAt ram (nextAt w) ≡ false → Falls y w
+      by (yes l) ih e = falls-in y w e l
+      by (no l) ih e = falls-past y w e (omega arith) (λ v. ih v (omega (arith, lines-some ch (pairAt ram (nextAt w)) e)))
 
 -- ---- the row of a strip's line
 
@@ -102,7 +144,7 @@ unfolding stripOf hasRow
 row-of ch low high = by (isSpacing high)
   where
     by : (t : Bool)
-        → hasRow (cond t (Spacing (spacingLines low)) (Characters (codesAt low high) (heightOf ch) (zoomedBy high) (enabledBy high) beforeFirst))
+        → hasRow (cond t (Spacing low) (Characters (codesAt low high) (heightOf ch) (zoomedBy high) (enabledBy high) beforeFirst))
         ≡ cond t false (enabledBy high)
     by true = refl
     by false = refl
@@ -199,5 +241,5 @@ pixel-is r ram font f x y h =
     let w : Walk = walkFrom (pageOf r) in
     ap (λ (z : Scanned). getD (paint s font f (z .row)) x 0) (scan-value shownRow ram s (walkAfter ram (s .ch) y w))
     ∙ ap (λ (t : Strip). getD (paint s font f (value ram (shownRow s t))) x 0)
-    (ap (λ (v : Walk). v .strip) (sym (one-more ram (s .ch) y w)) ∙ falls-strip ram (s .ch) y y (pageAddress (pageOf r)) w (omega arith) refl refl)
+    (ap (λ (v : Walk). v .strip) (sym (one-more ram (s .ch) y w)) ∙ walk-falls ram (s .ch) y y w (omega arith) refl refl)
     ∙ line-pixel ram font s f x h (fallsIn y ram (s .ch) (pageAddress (pageOf r)) y)

@@ -77,7 +77,7 @@ pub struct Round {
 
 // Descriptor by descriptor, once round RAM. Each kind of strip is tested by itself: where their lines come together before the test, the
 // compiler counts them by a shift, and a strip takes half as long again.
-fn round(ram: &[u8], ch: u8, first: u16, y: u32) -> Round
+fn walk_round(ram: &[u8], ch: u8, first: u16, y: u32) -> Round
     requires { ⌜ length (now ram) ≡ ramLength ⌝ }
     requires { ⌜ y < frameLines ⌝ }
     ensures { λ r. ⌜ r ≡ roundOf ramPairs (now (ram .entry)) ch first y ⌝ }
@@ -136,7 +136,7 @@ fn falls_in(ram: &[u8], ch: u8, first: u16, y: u16) -> StripLine
     requires { ⌜ y < frameLines ⌝ }
     ensures { λ r. ⌜ r ≡ fallsIn y (now (ram .entry)) ch first y ⌝ }
 {
-    let once = round(ram, ch, first, y as u32);
+    let once = walk_round(ram, ch, first, y as u32);
     if once.found {
         return once.line;
     }
@@ -148,7 +148,7 @@ fn falls_in(ram: &[u8], ch: u8, first: u16, y: u16) -> StripLine
     while left >= lines {
         left -= lines;
     }
-    let again = round(ram, ch, first, left);
+    let again = walk_round(ram, ch, first, left);
     again.line
 }
 

@@ -1,98 +1,97 @@
--- `falls_in`: each turn passes a strip that lies before the line (`passed`, `falls-later`); at least one line of it is passed.
+-- `falls_in`: a round finds the line (`round-line`), or took all its lines (`lines`). Where it has none, there is no strip (`round-none`);
+-- else each turn leaves out a round of lines (`falls-round`), until the line lies in the next round (`round-in`).
 -- Assumes nothing.
-use Prim.Native.Nat.{_+_, _-_, _≤_, _<_}
-use mathlib.Core.Path.{_≡_, refl, sym, _∙_}
-use mathlib.Core.Bool.{true, false}
-use mathlib.Core.Logic.{⊎-elim}
+use Prim.Native.Nat.{ℕ, _+_, _-_, _≤_}
+use mathlib.Core.Path.{_≡_, sym, ap, _∙_}
 use native.Mathlib.Omega.{arith}
 use denote.Ref.{now}
-use Rattle.pixel.specs.declared.StripLine.{StripLine}
-use Rattle.pixel.specs.Pixel.{pairAt, linesOf, fallsIn}
-use Rattle.pixel.proofs.Laws.{lines-some, lines-spacing, lines-characters, falls-here, falls-later}
+use Rattle.limits.specs.Limits.{ramPairs}
+use Rattle.pixel.specs.declared.Round.{Round}
+use Rattle.pixel.specs.Pixel.{fallsIn}
+use Rattle.pixel.proofs.Rounds.{linesOn, falls-round, round-in, round-left, round-line, round-none}
 use borrow.Author.Needs.{needs}
 use Rattle.pixel.proofs.falls_in.Statement.{statement}
 use Rattle.pixel.proofs.falls_in.Tie as tie
 
 abbrev Inv-loop : tie.InvT-loop
-Inv-loop ram ch first y height at₀ left₀ at left = (fallsIn left ram ch at left ≡ fallsIn y ram ch first y) × (left ≤ y)
+Inv-loop ram ch first y lines left₀ left = (fallsIn left ram ch first left ≡ fallsIn y ram ch first y) × (left ≤ y)
 
 abbrev μ-loop : tie.MeasureT-loop
-μ-loop ram ch first y height at₀ left₀ at left = left
-
-loop-holds : tie.Need-loop-holds Inv-loop μ-loop
-loop-holds c = (refl, search needs)
-
--- a line of the strip at hand is the line sought
-found : (c : tie.After-pair-at Inv-loop μ-loop) (r : StripLine) → r ≡ record { descriptor = c .pair-at .result; line = record { 0 = c .before .loop .left + 1 } }
-    → c .before .loop .left < linesOf (c .before .before .before .before .args .ch) (c .pair-at .result)
-    → r ≡ fallsIn (c .before .before .before .before .args .y) (now (c .before .before .before .before .args .ram)) (c .before .before .before .before .args .ch)
-    (c .before .before .before .before .args .first) (c .before .before .before .before .args .y)
-found c r e h =
-    let l = c .before .loop in
-    let a = c .before .before .before .before .args in
-    e ∙ rw (c .pair-at .ensures) (sym (falls-here (now (a .ram)) (a .ch) (l .left) (l .at) (l .left) (rw (c .pair-at .ensures) at h)) ∙ l .inv .0)
+μ-loop ram ch first y lines left₀ left = left
 
 returns : tie.Need-returns Inv-loop μ-loop
 returns c =
-    let b = c .before .before .before .before in
-    let d = b .before in
-    found d (c .line-of .result) (c .line-of .ensures)
-    (omega (arith, c .before .if2 .taken, c .before .before .spacing-lines .ensures, lines-spacing (d .before .before .before .before .args .ch) (d .pair-at .result) (sym (b .is-spacing .ensures) ∙ c .before .before .before .if1 .taken)))
+    let w = c .before .before in
+    let a = w .before .before .args in
+    let e = w .walk-round .ensures in
+    ap (λ (r : Round). r .line) e
+    ∙ round-line (now (a .ram)) (a .ch) (a .first) (a .y) (sym (ap (λ (r : Round). r .found) e) ∙ c .before .if1 .taken)
+
+-- a round has as many lines as it took
+lines : (c : tie.After-struct-known Inv-loop μ-loop)
+    → let w = c .before .before in
+    let a = w .before .before .args in
+    linesOn (now (a .ram)) (a .ch) ramPairs (a .first) + w .walk-round .result .left ≡ a .y
+lines c =
+    let w = c .before .before in
+    let a = w .before .before .args in
+    let e = w .walk-round .ensures in
+    omega (
+      arith,
+      ap (λ (r : Round). r .left) e,
+      round-left (now (a .ram)) (a .ch) (a .first) (a .y) (sym (ap (λ (r : Round). r .found) e) ∙ c .before .if1 .left),
+    )
+
+sub-lines : tie.Need-sub-lines Inv-loop μ-loop
+sub-lines c = omega (arith, lines c)
 
 returns-2 : tie.Need-returns-2 Inv-loop μ-loop
 returns-2 c =
-    let z = c .before .before .before in
-    let d = z .before .before .before in
-    found d (c .line-of2 .result) (c .line-of2 .ensures)
-    (omega (
-      arith,
-      c .before .if4 .taken,
-      d .before .before .height .ensures,
-      lines-characters (d .before .before .before .before .args .ch) (d .pair-at .result) true
-          (sym (z .before .before .is-spacing .ensures) ∙ z .before .if1 .left) (sym (z .zoom .ensures) ∙ c .before .before .if3 .taken),
-    ))
+    let s = c .before .before in
+    let w = s .before .before in
+    let a = w .before .before .args in
+    ap (λ (r : Round). r .line) (w .walk-round .ensures)
+    ∙ round-none (now (a .ram)) (a .ch) (a .first) (a .y) (omega (arith, lines s, c .before .if2 .taken))
 
-returns-3 : tie.Need-returns-3 Inv-loop μ-loop
-returns-3 c =
-    let z = c .before .before .before in
-    let d = z .before .before .before in
-    found d (c .line-of3 .result) (c .line-of3 .ensures)
-    (omega (
-      arith,
-      c .before .if5 .taken,
-      d .before .before .height .ensures,
-      lines-characters (d .before .before .before .before .args .ch) (d .pair-at .result) false
-          (sym (z .before .before .is-spacing .ensures) ∙ z .before .if1 .left) (sym (z .zoom .ensures) ∙ c .before .before .if3 .left),
-    ))
+-- a round of lines fewer is the same line
+fewer : (c : tie.Else2 Inv-loop μ-loop) (y left : ℕ)
+    → let s = c .before in
+    let a = s .before .before .before .before .args in
+    linesOn (now (a .ram)) (a .ch) ramPairs (a .first) + left ≡ y
+    → fallsIn left (now (a .ram)) (a .ch) (a .first) left ≡ fallsIn y (now (a .ram)) (a .ch) (a .first) y
+fewer c y left e =
+    let s = c .before in
+    let a = s .before .before .before .before .args in
+    let rest : left ≡ y - linesOn (now (a .ram)) (a .ch) ramPairs (a .first) = omega arith in
+    ap (λ (z : ℕ). fallsIn z (now (a .ram)) (a .ch) (a .first) z) rest
+    ∙ sym (falls-round (now (a .ram)) (a .ch) (a .first) y (omega (arith, lines s, c .if2 .left)) (omega arith))
 
--- all lines of the strip at hand are passed
-passed : (c : tie.Joined1 Inv-loop μ-loop)
-    → c .if1 .left + linesOf (c .before .before .before .before .before .before .args .ch) (c .before .before .pair-at .result) ≡ c .before .before .before .loop .left
-passed c =
-    let s = c .before .is-spacing .ensures in
-    let d = c .before .before .pair-at .result in
-    let h = c .before .before .before .before .height .ensures in
-    let ch = c .before .before .before .before .before .before .args .ch in
-    ⊎-elim (λ w. omega (arith, w .1 .ensures, w .2 .left, w .3, lines-spacing ch d (sym s ∙ w .0 .taken)))
-    (⊎-elim (λ w. omega (arith, h, w .3 .left, w .4, lines-characters ch d true (sym s ∙ w .0 .left) (sym (w .1 .ensures) ∙ w .2 .taken)))
-    (λ w. omega (arith, h, w .3 .left, w .4, lines-characters ch d false (sym s ∙ w .0 .left) (sym (w .1 .ensures) ∙ w .2 .left))))
-    (c .if1 .came)
+loop-holds : tie.Need-loop-holds Inv-loop μ-loop
+loop-holds c =
+    let w = c .before .before .before in
+    (fewer c (w .before .before .args .y) (w .walk-round .result .left) (lines (c .before)), omega (arith, lines (c .before)))
 
 loop-less : tie.Need-loop-less Inv-loop μ-loop
 loop-less c =
-    let d = c .before .before .before in
-    omega (arith, passed (c .before), lines-some (d .before .before .before .before .args .ch) (d .pair-at .result))
+    let e = c .before .before in
+    omega (arith, lines (e .before), e .if2 .left, c .loop-test .taken)
 
 loop-again : tie.Need-loop-again Inv-loop μ-loop
 loop-again c =
-    let d = c .before .before .before in
-    let l = d .before .loop in
-    let a = d .before .before .before .before .args in
-    let p = rw (d .pair-at .ensures) at (passed (c .before)) in
-    let left : c .before .if1 .left ≡ l .left - linesOf (a .ch) (pairAt (now (a .ram)) (l .at)) = omega (arith, p) in (
-      rw (c .next-address .ensures, left) (sym (falls-later (now (a .ram)) (a .ch) (l .at) (l .left) (omega (arith, p))) ∙ l .inv .0),
-      omega (arith, p, l .inv .1),
-    )
+    let e = c .before .before in
+    let l = c .before .loop in
+    let w = e .before .before .before in
+    let left = l .left - (w .before .before .args .y - w .walk-round .result .left) in
+    (fewer e (l .left) left (omega (arith, lines (e .before), c .loop-test .taken)) ∙ l .inv .0, omega (arith, l .inv .1))
+
+returns-3 : tie.Need-returns-3 Inv-loop μ-loop
+returns-3 c =
+    let l = c .before .before .before in
+    let s = l .before .before in
+    let a = s .before .before .before .before .args in
+    ap (λ (r : Round). r .line) (c .before .walk-round2 .ensures)
+    ∙ round-in (now (a .ram)) (a .ch) (a .first) (l .loop .left) (omega (arith, lines s, c .before .before .loop-test .left)) .1
+    ∙ l .loop .inv .0
 
 pub falls-in-spec : {M : Type 1} → statement M
 falls-in-spec =
@@ -101,22 +100,11 @@ falls-in-spec =
     Inv-loop
     μ-loop
     (λ c κs. search needs)
-    (λ c. search needs)
-    loop-holds
-    (λ c κs. search needs)
-    (λ c κs. search needs)
-    (λ c κs. search needs)
-    (λ c. search needs)
-    (λ c κs. search needs)
     returns
-    (λ c κs. search needs)
-    (λ c. search needs)
-    (λ c κs. search needs)
+    sub-lines
     returns-2
-    (λ c. search needs)
-    (λ c. search needs)
-    (λ c κs. search needs)
-    returns-3
-    (λ c κs. search needs)
+    loop-holds
     loop-less
-    loop-again)
+    loop-again
+    (λ c κs. search needs)
+    returns-3)
