@@ -10,7 +10,7 @@
 //! | 21 | frame number |
 //! | 22–23 | lines left |
 //! | 24–25 | address of the next descriptor |
-//! | 26 | strip on screen: bit 0 characters, bit 1 zoom, bit 2 enabled |
+//! | 26 | strip on screen: bit 0 characters, bit 1 zoom, bit 2 enabled; bit 3: no more descriptors are read, as all were passed over |
 //! | 27 | spacing lines left, or height |
 //! | 28–29 | address of the first code |
 //! | 30–31 | lines of the character strip already drawn |
@@ -41,6 +41,7 @@ const REGISTERS: usize = 4;
 const CHARACTERS: u8 = 1;
 const ZOOM: u8 = 2;
 const ENABLED: u8 = 4;
+const EXHAUSTED: u8 = 8;
 
 impl Device {
     /// This device in the module's byte layout.
@@ -52,7 +53,7 @@ impl Device {
         };
         put(2, self.counter);
         put(22, self.frame.left);
-        put(24, 2 * self.frame.descriptor);
+        put(24, self.frame.descriptor);
         if let Strip::Characters(strip) = self.frame.strip {
             put(28, 2 * strip.row);
             put(30, u16::from(strip.drawn));
@@ -69,11 +70,12 @@ impl Device {
                 (CHARACTERS | zoom | enabled, strip.height)
             }
         };
+        bytes[26] |= EXHAUSTED * u8::from(self.frame.exhausted);
         bytes
     }
 
     /// The device in these bytes. Any bytes give some sound device: numbers
-    /// are cut to their range.
+    /// are cut to their range, but the next descriptor's address stays.
     #[must_use]
     pub fn from_bytes(bytes: &[u8; DEVICE_LEN]) -> Device {
         let number = |at: usize| u16::from_le_bytes([bytes[at], bytes[at + 1]]);
@@ -86,8 +88,9 @@ impl Device {
             frame: Frame {
                 number: bytes[21] % FRAME_NUMBERS,
                 left: number(22).min(MAX_LINES as u16),
-                descriptor: word(24),
+                descriptor: number(24),
                 strip: strip_from_bytes(bytes[26], bytes[27], word(28), number(30)),
+                exhausted: bytes[26] & EXHAUSTED != 0,
             },
         }
     }

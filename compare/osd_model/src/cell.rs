@@ -21,12 +21,16 @@ pub(crate) fn is_read(registers: &Registers, frame: &Frame, ram: &RamWords, cell
     }
     let mut shown = ShownRows::NONE;
     left -= shown.add_strip(frame.strip, left, &slice);
+    if frame.exhausted {
+        // The lines behind that strip read nothing.
+        left = 0;
+    }
 
-    // This ends within 512 strips: descriptors go round all of RAM and so meet
-    // the word in question, if the frame is long enough.
+    // This ends within 512 descriptors, passed over or not: they go round all
+    // of RAM and so meet the word in question, if the frame is long enough.
     let height = registers.height();
     let mut whole = RowSet::EMPTY;
-    let mut next = frame.descriptor;
+    let mut next = frame.next_descriptor();
     while left > 0 {
         if next == word {
             return true;

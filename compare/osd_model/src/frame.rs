@@ -1,6 +1,6 @@
 //! The walk of a frame: descriptors, strips, and which slice a line shows.
 
-use crate::{RamWords, RAM_WORDS};
+use crate::{RamWords, RAM_LEN, RAM_WORDS};
 
 /// Lines show slices 1 to this.
 pub(crate) const LAST_SLICE: u16 = 18;
@@ -19,11 +19,11 @@ impl Descriptor {
         Descriptor { low, high }
     }
 
-    /// Lines of the strip, under the present CH.
+    /// Lines of the strip, under the present CH; 0 where it is passed over.
     #[inline]
     pub(crate) fn lines(self, height: u8) -> u8 {
         if self.is_spacing() {
-            self.low.max(1)
+            self.low
         } else {
             height << u8::from(self.zoom())
         }
@@ -44,6 +44,12 @@ impl Descriptor {
     #[inline]
     fn is_spacing(self) -> bool {
         self.high & 0x80 == 0
+    }
+
+    /// A spacing of no lines, which gives way to the next descriptor at once.
+    #[inline]
+    fn is_passed_over(self) -> bool {
+        self.is_spacing() && self.low == 0
     }
 
     #[inline]
@@ -111,7 +117,8 @@ impl Strip {
     #[inline]
     fn finish_line(&mut self) {
         match self {
-            Strip::Spacing(left) => *left -= 1,
+            // None is left where descriptors are exhausted.
+            Strip::Spacing(left) => *left = left.saturating_sub(1),
             Strip::Characters(strip) => strip.drawn += 1,
         }
     }
@@ -124,27 +131,52 @@ pub(crate) struct Frame {
     pub(crate) number: u8,
     /// Lines still to be drawn, at most 2,048.
     pub(crate) left: u16,
-    /// RAM word of the next descriptor.
+    /// Cell of the next descriptor. The lowest bit, and those above a cell's
+    /// ten, do not count, but stay while no descriptor is read.
     pub(crate) descriptor: u16,
     pub(crate) strip: Strip,
+    /// All descriptors were passed over at one line: none is read any more, and
+    /// what follows the strip on screen is plain.
+    pub(crate) exhausted: bool,
 }
 
 impl Frame {
-    pub(crate) const STOPPED: Frame = Frame { number: 0, left: 0, descriptor: 0, strip: Strip::Spacing(0) };
+    pub(crate) const STOPPED: Frame = Frame { number: 0, left: 0, descriptor: 0, strip: Strip::Spacing(0), exhausted: false };
 
     pub(crate) fn begin(number: u8, lines: u16, descriptor: u16) -> Frame {
-        Frame { number, left: lines, descriptor, strip: Strip::Spacing(0) }
+        Frame { number, left: lines, descriptor, ..Frame::STOPPED }
     }
 
-    /// Reads the next descriptor if the strip on screen is over; answers the cells read.
+    /// RAM word of the next descriptor.
+    #[inline]
+    pub(crate) fn next_descriptor(&self) -> u16 {
+        self.descriptor / 2 % RAM_WORDS as u16
+    }
+
+    /// Where the strip on screen is over, reads descriptors up to one that has
+    /// lines; answers the cells read.
     #[inline]
     pub(crate) fn enter_strip(&mut self, ram: &RamWords, height: u8) -> u32 {
         if self.strip.lines_left() > 0 {
             return 0;
         }
-        self.strip = Descriptor::at(ram, self.descriptor).strip(height);
-        self.descriptor = next_word(self.descriptor);
-        2
+        if self.exhausted {
+            self.strip = Strip::Spacing(0);
+            return 0;
+        }
+        let first = self.next_descriptor();
+        let passed = passed_over(ram, first);
+        let word = first + passed;
+        if passed < RAM_WORDS as u16 {
+            self.strip = Descriptor::at(ram, word).strip(height);
+            self.descriptor = 2 * next_word(word);
+            2 * u32::from(passed) + 2
+        } else {
+            self.strip = Strip::Spacing(0);
+            self.descriptor = 2 * first;
+            self.exhausted = true;
+            RAM_LEN as u32
+        }
     }
 
     /// Goes on to the next line. A line must be left.
@@ -153,6 +185,15 @@ impl Frame {
         self.left -= 1;
         self.strip.finish_line();
     }
+}
+
+/// How many descriptors in a row, from this word on and around the end of RAM,
+/// are passed over: at most all of them.
+#[inline]
+fn passed_over(ram: &RamWords, first: u16) -> u16 {
+    let (before, from) = ram.split_at(usize::from(first) % RAM_WORDS);
+    let stays = |&[low, high]: &[u8; 2]| !Descriptor { low, high }.is_passed_over();
+    from.iter().chain(before).position(stays).unwrap_or(RAM_WORDS) as u16
 }
 
 /// The word after this one, around the end of RAM.

@@ -149,7 +149,7 @@ impl Device {
     }
 
     /// Draws the frame's next line into the first [`width`](Self::width) bytes
-    /// of `line` and answers how many RAM cells it read.
+    /// of `line` and answers how many RAM cells it read, at most 1,268.
     pub fn draw(&mut self, ram: &[u8], font: &[u8], line: &mut [u8]) -> Result<u32, Refusal> {
         let ram = ram_words(ram)?;
         let font = draw::font_words(font)?;

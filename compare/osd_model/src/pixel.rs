@@ -71,18 +71,20 @@ struct Row {
     slice: usize,
 }
 
-/// The row of line `y` of the frame; none in a spacing strip, or with DE 0.
+/// The row of line `y` of the frame; none in a spacing strip, with DE 0, or
+/// where all descriptors in a row have no lines.
 #[inline]
 fn row_of_line(registers: &Registers, ram: &RamWords, y: u32) -> Option<Row> {
     let height = u32::from(registers.height());
-    let mut descriptor = 2 * usize::from(registers.first_descriptor());
+    let mut descriptor = usize::from(registers.first_descriptor());
     // The line's number in the strip, from 1.
     let mut j = y + 1;
-    loop {
+    let mut passed_over = 0;
+    while passed_over < RAM_WORDS {
         let [low, high] = word(ram, descriptor);
         let (characters, enabled, zoom) = (high & 0x80 != 0, high & 0x40 != 0, high & 0x20 != 0);
         let lines = match (characters, zoom) {
-            (false, _) => u32::from(low).max(1),
+            (false, _) => u32::from(low),
             (true, false) => height,
             (true, true) => 2 * height,
         };
@@ -93,8 +95,10 @@ fn row_of_line(registers: &Registers, ram: &RamWords, y: u32) -> Option<Row> {
             return (characters && enabled).then_some(Row { address, slice });
         }
         j -= lines;
+        passed_over = if lines == 0 { passed_over + 1 } else { 0 };
         descriptor = (descriptor + 2) % RAM_LEN;
     }
+    None
 }
 
 /// The code at this place of a row; none where the line ends there or before.

@@ -85,9 +85,9 @@ impl Registers {
         frame_number >= SHOWN_BELOW[usize::from(self.0[3] >> 4 & 3)]
     }
 
-    /// RAM word of a frame's first descriptor: P times 64 cells.
+    /// Cell of a frame's first descriptor.
     #[inline]
     pub(crate) fn first_descriptor(&self) -> u16 {
-        u16::from(self.0[3] & 7) * (64 / 2)
+        u16::from(self.0[3] & 7) * 64
     }
 }

@@ -330,8 +330,8 @@ fn most_reads_and_wrap_over_1023() {
 
 #[test]
 fn descriptors_once_around() {
-    let (mut device, mut ram, ..) = blank(); // spacings of one line
-    poke(&mut device, &mut ram, 0x3FF3, &[0x83]); // P 3: from cell 192
+    let (mut device, mut ram, ..) = spacings(3, 18, 0x41); // from cell 192
+    ram[1000..1004].fill(1); // no codes, but spacings of one line like all others
     for (lines, next_to_last, last) in [(510, false, false), (511, true, false), (512, true, true), (2048, true, true)] {
         device.frame_start(lines).unwrap();
         assert_eq!(device.cell(&ram, 189), Ok(next_to_last));
@@ -454,16 +454,20 @@ impl Noise {
         self.next() as u8
     }
 
-    /// RAM of noise, or of strips and user characters one more than the other.
+    /// RAM of noise, or of strips, user characters or spacings one more than the
+    /// other; or of zero spacings but for few words, or for none.
     fn ram(&mut self) -> Vec<u8> {
         let mut ram: Vec<u8> = (0..RAM_LEN).map(|_| self.byte()).collect();
-        let style = self.below(4);
+        let style = self.below(6);
+        let others = [0, 1, 2, 9, 60][self.below(5) as usize];
         for word in ram.chunks_exact_mut(2) {
             match (style, self.below(8)) {
                 (1, 0..7) => word[1] |= 0xC0,
                 (2, 0..4) => word[1] = 0x80 | self.below(27) as u8,
                 (2, 4) => word[1] = 0xFF,
                 (3, 0..6) => (word[0], word[1]) = (self.below(6) as u8, word[1] & 0x7F),
+                (4, 0..6) => (word[0], word[1]) = (0, word[1] & 0x7F),
+                (5, _) if self.below(512) >= others => (word[0], word[1]) = (0, word[1] & 0x7F),
                 _ => {}
             }
         }
@@ -506,13 +510,15 @@ struct Slow {
     descriptor: usize,
     /// Low byte, high byte, CH, line j of the last line drawn.
     strip: Option<(u8, u8, usize, usize)>,
+    /// 512 descriptors in a row were passed over.
+    rest: bool,
 }
 
 impl Slow {
     fn fresh() -> Slow {
         let mut registers = [0; 16];
         registers[..8].copy_from_slice(&[0x3F, 8, 0x12, 0, 0x22, 0x33, 0x28, 0x0A]);
-        Slow { bus: 0, held: 0, counter: 0, registers, next: 0, number: 0, left: 0, descriptor: 0, strip: None }
+        Slow { bus: 0, held: 0, counter: 0, registers, next: 0, number: 0, left: 0, descriptor: 0, strip: None, rest: false }
     }
 
     fn bus(&mut self, ram: &mut [u8], event: Event) -> (u8, u8) {
@@ -564,33 +570,100 @@ impl Slow {
         self.left = lines;
         self.descriptor = usize::from(self.registers[3] % 8) * 64;
         self.strip = None;
+        self.rest = false;
+    }
+
+    /// The slow model of a device record whose numbers are in their range, but
+    /// for the descriptor's address.
+    fn of_record(record: &[u8; DEVICE_LEN]) -> Slow {
+        let number = |at: usize| usize::from(record[at]) + 256 * usize::from(record[at + 1]);
+        let (flags, lines) = (record[26], record[27]);
+        let strip = match flags & 1 {
+            0 => (lines, 0, 0, 0),
+            _ => {
+                let high = 128 | (flags & 4) << 4 | (flags & 2) << 4 | record[29];
+                (record[28], high, usize::from(lines), number(30))
+            }
+        };
+        let mut registers = [0; 16];
+        registers.copy_from_slice(&record[4..20]);
+        Slow {
+            registers,
+            next: u32::from(record[20]),
+            number: u32::from(record[21]),
+            left: number(22) as u32,
+            descriptor: number(24),
+            strip: Some(strip),
+            rest: flags & 8 != 0,
+            ..Slow::fresh()
+        }
+    }
+
+    /// Bytes 20 to 31 of the device's record.
+    fn frame_bytes(&self) -> [u8; 12] {
+        let [left, descriptor] = [self.left as usize, self.descriptor].map(|number| (number as u16).to_le_bytes());
+        let rest = 8 * u8::from(self.rest);
+        let strip = match self.strip {
+            None => [rest, 0, 0, 0, 0, 0],
+            Some((low, high, _, j)) if high < 128 => [rest, low - j as u8, 0, 0, 0, 0],
+            Some((low, high, ch, j)) => {
+                let flags = 1 | (high & 32) >> 4 | (high & 64) >> 4;
+                let [scan_low, scan_high] = (j as u16).to_le_bytes();
+                [rest | flags, ch as u8, low & 0xFE, high & 3, scan_low, scan_high]
+            }
+        };
+        let mut bytes = [0; 12];
+        (bytes[0], bytes[1]) = (self.next as u8, self.number as u8);
+        bytes[2..4].copy_from_slice(&left);
+        bytes[4..6].copy_from_slice(&descriptor);
+        bytes[6..].copy_from_slice(&strip);
+        bytes
+    }
+
+    /// Lines of a strip; a zero spacing has none.
+    fn height((low, high, ch, _): (u8, u8, usize, usize)) -> usize {
+        match (high & 128 != 0, high & 32 != 0) {
+            (false, _) => usize::from(low),
+            (true, false) => ch,
+            (true, true) => 2 * ch,
+        }
+    }
+
+    /// The strip of the next line, with the line's j; reads descriptors where
+    /// the strip on screen is over. None in the plain rest of a frame.
+    fn strip_of_line(&mut self, ram: &[u8], reads: &mut Vec<usize>) -> Option<(u8, u8, usize, usize)> {
+        if let Some((low, high, ch, j)) = self.strip.filter(|&strip| strip.3 < Slow::height(strip)) {
+            return Some((low, high, ch, j + 1));
+        }
+        if self.rest {
+            return None;
+        }
+        for _ in 0..512 {
+            let d = self.descriptor / 2 * 2 % 1024;
+            reads.extend([d, d + 1]);
+            self.descriptor = (d + 2) % 1024;
+            let strip = (ram[d], ram[d + 1], usize::from(self.registers[2]).max(1), 1);
+            if Slow::height(strip) > 0 {
+                return Some(strip);
+            }
+        }
+        self.rest = true;
+        None
     }
 
     /// Pixels and the list of cells read.
     fn line(&mut self, ram: &[u8], font: &[u8]) -> (Vec<u8>, Vec<usize>) {
         let r = self.registers.map(usize::from);
         let mut reads = vec![];
-        let (low, high, ch, j) = match self.strip {
-            Some((low, high, ch, j)) => (low, high, ch, j + 1),
-            None => {
-                let d = self.descriptor;
-                reads.extend([d, d + 1]);
-                self.descriptor = (d + 2) % 1024;
-                (ram[d], ram[d + 1], r[2].max(1), 1)
-            }
-        };
-        let (characters, de, zy) = (high & 128 != 0, high & 64 != 0, high & 32 != 0);
-        let height = match (characters, zy) {
-            (false, _) => usize::from(low).max(1),
-            (true, false) => ch,
-            (true, true) => 2 * ch,
-        };
-        self.strip = (j < height).then_some((low, high, ch, j));
+        self.strip = self.strip_of_line(ram, &mut reads);
         self.left -= 1;
 
         let (osd, fbk, mode) = (r[3] & 128 != 0, (r[3] >> 6 & 1) as u8, r[3] >> 4 & 3);
         let width = 12 * (r[0] % 64 + 1);
         let mut line = vec![if osd { 8 * fbk } else { 0 }; width];
+        // The bytes of a spacing in the plain rest.
+        let (low, high, ch, j) = self.strip.unwrap_or((0, 0, 0, 0));
+        let (characters, de, zy) = (high & 128 != 0, high & 64 != 0, high & 32 != 0);
         if !(osd && characters && de) {
             return (line, reads);
         }
@@ -731,6 +804,7 @@ fn same_as_the_slow_model() {
             }
             assert_eq!(Device::from_bytes(&fast.to_bytes()), fast);
             bytes = fast.to_bytes();
+            assert_eq!(bytes[20..], slow.frame_bytes());
         }
     }
 }
@@ -1045,7 +1119,7 @@ fn pixels_of_the_worked_example() {
         let pixel = device.pixel(&ram, &font, 1, 0, x, 0).unwrap();
         assert_eq!(u32::from(pixel), digit.to_digit(16).unwrap());
     }
-    // Its 17 other lines are background; behind it comes spacing of SL 0.
+    // Its 17 other lines are background; behind it all descriptors are zero spacings.
     let background = "000000000000000000000000000000000000999999999999000000000000";
     for line in 1..18 {
         assert_eq!(asked(&device, &ram, &font, 0..60, line), background);
@@ -1733,4 +1807,523 @@ fn a_seam_reads_no_more_cells() {
     let cells = [&[40, 41, 78, 79, 448, 449][..], &Vec::from_iter(500..512)].concat();
     assert_eq!(cells_left(&device, &ram, 0..1024), cells);
     assert_eq!(device.draw(&ram, &font, &mut line), Ok(18));
+}
+
+/// Request K9. RAM of zero spacings, whatever their high bits 6 to 0, but for
+/// these words. As codes zero spacings are font characters, black on black.
+fn zeros(others: &[(usize, [u8; 2])]) -> Vec<u8> {
+    let mut ram: Vec<u8> = (0..512).flat_map(|word| [0, (37 * word % 128) as u8]).collect();
+    for &(word, bytes) in others {
+        ram[2 * (word % 512)..][..2].copy_from_slice(&bytes);
+    }
+    ram
+}
+
+/// The descriptor of a strip with this word's row.
+fn strip_at(row: usize) -> [u8; 2] {
+    let [high, low] = (2 * (row % 512) as u16).to_be_bytes();
+    [low, 0xC0 | high]
+}
+
+/// A device of W 60, so that a row of zero spacings has two codes.
+fn zero_device(page: u8, height: u8) -> Device {
+    let mut device = Device::fresh();
+    poke(&mut device, &mut [0; RAM_LEN], 0x3FF0, &[4, 4, height, 0x80 | page]);
+    device
+}
+
+/// Draws the next line: T is text behind a plain margin, . is plain with FBK 0
+/// and # with FBK 1. Answers the cells read too.
+fn next_line(device: &mut Device, ram: &[u8]) -> (char, u32) {
+    let mut line = [0xEE; 61];
+    let reads = device.draw(ram, &[0; FONT_LEN], &mut line).unwrap();
+    assert_eq!(line[60], 0xEE);
+    let text = [[0; 36].as_slice(), &[8; 24]].concat();
+    let kinds = [('T', text), ('.', vec![0; 60]), ('#', vec![8; 60])];
+    let (kind, _) = kinds.into_iter().find(|(_, pixels)| line[..60] == pixels[..]).expect("a line of a known kind");
+    (kind, reads)
+}
+
+/// Draws these lines, and holds what is left to be read after each of them
+/// against the slow model.
+fn next_lines(device: &mut Device, ram: &[u8], lines: u32) -> Vec<(char, u32)> {
+    let mut slow = Slow::of_record(&device.to_bytes());
+    let mut drawn = vec![];
+    for _ in 0..lines {
+        let read = slow.remaining_reads(ram, &[0; FONT_LEN]);
+        let expected: Vec<u32> = (0..1024).filter(|&cell| read[cell as usize]).collect();
+        assert_eq!(cells_left(device, ram, 0..1024), expected, "after {} lines", drawn.len());
+        drawn.push(next_line(device, ram));
+        slow.line(ram, &[0; FONT_LEN]);
+        assert_eq!(device.to_bytes()[20..], slow.frame_bytes());
+    }
+    drawn
+}
+
+/// All lines of a frame. Pixels that are asked for are as they are drawn.
+fn zero_frame(device: &mut Device, ram: &[u8], lines: u32) -> Vec<(char, u32)> {
+    device.frame_start(lines).unwrap();
+    let drawn = next_lines(device, ram, lines);
+    assert_eq!(device.lines_left(), 0);
+    assert_eq!(cells_left(device, ram, 0..1024), []);
+    for (y, &(kind, _)) in (0..).zip(&drawn) {
+        let expected = match kind {
+            'T' => "0".repeat(36) + &"8".repeat(24),
+            '.' => "0".repeat(60),
+            _ => "8".repeat(60),
+        };
+        assert_eq!(asked(device, ram, &[0; FONT_LEN], 0..60, y), expected, "line {y}");
+    }
+    drawn
+}
+
+/// A frame's part of the record: lines left, descriptor address, strip.
+fn frame_bytes(device: &Device) -> [u8; 10] {
+    device.to_bytes()[22..].try_into().unwrap()
+}
+
+#[test]
+fn zero_spacings_at_the_frames_start() {
+    // Over cell 1023 as well: page 7 begins at word 224, and 511 words go round from any page.
+    for page in 0..8 {
+        for passed in [0, 1, 2, 3, 15, 16, 100, 287, 288, 289, 510, 511] {
+            let word = 32 * usize::from(page) + passed;
+            let ram = zeros(&[(word, strip_at(word + 7))]);
+            let first = 2 * passed as u32 + 2;
+            let mut device = zero_device(page, 2);
+            assert_eq!(zero_frame(&mut device, &ram, 1), [('T', first + 4)]);
+            // Behind the strip the 511 others are passed over, back to it.
+            let lines = [('T', first + 4), ('T', 4), ('T', 1028), ('T', 4), ('T', 1028)];
+            assert_eq!(zero_frame(&mut device, &ram, 5), lines);
+        }
+        let ram = zeros(&[]);
+        let mut device = zero_device(page, 2);
+        assert_eq!(zero_frame(&mut device, &ram, 1), [('.', 1024)]);
+        assert_eq!(zero_frame(&mut device, &ram, 4), [('.', 1024), ('.', 0), ('.', 0), ('.', 0)]);
+    }
+}
+
+#[test]
+fn no_stray_line_between_strips() {
+    for passed in [0, 1, 2, 9, 400] {
+        let second = 33 + passed;
+        let ram = zeros(&[(32, strip_at(500)), (second, [3, 0x55]), (second + 2, strip_at(490))]);
+        let between = 2 * passed as u32 + 2;
+        let lines = [('T', 6), ('T', 4), ('.', between), ('.', 0), ('.', 0), ('T', 8), ('T', 4)];
+        let mut device = zero_device(1, 2);
+        assert_eq!(zero_frame(&mut device, &ram, 7), lines);
+        // Round to the first strip; with ZY, and with DE 0.
+        let around = 2 * (511 - passed as u32 - 2) + 4;
+        assert_eq!(zero_frame(&mut device, &ram, 9)[7..], [('T', around), ('T', 4)]);
+        let ram = zeros(&[(32, [0, 0xE0]), (second, [0, 0x80]), (second + 2, [9, 0])]);
+        let lines = [('T', 6), ('T', 4), ('T', 4), ('T', 4), ('.', between), ('.', 0), ('.', 4)];
+        assert_eq!(zero_frame(&mut device, &ram, 7), lines);
+    }
+}
+
+#[test]
+fn characters_of_low_byte_0_are_not_passed_over() {
+    for high in 0x80..=0xFF {
+        // CH 0 stays 1. The first row's codes are at words 0, 128, 256 and 384.
+        for (height, lines) in [(0, 1), (1, 1), (3, 3)] {
+            let lines = if high & 0x20 == 0 { lines } else { 2 * lines };
+            let ram = zeros(&[(33, [0, high]), (35, [200, 0])]);
+            let mut device = zero_device(1, height);
+            let drawn = zero_frame(&mut device, &ram, lines + 1);
+            let (kind, codes) = if high & 0x40 == 0 { ('.', 0) } else { ('T', 4) };
+            assert_eq!(drawn[0], (kind, 4 + codes));
+            assert!(drawn[1..lines as usize].iter().all(|&line| line == (kind, codes)));
+            assert_eq!(drawn[lines as usize], ('.', 4));
+        }
+    }
+}
+
+#[test]
+fn high_bits_6_to_0_of_a_zero_spacing_do_not_matter() {
+    for high in 0..0x80 {
+        let ram = zeros(&[(0, [0, high]), (1, [0, 0x7F - high]), (2, strip_at(300))]);
+        assert_eq!(zero_frame(&mut zero_device(0, 1), &ram, 1), [('T', 10)]);
+        let ram: Vec<u8> = [0, high].repeat(512);
+        assert_eq!(zero_frame(&mut zero_device(0, 1), &ram, 2), [('.', 1024), ('.', 0)]);
+        // One line is not none.
+        let ram = zeros(&[(0, [0, high]), (1, [1, high]), (2, strip_at(300))]);
+        assert_eq!(zero_frame(&mut zero_device(0, 1), &ram, 2), [('.', 4), ('T', 6)]);
+    }
+}
+
+#[test]
+fn most_reads_of_a_line() {
+    let (mut device, ..) = blank();
+    poke(&mut device, &mut [0; RAM_LEN], 0x3FF0, &[63, 4, 18, 0x81]);
+    // A row of zero spacings, but for the strip itself, which is blank as a code.
+    let ram = zeros(&[(31, strip_at(31))]);
+    device.frame_start(1).unwrap();
+    assert_eq!(device.draw(&ram, &[0; FONT_LEN], &mut [0; 768]), Ok(1024 + 2 * 61));
+    // No user character's code is a zero spacing, so 1,268 is not reached: with 61 of them there are fewer to pass over.
+    let row = (0..61).map(|place| (500 + place, [0, 0x80]));
+    let others: Vec<(usize, [u8; 2])> = row.chain([(499, strip_at(500))]).collect();
+    let ram = zeros(&others);
+    poke(&mut device, &mut [0; RAM_LEN], 0x3FF3, &[0x82]);
+    device.frame_start(1).unwrap();
+    assert_eq!(device.draw(&ram, &[0; FONT_LEN], &mut [0; 768]), Ok(2 * (499 - 64 + 1) + 4 * 61));
+}
+
+#[test]
+fn in_a_row_is_at_one_line() {
+    // Of 2,048 lines each passes over the same 511 descriptors.
+    let ram = zeros(&[(300, [1, 0x7F])]);
+    let mut device = zero_device(3, 1);
+    device.frame_start(2048).unwrap();
+    assert_eq!(next_line(&mut device, &ram), ('.', 2 * (300 - 96) + 2));
+    for _ in 1..2048 {
+        assert_eq!(next_line(&mut device, &ram), ('.', 1024));
+        assert_eq!(device.to_bytes()[26], 0);
+    }
+    let last = [0, 59, 767].map(|x| device.pixel(&zeros(&[(300, strip_at(9))]), &[0; FONT_LEN], 2048, 0, x, 2047));
+    assert_eq!(last, [Ok(0), Ok(8), Err(Refusal::NoSuchPixel)]);
+    // 255 of them, a strip, and 256: more than 512 at two lines, but not at one.
+    let ram = zeros(&[(255, strip_at(9))]);
+    assert_eq!(zero_frame(&mut zero_device(0, 1), &ram, 3), [('T', 516), ('T', 1028), ('T', 1028)]);
+}
+
+#[test]
+fn nothing_is_read_ahead() {
+    // The strip ends with the frame: zero spacings behind it are not read, nor where all other words are such.
+    let ram = zeros(&[(0, strip_at(300))]);
+    let mut device = zero_device(0, 3);
+    for lines in 1..=3 {
+        device.frame_start(lines).unwrap();
+        assert_eq!(cells_left(&device, &ram, 0..1024), [0, 1, 600, 601, 602, 603]);
+        for drawn in 1..=lines {
+            assert_eq!(next_line(&mut device, &ram), ('T', if drawn == 1 { 6 } else { 4 }));
+            let left = if drawn < lines { vec![600, 601, 602, 603] } else { vec![] };
+            assert_eq!(cells_left(&device, &ram, 0..1024), left);
+        }
+        assert_eq!(frame_bytes(&device), [0, 0, 2, 0, 5, 3, 0x58, 2, lines as u8, 0]);
+    }
+    // One more line reads them all.
+    device.frame_start(4).unwrap();
+    assert_eq!(cells_left(&device, &ram, 0..1024), Vec::from_iter(0..1024));
+    // A spacing that ends with the frame.
+    let ram = zeros(&[(0, [2, 0])]);
+    device.frame_start(2).unwrap();
+    assert_eq!(next_lines(&mut device, &ram, 2), [('.', 2), ('.', 0)]);
+    assert_eq!(frame_bytes(&device), [0, 0, 2, 0, 0, 0, 0, 0, 0, 0]);
+}
+
+#[test]
+fn zero_spacings_at_the_last_line() {
+    let ram = zeros(&[(0, [2, 0]), (6, strip_at(300))]);
+    let mut device = zero_device(0, 9);
+    assert_eq!(zero_frame(&mut device, &ram, 3), [('.', 2), ('.', 0), ('T', 16)]);
+    assert_eq!(frame_bytes(&device), [0, 0, 14, 0, 5, 9, 0x58, 2, 1, 0]);
+    // The last line meets all 512, since RAM changes before it.
+    device.frame_start(3).unwrap();
+    assert_eq!(next_lines(&mut device, &ram, 2), [('.', 2), ('.', 0)]);
+    assert_eq!(next_lines(&mut device, &zeros(&[]), 1), [('.', 1024)]);
+    assert_eq!(frame_bytes(&device), [0, 0, 2, 0, 8, 0, 0, 0, 0, 0]);
+    assert_eq!(device.draw(&ram, &[0; FONT_LEN], &mut [0; 60]), Err(Refusal::NoLineLeft));
+}
+
+#[test]
+fn the_record_in_the_plain_rest() {
+    for page in 0..8 {
+        let mut device = zero_device(page, 18);
+        device.frame_start(300).unwrap();
+        let [low, high] = (64 * u16::from(page)).to_le_bytes();
+        assert_eq!(frame_bytes(&device), [44, 1, low, high, 0, 0, 0, 0, 0, 0]);
+        assert_eq!(next_line(&mut device, &zeros(&[])), ('.', 1024));
+        assert_eq!(frame_bytes(&device), [43, 1, low, high, 8, 0, 0, 0, 0, 0]);
+        for left in (0..299u16).rev() {
+            let before = device.to_bytes();
+            assert_eq!(next_line(&mut device, &zeros(&[])), ('.', 0));
+            let mut after = before;
+            after[22..24].copy_from_slice(&left.to_le_bytes());
+            assert_eq!(device.to_bytes(), after);
+        }
+    }
+    // Behind a strip, whose height and codes are gone then; the address is that of the descriptor behind it.
+    let mut device = zero_device(7, 2);
+    device.frame_start(9).unwrap();
+    assert_eq!(next_lines(&mut device, &zeros(&[(511, strip_at(20))]), 2), [('T', 580), ('T', 4)]);
+    assert_eq!(frame_bytes(&device), [7, 0, 0, 0, 5, 2, 40, 0, 2, 0]);
+    assert_eq!(next_lines(&mut device, &zeros(&[]), 2), [('.', 1024), ('.', 0)]);
+    assert_eq!(frame_bytes(&device), [5, 0, 0, 0, 8, 0, 0, 0, 0, 0]);
+}
+
+#[test]
+fn writes_in_the_plain_rest() {
+    let mut ram = zeros(&[]);
+    let mut device = zero_device(2, 2);
+    device.frame_start(40).unwrap();
+    assert_eq!(next_lines(&mut device, &ram, 3), [('.', 1024), ('.', 0), ('.', 0)]);
+    assert_eq!(cells_left(&device, &ram, 0..1024), []);
+    // Strips everywhere, at the frame's first descriptor too: they come too late.
+    let strips: Vec<u8> = strip_at(100).repeat(128);
+    for address in [0, 256, 512, 768] {
+        poke(&mut device, &mut ram, address, &strips);
+        assert_eq!(device.to_bytes()[26], 8);
+        assert_eq!(cells_left(&device, &ram, 0..1024), []);
+        assert_eq!(next_lines(&mut device, &ram, 2), [('.', 0), ('.', 0)]);
+    }
+    // Nor do other settings end it: P, CH, LD and DD.
+    poke(&mut device, &mut ram, 0x3FF0, &[4, 4, 0, 0x85]);
+    assert_eq!(next_lines(&mut device, &ram, 2), [('.', 0), ('.', 0)]);
+    // FBK and OSD count at each line.
+    for (control, kind) in [(0xC5, '#'), (0x45, '.'), (0x05, '.'), (0xC0, '#'), (0x80, '.'), (0xF0, '#')] {
+        poke(&mut device, &mut ram, 0x3FF3, &[control]);
+        assert_eq!(next_lines(&mut device, &ram, 2), [(kind, 0), (kind, 0)]);
+    }
+    assert_eq!(frame_bytes(&device), [15, 0, 128, 0, 8, 0, 0, 0, 0, 0]);
+}
+
+#[test]
+fn a_frame_start_and_a_reset_end_the_plain_rest() {
+    let mut device = zero_device(2, 2);
+    device.frame_start(40).unwrap();
+    assert_eq!(next_lines(&mut device, &zeros(&[]), 2), [('.', 1024), ('.', 0)]);
+    // A refused start changes nothing.
+    let before = device;
+    for lines in [0, 2049, u32::MAX] {
+        assert_eq!(device.frame_start(lines), Err(Refusal::FrameLines));
+    }
+    assert_eq!(device, before);
+    assert_eq!(next_lines(&mut device, &zeros(&[]), 1), [('.', 0)]);
+    device.frame_start(5).unwrap();
+    assert_eq!(frame_bytes(&device), [5, 0, 128, 0, 0, 0, 0, 0, 0, 0]);
+    assert_eq!(cells_left(&device, &zeros(&[]), 0..1024), Vec::from_iter(0..1024));
+    assert_eq!(next_lines(&mut device, &zeros(&[]), 2), [('.', 1024), ('.', 0)]);
+    let ram = zeros(&[(66, strip_at(9))]);
+    assert_eq!(zero_frame(&mut device, &ram, 3), [('T', 10), ('T', 4), ('T', 1028)]);
+    // Also after a frame whose lines are all drawn.
+    assert_eq!(zero_frame(&mut device, &zeros(&[]), 2), [('.', 1024), ('.', 0)]);
+    assert_eq!(zero_frame(&mut device, &ram, 1), [('T', 10)]);
+
+    device.frame_start(40).unwrap();
+    assert_eq!(next_lines(&mut device, &zeros(&[]), 2), [('.', 1024), ('.', 0)]);
+    device.reset();
+    assert_eq!(device.to_bytes(), Device::fresh().to_bytes());
+    assert_eq!(cells_left(&device, &zeros(&[]), 0..1024), []);
+    device.frame_start(1).unwrap();
+    assert_eq!(device.to_bytes()[26], 0);
+}
+
+#[test]
+fn zero_spacings_with_osd_0() {
+    // Descriptors are read all the same, codes are not.
+    let ram = zeros(&[(3, strip_at(300)), (9, [2, 0])]);
+    let mut device = zero_device(0, 2);
+    for control in [0, 0x40] {
+        poke(&mut device, &mut [0; RAM_LEN], 0x3FF3, &[control]);
+        let lines = [('.', 8), ('.', 0), ('.', 12), ('.', 0), ('.', 2 * (511 - 9 + 4))];
+        assert_eq!(zero_frame(&mut device, &ram, 5), lines);
+        assert_eq!(zero_frame(&mut device, &zeros(&[]), 3), [('.', 1024), ('.', 0), ('.', 0)]);
+        device.frame_start(3).unwrap();
+        assert_eq!(cells_left(&device, &ram, 0..1024), Vec::from_iter(0..20));
+    }
+    // On again in the plain rest, and off at its first line.
+    device.frame_start(3).unwrap();
+    assert_eq!(next_lines(&mut device, &zeros(&[]), 1), [('.', 1024)]);
+    poke(&mut device, &mut [0; RAM_LEN], 0x3FF3, &[0xC0]);
+    assert_eq!(next_lines(&mut device, &zeros(&[]), 2), [('#', 0), ('#', 0)]);
+}
+
+#[test]
+fn a_refused_draw_passes_over_nothing() {
+    let ram = zeros(&[]);
+    let mut device = zero_device(5, 2);
+    device.frame_start(2).unwrap();
+    let before = device;
+    assert_eq!(device.draw(&ram, &[0; FONT_LEN], &mut [0; 59]), Err(Refusal::LineBuffer));
+    assert_eq!(device.draw(&ram, &[0; FONT_LEN - 1], &mut [0; 60]), Err(Refusal::FontLength));
+    assert_eq!(device.draw(&ram[1..], &[0; FONT_LEN], &mut [0; 60]), Err(Refusal::RamLength));
+    assert_eq!(device, before);
+    assert_eq!(next_lines(&mut device, &ram, 2), [('.', 1024), ('.', 0)]);
+}
+
+#[test]
+fn a_height_taken_behind_zero_spacings() {
+    // CH is taken where the strip is found, at the line that passes over.
+    let mut ram = zeros(&[(0, strip_at(300)), (4, strip_at(300)), (5, [9, 0])]);
+    let mut device = zero_device(0, 2);
+    device.frame_start(9).unwrap();
+    assert_eq!(next_lines(&mut device, &ram, 2), [('T', 6), ('T', 4)]);
+    poke(&mut device, &mut ram, 0x3FF2, &[3]);
+    assert_eq!(next_lines(&mut device, &ram, 1), [('T', 12)]);
+    poke(&mut device, &mut ram, 0x3FF2, &[0]);
+    assert_eq!(next_lines(&mut device, &ram, 3), [('T', 4), ('T', 4), ('.', 2)]);
+}
+
+/// A device of this frame part, with 40 lines left and the settings of
+/// [`zero_device`].
+fn made_up_frame(descriptor: u16, strip: [u8; 6]) -> Device {
+    let mut record = zero_device(0, 2).to_bytes();
+    record[22] = 40;
+    record[24..26].copy_from_slice(&descriptor.to_le_bytes());
+    record[26..].copy_from_slice(&strip);
+    Device::from_bytes(&record)
+}
+
+/// Descriptor addresses with the word that they name.
+const ADDRESSES: [(u16, usize); 8] = [(0, 0), (1, 0), (2, 1), (515, 257), (1022, 511), (1023, 511), (0x0405, 2), (0xFFFF, 511)];
+
+#[test]
+fn an_odd_descriptor_address_in_a_made_up_record() {
+    for (address, word) in ADDRESSES {
+        for passed in [0, 1, 511] {
+            let mut device = made_up_frame(address, [0; 6]);
+            let ram = zeros(&[(word + passed, strip_at(word + passed + 9))]);
+            let read = 2 * passed as u32 + 6;
+            assert_eq!(cells_left(&device, &ram, 0..1024), Vec::from_iter(0..1024));
+            assert_eq!(next_line(&mut device, &ram), ('T', read));
+            let next = (2 * (word + passed + 1) % 1024) as u16;
+            assert_eq!(device.to_bytes()[24..26], next.to_le_bytes());
+        }
+        // All of them: the even address that they began at.
+        let mut device = made_up_frame(address, [0; 6]);
+        assert_eq!(next_lines(&mut device, &zeros(&[]), 2), [('.', 1024), ('.', 0)]);
+        let [low, high] = (2 * word as u16).to_le_bytes();
+        assert_eq!(frame_bytes(&device), [38, 0, low, high, 8, 0, 0, 0, 0, 0]);
+    }
+}
+
+#[test]
+fn made_up_records_in_the_plain_rest() {
+    // Whatever RAM holds: zero spacings, strips alone, or codes.
+    for ram in [zeros(&[]), strip_at(9).repeat(512), vec![0xFF; RAM_LEN]] {
+        for (address, _) in ADDRESSES {
+            let [low, high] = address.to_le_bytes();
+            let after = |left: u8| [left, 0, low, high, 8, 0, 0, 0, 0, 0];
+            for upper in [0, 0x10, 0x80, 0xF0] {
+                // A spacing, of this many lines left; bits 1 and 2 and bytes 28 to 31 do not count.
+                for lines in [0, 1, 2, 30] {
+                    let mut device = made_up_frame(address, [8 | 6 | upper, lines, 7, 2, 1, 0]);
+                    assert_eq!(cells_left(&device, &ram, 0..1024), []);
+                    for drawn in 1..=lines {
+                        assert_eq!(next_line(&mut device, &ram), ('.', 0));
+                        assert_eq!(frame_bytes(&device), [40 - drawn, 0, low, high, 8, lines - drawn, 0, 0, 0, 0]);
+                    }
+                    for drawn in lines + 1..=40 {
+                        assert_eq!(next_line(&mut device, &ram), ('.', 0));
+                        assert_eq!(frame_bytes(&device), after(40 - drawn));
+                    }
+                }
+                // A strip of characters that is over, and further than that.
+                for (flags, height, scan) in [(1, 5, 5), (5, 5, 6), (7, 5, 10), (3, 63, 126), (5, 1, 255)] {
+                    let mut device = made_up_frame(address, [8 | flags | upper, height, 30, 2, scan, 0]);
+                    assert_eq!(cells_left(&device, &ram, 0..1024), []);
+                    for left in (0..40).rev() {
+                        assert_eq!(next_line(&mut device, &ram), ('.', 0));
+                        assert_eq!(frame_bytes(&device), after(left));
+                    }
+                }
+            }
+        }
+    }
+}
+
+#[test]
+fn a_strip_on_screen_before_the_plain_rest() {
+    let ram = zeros(&[(0, [5, 0]), (1, strip_at(300))]);
+    for (address, _) in ADDRESSES {
+        let [low, high] = address.to_le_bytes();
+        for (flags, lines, kind, reads) in [(5, 4, 'T', 4), (7, 8, 'T', 4), (1, 4, '.', 0), (3, 8, '.', 0)] {
+            for scan in 0..=lines {
+                let mut device = made_up_frame(address, [0xA8 | flags, 4, 30, 2, scan, 0]);
+                let codes = if kind == 'T' && scan < lines { vec![542, 543, 544, 545] } else { vec![] };
+                for drawn in scan + 1..=lines {
+                    assert_eq!(cells_left(&device, &ram, 0..1024), codes);
+                    assert_eq!(next_line(&mut device, &ram), (kind, reads));
+                    let left = 40 - (drawn - scan);
+                    assert_eq!(frame_bytes(&device), [left, 0, low, high, 8 | flags, 4, 30, 2, drawn, 0]);
+                }
+                assert_eq!(next_lines(&mut device, &ram, 3), [('.', 0); 3]);
+                assert_eq!(frame_bytes(&device), [40 - (lines - scan) - 3, 0, low, high, 8, 0, 0, 0, 0, 0]);
+            }
+        }
+    }
+    // The frame ends in the strip: bit 3 stays in the record, and counts no more.
+    let mut record = made_up_frame(0, [13, 4, 30, 2, 1, 0]).to_bytes();
+    record[22] = 2;
+    let mut device = Device::from_bytes(&record);
+    assert_eq!(next_lines(&mut device, &ram, 2), [('T', 4), ('T', 4)]);
+    assert_eq!(frame_bytes(&device), [0, 0, 0, 0, 13, 4, 30, 2, 3, 0]);
+    assert_eq!(cells_left(&device, &ram, 0..1024), []);
+    assert_eq!(zero_frame(&mut device, &ram, 6)[4..], [('.', 0), ('T', 6)]);
+}
+
+#[test]
+fn bus_events_leave_bit_3() {
+    let mut ram = zeros(&[]);
+    for flags in [0, 8, 13, 0xFF] {
+        let mut record = made_up_frame(77, [0; 6]).to_bytes();
+        record[26] = flags;
+        for (kind, byte) in [(0, 0), (1, 0xBA), (1, 0), (1, 0), (1, 0x99), (0, 0), (1, 0xBB), (2, 0), (3, 0)] {
+            assert!(bus_bytes(&mut record, &mut ram, kind, byte) < 65_536);
+            assert_eq!(record[26], flags);
+        }
+        let mut device = Device::from_bytes(&record);
+        poke(&mut device, &mut ram, 0x3FF0, &[4, 4, 2, 0x80]);
+        assert_eq!(device.to_bytes()[26] & 8, flags & 8);
+    }
+}
+
+#[test]
+fn pixels_behind_zero_spacings() {
+    let font = [0; FONT_LEN];
+    let text = "0".repeat(36) + &"8".repeat(24);
+    let plain = "0".repeat(60);
+    // 512 in a row at the first line, whatever the frame that the device is in.
+    let mut device = zero_device(4, 2);
+    for y in [0, 1, 511, 512, 2047] {
+        assert_eq!(asked(&device, &zeros(&[]), &font, 0..60, y), plain);
+    }
+    device.frame_start(9).unwrap();
+    assert_eq!(next_line(&mut device, &zeros(&[])), ('.', 1024));
+    // 511 and a strip: all lines show it, though the device's own frame is in its plain rest.
+    for word in [127, 128, 200, 0] {
+        let ram = zeros(&[(word, strip_at(word + 9))]);
+        for y in [0, 1, 2, 3, 1000, 2047] {
+            assert_eq!(asked(&device, &ram, &font, 0..60, y), text);
+        }
+    }
+    // FBK, and OSD 0.
+    for (control, kind) in [(0xC4, "8"), (0x44, "0"), (0x04, "0")] {
+        poke(&mut device, &mut [0; RAM_LEN], 0x3FF3, &[control]);
+        assert_eq!(asked(&device, &zeros(&[]), &font, 0..60, 7), kind.repeat(60));
+    }
+}
+
+#[test]
+fn made_up_frames_as_the_slow_model() {
+    let mut noise = Noise(0x0009_0512_0511_1268);
+    for round in 0..1500 {
+        let mut ram = noise.ram();
+        let font: Vec<u8> = (0..FONT_LEN).map(|_| noise.byte()).collect();
+        let mut record = noise.record(round);
+        for number in 0..4 {
+            record[4 + usize::from(number)] = noise.register(number);
+        }
+        record[27] = noise.below(12) as u8;
+        (record[30], record[31]) = (noise.below(24) as u8, 0);
+        (record[22], record[23]) = (noise.byte(), 0);
+        let mut device = Device::from_bytes(&record);
+        let mut slow = Slow::of_record(&device.to_bytes());
+        for line in 0..record[22] {
+            if line % 16 == 0 {
+                let read = slow.remaining_reads(&ram, &font);
+                for cell in [0, 1, noise.below(1024) as usize, noise.below(1024) as usize, 1022, 1023] {
+                    assert_eq!(device.cell(&ram, cell as u32), Ok(read[cell]), "cell {cell}");
+                }
+            }
+            if noise.below(8) == 0 {
+                ram[noise.below(1024) as usize] = noise.byte();
+            }
+            let mut pixels = vec![0; device.width()];
+            let answer = device.draw(&ram, &font, &mut pixels);
+            let (expected, reads) = slow.line(&ram, &font);
+            assert_eq!((answer, pixels), (Ok(reads.len() as u32), expected));
+            assert_eq!(device.to_bytes()[20..], slow.frame_bytes());
+        }
+    }
 }
