@@ -2,13 +2,16 @@
 
 use crate::library::{Place, FRAME_NUMBER, REGISTERS};
 use crate::linked;
-use crate::pages::{random_page, seam_page, FONT, RAM};
+use crate::pages::{random_page, seam_page, zero_page, FONT, RAM};
 use crate::random::Random;
+use crate::zero_spacings::ZeroSpacings;
 use osd_model::{Device, DEVICE_LEN};
 use std::process::exit;
 
 /// How many lines of a frame are asked for, pixel by pixel.
 const LINES_ASKED: u32 = 24;
+/// How many pixels of each such line where it may take 511 descriptors a line to get there.
+const COLUMNS_ASKED: usize = 12;
 /// A byte of a line that is not drawn.
 const NO_PIXEL: u8 = 0xEE;
 
@@ -47,11 +50,16 @@ pub fn lengths() {
     }
 }
 
-/// A frame of a random page on a made-up record. Answers how many pixels were asked for.
-pub fn made_up(seed: u64) -> u64 {
+/// A frame of a random page on a made-up record. Answers how many pixels were asked for, and what was met of zero spacings.
+pub fn made_up(seed: u64) -> (u64, ZeroSpacings) {
     let mut random = Random::new(!(seed << 32));
     let mut ram = vec![0; RAM];
-    let p = if random.one_in(4) { seam_page(&mut random, &mut ram) } else { random_page(&mut random, &mut ram) };
+    let zero_spacings = random.one_in(3);
+    let p = match zero_spacings {
+        true => zero_page(&mut random, &mut ram),
+        false if random.one_in(4) => seam_page(&mut random, &mut ram),
+        false => random_page(&mut random, &mut ram),
+    };
     let mut font = vec![0; FONT];
     random.fill(&mut font);
     let mut record = record(&mut random, p);
@@ -65,9 +73,12 @@ pub fn made_up(seed: u64) -> u64 {
     }
     let frame = u32::from(record[FRAME_NUMBER]) + 64 * random.below(1 << 26) as u32;
     let mut asked = 0;
+    let mut met = ZeroSpacings::default();
     for y in 0..lines {
         let mut line = [NO_PIXEL; 768];
+        let before = record;
         let reads = linked::draw(&mut record, &ram, &font, &mut line);
+        met.line(&before, &record, reads);
         let mut model_line = [NO_PIXEL; 768];
         let drawn = model.as_mut().map(|model| model.draw(&ram, &font, &mut model_line));
         let differs = |what: &str| -> ! {
@@ -80,7 +91,9 @@ pub fn made_up(seed: u64) -> u64 {
         if !random.one_in(u64::from(1 + lines / LINES_ASKED)) {
             continue;
         }
-        for (x, &pixel) in (0..).zip(&line) {
+        let columns = if zero_spacings { COLUMNS_ASKED } else { line.len() };
+        let first = random.below((line.len() - columns + 1) as u64) as usize;
+        for (x, &pixel) in (0..).zip(&line).skip(first).take(columns) {
             let place = Place { lines, frame, x, y };
             let ours = linked::pixel(&record, &ram, &font, place);
             let expected = if pixel == NO_PIXEL { 11 << 16 } else { u32::from(pixel) };
@@ -88,7 +101,8 @@ pub fn made_up(seed: u64) -> u64 {
                 differs(&format!("column {x} answers {ours}, drawn was {pixel}"));
             }
             asked += 1;
+            met.question(&record);
         }
     }
-    asked
+    (asked, met)
 }

@@ -14,3 +14,4 @@ pub mod recorder;
 pub mod sample;
 pub mod sessions;
 pub mod traffic;
+pub mod zero_spacings;

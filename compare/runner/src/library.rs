@@ -7,9 +7,12 @@ use std::ops::Range;
 /// The most bytes of a chunk.
 pub const CHUNK_MAX: usize = 65_534;
 
-/// Where a device's record holds its registers and the frame number.
+/// Where a device's record holds its registers, the frame number, the lines left, the next descriptor's address and the strip on screen.
 pub const REGISTERS: Range<usize> = 4..20;
 pub const FRAME_NUMBER: usize = 21;
+pub const LINES_LEFT: usize = 22;
+pub const NEXT_DESCRIPTOR: usize = 24;
+pub const STRIP: usize = 26;
 
 /// Which pixel is asked for: column x of line y, in a frame of these lines and this number.
 #[derive(Clone, Copy, Debug)]

@@ -22,7 +22,8 @@
 //! | 5 | a call on a made-up record: function; its arguments. Nobody says what it answers, or leaves where it may write |
 //! | 6 | the lender changes bytes of slots, between calls: the bytes that change |
 //!
-//! Bus events and chunks on a made-up record are calls as others (4), as long as no other call has been made on it.
+//! Bus events and chunks on a made-up record are calls as others (4), as long as no other call has been made on it. So are lines, cell
+//! questions and frame starts on one whose numbers are in their range.
 //!
 //! Changed bytes are a list of: slot, first place (2 bytes), number (2 bytes), the bytes; its end is a slot of 255. Font files alone are
 //! changed by their lender, who damages them.
@@ -218,14 +219,16 @@ impl<W: Write> Recorder<W> {
     }
 }
 
-/// A call of the independent implementation on a record, where it is one.
+/// A call of the independent implementation on a record, where it is one. What is refused leaves it as it is.
 fn on_record(device: &mut Buffer, call: impl FnOnce(&mut Device) -> u32) -> u32 {
     let Ok(record) = <&mut [u8; DEVICE_LEN]>::try_from(device.get_mut()) else {
         return NOT_TAKEN;
     };
     let mut model = Device::from_bytes(record);
     let answer = call(&mut model);
-    *record = model.to_bytes();
+    if answer >> 16 == 0 {
+        *record = model.to_bytes();
+    }
     answer
 }
 

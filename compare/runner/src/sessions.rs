@@ -5,6 +5,7 @@
 mod corrupted;
 mod font_files;
 mod pixels;
+mod zero_spacings;
 
 pub use corrupted::{corrupted, Corrupted};
 
@@ -14,6 +15,7 @@ use crate::library::Library;
 use crate::pages::{random_page, FONT, RAM};
 use crate::random::Random;
 use crate::traffic;
+use crate::zero_spacings::ZeroSpacings;
 use osd_model::{Device, Event, Fed, Feed, Refusal, DEVICE_LEN, FEED_LEN, NOT_TAKEN};
 use std::process::exit;
 
@@ -57,6 +59,7 @@ struct Session<'a, L> {
     font: Lent,
     file: Lent,
     counts: [u64; 256],
+    zero_spacings: ZeroSpacings,
 }
 
 impl<L: Library> Session<'_, L> {
@@ -91,6 +94,7 @@ impl<L: Library> Session<'_, L> {
             font,
             file,
             counts: [0; 256],
+            zero_spacings: ZeroSpacings::default(),
         }
     }
 
@@ -234,10 +238,19 @@ impl<L: Library> Session<'_, L> {
         let font = other_font.as_ref().unwrap_or(&self.font);
         let model = packed(self.model.draw(&ram, font.get(), &mut model_line));
         let lent_ram = other_ram.as_ref().unwrap_or(&self.ram);
+        let before = self.device.get().to_vec();
         let ours = self.library.draw(&mut self.device, lent_ram, font, &mut line);
         self.same("line", line.get(), &model_line[..]);
         self.same("bytes around the line", line.guards_hold(), true);
         self.check("draw", ours, model);
+        self.drawn(&before, ours);
+    }
+
+    /// A draw was answered.
+    fn drawn(&mut self, before: &[u8], answer: u32) {
+        if answer >> 16 == 0 {
+            self.zero_spacings.line(before, self.device.get(), answer);
+        }
     }
 
     fn question(&mut self) {
@@ -252,6 +265,7 @@ impl<L: Library> Session<'_, L> {
         let model = packed(self.model.cell(&self.model_ram, cell).map(u32::from));
         let ours = self.library.cell(&self.device, &self.ram, cell);
         self.check("cell question", ours, model);
+        self.zero_spacings.question(self.device.get());
     }
 
     /// The top of tall letters, whose slice would round to 0: a frame of one to three lines, and before each draw a question about one
@@ -437,13 +451,22 @@ impl<L: Library> Session<'_, L> {
         self.font_files();
         self.still_frame();
         self.seams();
+        self.plain_rest();
+        self.zero_spacings();
+        self.still_zero_frame();
         self.each_state();
     }
 }
 
-/// Plays a seed's session, and answers how often each refusal was given. Ends the program at the first difference.
-pub fn play<L: Library>(library: &mut L, seed: u64) -> [u64; 256] {
+/// What a session met: how often each refusal, and what of zero spacings.
+pub struct Played {
+    pub refusals: [u64; 256],
+    pub zero_spacings: ZeroSpacings,
+}
+
+/// Plays a seed's session. Ends the program at the first difference.
+pub fn play<L: Library>(library: &mut L, seed: u64) -> Played {
     let mut session = Session::new(library, seed);
     session.run();
-    session.counts
+    Played { refusals: session.counts, zero_spacings: session.zero_spacings }
 }

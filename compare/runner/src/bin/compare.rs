@@ -8,6 +8,7 @@
 
 use runner::library::Linked;
 use runner::sessions::{corrupted, play, DEFAULT_SEED, DEFAULT_SESSIONS};
+use runner::zero_spacings::ZeroSpacings;
 use runner::{captures, font_files, frames, linked, pages};
 use std::process::exit;
 
@@ -42,13 +43,21 @@ fn main() {
     let mut made_up_fed = 0;
     let mut asked = 0;
     let mut damaged = 0;
+    let mut made_up_frames = 0;
+    let mut zero_spacings = ZeroSpacings::default();
     for i in 0..sessions {
-        add(&mut counts, play(&mut Linked, seed + i));
+        let played = play(&mut Linked, seed + i);
+        add(&mut counts, played.refusals);
+        zero_spacings += played.zero_spacings;
         let on_corrupted = corrupted(&mut Linked, seed + i);
         made_up += on_corrupted.calls;
         add(&mut made_up_counts, on_corrupted.compared);
+        made_up_frames += on_corrupted.frame_calls;
+        zero_spacings += on_corrupted.zero_spacings;
         made_up_fed += captures::made_up(seed + i);
-        asked += frames::made_up(seed + i);
+        let (pixels, met) = frames::made_up(seed + i);
+        asked += pixels;
+        zero_spacings += met;
         damaged += font_files::made_up(seed + i);
     }
     let (_, capture) = page.split_at(pages::FONT);
@@ -74,11 +83,20 @@ fn main() {
         println!("no call was refused with {refusal}");
         exit(1);
     }
+    if !zero_spacings.of_all_sorts() {
+        println!("no line passed over zero spacings, none met 512 of them, or the plain rest was not met");
+        exit(1);
+    }
     println!("{} calls compared, 0 differences; {made_up} calls on corrupted records, 0 faults", counts.iter().sum::<u64>());
     println!("{} bus events and chunks on corrupted records compared in full, 0 differences", made_up_counts.iter().sum::<u64>());
     println!(
         "a capture of {} bytes fed {fed} times, {sessions} others {made_up_fed} times, whole and cut: 0 differences",
         capture.len()
+    );
+    println!("{made_up_frames} lines, cell questions and frame starts of made-up frames compared in full, 0 differences");
+    let ZeroSpacings { passed, met, rest, asked: in_rest } = zero_spacings;
+    println!(
+        "of all these, {passed} lines passed over zero spacings, {met} met 512 of them, and the plain rest had {rest} lines and {in_rest} questions"
     );
     println!("{asked} pixels of {sessions} frames asked for and drawn: 0 differences");
     println!("{sessions} fonts written and read, their files read {damaged} times with damage of all sorts: 0 differences");

@@ -34,13 +34,13 @@ impl<L: Library> Session<'_, L> {
     }
 
     /// Any frame number, small ones too.
-    fn frame_number(&mut self) -> u32 {
+    pub(super) fn frame_number(&mut self) -> u32 {
         self.random.next() as u32 >> self.random.pick(&[0, 16, 26])
     }
 
     /// A pixel, with a record, RAM and font of these lengths where they are wrong. A record of the right length has the session's
     /// registers, and often any other bytes: they do not count.
-    fn ask_pixel(&mut self, wrong: [Option<usize>; 3], place: Place) -> u32 {
+    pub(super) fn ask_pixel(&mut self, wrong: [Option<usize>; 3], place: Place) -> u32 {
         let other_record = self.random.one_in(2).then_some(DEVICE_LEN);
         let lens = [wrong[0].or(other_record), wrong[1], wrong[2]];
         let [mut record, ram, font] = lens.map(|len| len.map(|len| Lent::new(&mut self.random, len)));
@@ -58,6 +58,7 @@ impl<L: Library> Session<'_, L> {
             self.same("bytes around the buffers", lent.guards_hold(), true);
         }
         self.check("pixel", ours, model);
+        self.zero_spacings.question(self.device.get());
         ours
     }
 
@@ -129,7 +130,7 @@ impl<L: Library> Session<'_, L> {
     }
 
     /// Another page in the RAM. Answers its P.
-    fn other_page(&mut self, page: fn(&mut Random, &mut [u8]) -> u8) -> u8 {
+    pub(super) fn other_page(&mut self, page: fn(&mut Random, &mut [u8]) -> u8) -> u8 {
         self.model_ram = vec![0; RAM];
         let p = page(&mut self.random, &mut self.model_ram);
         self.ram = Lent::copy_of(&mut self.random, &self.model_ram);
@@ -137,27 +138,30 @@ impl<L: Library> Session<'_, L> {
     }
 
     /// Starts a frame. Answers its number, or any that is the same modulo 64.
-    fn start_any(&mut self, lines: u32) -> u32 {
+    pub(super) fn start_any(&mut self, lines: u32) -> u32 {
         self.start(lines);
         u32::from(self.device.get()[FRAME_NUMBER]) + 64 * self.random.below(1 << 26) as u32
     }
 
     /// A pixel of the line that was drawn last.
-    fn ask_drawn(&mut self, line: &[u8], place: Place) {
+    pub(super) fn ask_drawn(&mut self, line: &[u8], place: Place) {
         let ours = self.library.pixel(&self.device, &self.ram, &self.font, place);
         self.same("pixel, and as it was drawn", ours, u32::from(line[place.x as usize]));
         self.check("pixel of a drawn line", ours, self.model_pixel(&self.model_ram, &self.model_font, place));
+        self.zero_spacings.question(self.device.get());
     }
 
     /// Draws a line into a buffer of its length, and answers its pixels.
-    fn line(&mut self) -> Vec<u8> {
+    pub(super) fn line(&mut self) -> Vec<u8> {
         let mut line = Lent::new(&mut self.random, self.model.width());
         let mut model_line = line.get().to_vec();
         let model = packed(self.model.draw(&self.model_ram, &self.model_font, &mut model_line));
+        let before = self.device.get().to_vec();
         let ours = self.library.draw(&mut self.device, &self.ram, &self.font, &mut line);
         self.same("line", line.get(), &model_line[..]);
         self.same("bytes around the line", line.guards_hold(), true);
         self.check("draw", ours, model);
+        self.drawn(&before, ours);
         model_line
     }
 }
