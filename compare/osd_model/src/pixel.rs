@@ -72,33 +72,44 @@ struct Row {
 }
 
 /// The row of line `y` of the frame; none in a spacing strip, with DE 0, or
-/// where all descriptors in a row have no lines.
+/// where no descriptor has lines.
 #[inline]
 fn row_of_line(registers: &Registers, ram: &RamWords, y: u32) -> Option<Row> {
     let height = u32::from(registers.height());
     let mut descriptor = usize::from(registers.first_descriptor());
+    // 512 in a row are all that there are, since RAM stays put: then no line comes to a strip.
+    if (0..RAM_WORDS).all(|place| is_passed_over(word(ram, descriptor + 2 * place))) {
+        return None;
+    }
     // The line's number in the strip, from 1.
     let mut j = y + 1;
-    let mut passed_over = 0;
-    while passed_over < RAM_WORDS {
+    loop {
         let [low, high] = word(ram, descriptor);
         let (characters, enabled, zoom) = (high & 0x80 != 0, high & 0x40 != 0, high & 0x20 != 0);
-        let lines = match (characters, zoom) {
-            (false, _) => u32::from(low),
-            (true, false) => height,
-            (true, true) => 2 * height,
-        };
-        if j <= lines {
-            let n = if zoom { j.div_ceil(2) } else { j };
-            let slice = ((36 * n + height) / (2 * height)).max(1) as usize;
-            let address = usize::from(high & 3) * 256 + usize::from(low);
-            return (characters && enabled).then_some(Row { address, slice });
+        if characters {
+            let lines = if zoom { 2 * height } else { height };
+            if j <= lines {
+                let n = if zoom { j.div_ceil(2) } else { j };
+                let slice = ((36 * n + height) / (2 * height)).max(1) as usize;
+                let address = usize::from(high & 3) * 256 + usize::from(low);
+                return enabled.then_some(Row { address, slice });
+            }
+            j -= lines;
+        } else {
+            let lines = u32::from(low);
+            if j <= lines {
+                return None;
+            }
+            j -= lines;
         }
-        j -= lines;
-        passed_over = if lines == 0 { passed_over + 1 } else { 0 };
         descriptor = (descriptor + 2) % RAM_LEN;
     }
-    None
+}
+
+/// A spacing descriptor of no lines.
+#[inline]
+fn is_passed_over([low, high]: [u8; 2]) -> bool {
+    high & 0x80 == 0 && low == 0
 }
 
 /// The code at this place of a row; none where the line ends there or before.
