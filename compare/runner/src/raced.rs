@@ -16,6 +16,9 @@ pub struct Pages {
     pub noise: Vec<u8>,
     pub descriptors: Vec<u8>,
     pub strips: Vec<u8>,
+    pub passing: [(usize, Vec<u8>); 3],
+    pub behind_511: Vec<u8>,
+    pub zeros: Vec<u8>,
 }
 
 impl Pages {
@@ -27,13 +30,26 @@ impl Pages {
         random.fill(&mut font);
         let mut noise = vec![0; RAM];
         random.fill(&mut noise);
-        let font_page = full_page(|| (random.byte() & 0x77, random.below(128) as u8));
+        // No attributes of 0: where strips of CH 1 come to the codes, none is a zero spacing.
+        let font_page = full_page(|| ((random.byte() & 0x77).max(1), random.below(128) as u8));
         let mut random = Random::new(9426);
         let user_page = full_page(|| (random.byte() & 0x77, FIRST_USER + random.below(26) as u8));
         let mut random = Random::new(9427);
         let shadowed = full_page(|| (0x0A | random.byte() & 0x70, random.below(128) as u8));
         let stop = stop_page(&mut random);
-        Pages { font, font_page, user_page, shadowed, stop, noise, descriptors: all_descriptors(), strips: all_strips() }
+        Pages {
+            font,
+            font_page,
+            user_page,
+            shadowed,
+            stop,
+            noise,
+            descriptors: all_descriptors(),
+            strips: all_strips(),
+            passing: [1, 16, 511].map(|passed| (passed, passing(passed))),
+            behind_511: behind_511(),
+            zeros: vec![0; RAM],
+        }
     }
 }
 
@@ -100,5 +116,22 @@ fn all_strips() -> Vec<u8> {
     for word in 0..WORDS {
         pages::characters(&mut ram, word, 7 * word, word == WORDS - 1, false);
     }
+    ram
+}
+
+/// Every line passes over so many zero spacings and comes to a spacing of one line. Where the groups do not fill the RAM some have one more.
+fn passing(passed: usize) -> Vec<u8> {
+    let mut ram = vec![0; RAM];
+    let groups = WORDS / (passed + 1);
+    for group in 1..=groups {
+        pages::spacing(&mut ram, group * WORDS / groups - 1, 1);
+    }
+    ram
+}
+
+/// Zero spacings, and behind 511 of them a strip; its codes are zero spacings too, black characters of the font.
+fn behind_511() -> Vec<u8> {
+    let mut ram = vec![0; RAM];
+    pages::characters(&mut ram, WORDS - 1, 0, true, false);
     ram
 }

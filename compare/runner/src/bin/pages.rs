@@ -7,7 +7,9 @@ use runner::traffic;
 
 fn main() -> std::io::Result<()> {
     let file = std::env::args().nth(1).expect("a file to write");
-    let Pages { font, font_page, user_page, shadowed, stop, noise, descriptors, strips } = Pages::new();
+    let Pages { font, font_page, user_page, shadowed, stop, noise, descriptors, strips, passing, behind_511, zeros } = Pages::new();
     let transfers = [traffic::bytes(&transfer(false)), traffic::bytes(&transfer(true))].concat();
-    std::fs::write(file, [font, font_page, user_page, shadowed, stop, noise, descriptors, strips, transfers].concat())
+    let passing = passing.map(|(_, page)| page).concat();
+    let pages = [font, font_page, user_page, shadowed, stop, noise, descriptors, strips, transfers, passing, behind_511, zeros];
+    std::fs::write(file, pages.concat())
 }

@@ -50,6 +50,14 @@ impl Pair {
         assert_eq!(linked::frame_start(&mut self.ours, LINES), 0);
         assert!(self.model.frame_start(LINES).is_ok());
     }
+
+    /// A line on both sides, with the same count of cells.
+    fn draw(&mut self) {
+        let [mut line, mut model_line] = [[0; 768]; 2];
+        let reads = linked::draw(&mut self.ours, &self.ram, &self.font, &mut line);
+        assert_eq!(self.model.draw(&self.ram, &self.font, &mut model_line), Ok(reads));
+        assert_eq!(line, model_line);
+    }
 }
 
 #[inline(never)]
@@ -112,25 +120,38 @@ fn row(name: &str, (ours, model): (f64, f64)) {
 struct Line([u8; 768]);
 
 /// A frame of 2,048 lines.
-fn draw(name: &str, rounds: u32, mut pair: Pair) {
+fn draw(name: &str, rounds: u32, pair: Pair) {
+    lines(name, rounds, pair, 0, LINES);
+}
+
+/// So many lines of a frame behind those that were drawn before, again and again up to 2,048 of them.
+fn lines(name: &str, rounds: u32, mut pair: Pair, before: u32, lines: u32) {
     let mut line = Line([0; 768]);
     let mut model_line = Line([0; 768]);
     pair.start();
+    for _ in 0..before {
+        pair.draw();
+    }
     let (start, model_start) = (pair.ours, pair.model);
     let Pair { ram, font, .. } = pair;
+    let times = LINES / lines;
     let figures = race(
         rounds,
-        LINES,
+        times * lines,
         || {
-            let mut device = start;
-            for _ in 0..LINES {
-                black_box(linked::draw(&mut device, &ram, &font, &mut line.0));
+            for _ in 0..times {
+                let mut device = start;
+                for _ in 0..lines {
+                    black_box(linked::draw(&mut device, &ram, &font, &mut line.0));
+                }
             }
         },
         || {
-            let mut device = model_start;
-            for _ in 0..LINES {
-                black_box(model_draw(&mut device, &ram, &font, &mut model_line.0));
+            for _ in 0..times {
+                let mut device = model_start;
+                for _ in 0..lines {
+                    black_box(model_draw(&mut device, &ram, &font, &mut model_line.0));
+                }
             }
         },
     );
@@ -244,25 +265,29 @@ fn cells(name: &str, rounds: u32, mut pair: Pair) {
 
 /// The same pixel again and again, through the same record on both sides; pixels all over the frame are compared.
 fn pixel(name: &str, rounds: u32, pair: Pair, x: u32, y: u32) {
-    const TIMES: u32 = 64;
+    pixels(name, rounds, pair, x, y, 64, 1);
+}
+
+/// The same, so many times a round; pixels of some columns are compared.
+fn pixels(name: &str, rounds: u32, pair: Pair, x: u32, y: u32, times: u32, step: usize) {
     let Pair { ram, font, ours: record, .. } = pair;
     let place = Place { lines: LINES, frame: 0, x, y };
     let figures = race(
         rounds,
-        TIMES,
+        times,
         || {
-            for _ in 0..TIMES {
+            for _ in 0..times {
                 black_box(linked::pixel(&record, &ram, &font, black_box(place)));
             }
         },
         || {
-            for _ in 0..TIMES {
+            for _ in 0..times {
                 black_box(model_pixel(&record, &ram, &font, black_box(place)));
             }
         },
     );
     for y in (0..LINES).step_by(89).chain([y]) {
-        for x in 0..768 {
+        for x in (0..768).step_by(step) {
             let place = Place { x, y, ..place };
             assert_eq!(linked::pixel(&record, &ram, &font, place), model_pixel(&record, &ram, &font, place));
         }
@@ -331,7 +356,7 @@ fn font_read(name: &str, rounds: u32, font: &[u8], changed: Option<usize>) {
 
 fn main() {
     let rounds = std::env::args().nth(1).map_or(200, |word| word.parse().expect("a number"));
-    let Pages { font, font_page, user_page, shadowed, stop, noise, descriptors, strips } = Pages::new();
+    let Pages { font, font_page, user_page, shadowed, stop, noise, descriptors, strips, passing, behind_511, zeros } = Pages::new();
 
     println!("| Row | Proved, ns | Rust, ns | Ratio |");
     println!("|---|---|---|---|");
@@ -342,6 +367,11 @@ fn main() {
     draw("a line of a stop page, mostly transparent", rounds, wide(&stop));
     draw("a line over noise RAM", rounds, wide(&noise));
     draw("a narrow line, 48 pixels", rounds, Pair::new(font_page.clone(), &font, [3, 4, 18, 0x80]));
+    for (passed, page) in &passing {
+        draw(&format!("a line that passes over {passed} zero spacing{}", if *passed == 1 { "" } else { "s" }), rounds, wide(page));
+    }
+    lines("a line that meets 512 zero spacings", rounds, wide(&zeros), 0, 1);
+    lines("a line of the plain rest", rounds, wide(&zeros), 1, LINES - 1);
     bus("a bus event, writing", rounds, &font, false);
     bus("a bus event, reading", rounds, &font, true);
     feed("a fed event, writing", rounds, &font, false);
@@ -352,10 +382,14 @@ fn main() {
             cells(&format!("a cell question, CH {ch}, {name}"), rounds, pair);
         }
     }
+    cells("a cell question, zero spacings", rounds, wide(&zeros));
+    let thin = |ram: &Vec<u8>| Pair::new(ram.clone(), &font, [63, 4, 1, 0x80]);
+    cells("a cell question, CH 1, 511 zero spacings and a strip", rounds, thin(&behind_511));
     pixel("a pixel, first line, first character", rounds, wide(&font_page), 36, 0);
     pixel("a pixel, CH 18, full page, line 1,000, in the middle", rounds, wide(&font_page), 384, 1000);
-    let thin = Pair::new(strips, &font, [63, 4, 1, 0x80]);
-    pixel("a pixel, CH 1, 2,048 strips, last line, last column", rounds, thin, 767, 2047);
+    pixel("a pixel, CH 1, 2,048 strips, last line, last column", rounds, thin(&strips), 767, 2047);
+    pixels("a pixel, CH 1, 511 zero spacings and a strip, last line, last column", rounds, thin(&behind_511), 767, 2047, 1, 109);
+    pixel("a pixel, zero spacings, last line, last column", rounds, wide(&zeros), 767, 2047);
     font_write("a font file, written", rounds, &font);
     font_read("a font file, read", rounds, &font, None);
     font_read("a font file, refused at block 9", rounds, &font, Some(FILE - 1));
