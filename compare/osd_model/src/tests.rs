@@ -2253,6 +2253,19 @@ fn a_strip_on_screen_before_the_plain_rest() {
 }
 
 #[test]
+fn bits_4_to_7_are_no_plain_rest() {
+    let ram = zeros(&[(0, [9, 0]), (1, strip_at(300))]);
+    for upper in [0, 0x10, 0x20, 0x40, 0x80, 0xF0] {
+        // A spacing that is over, and a strip of characters.
+        for strip in [[upper, 0, 0, 0, 0, 0], [upper | 5, 4, 30, 2, 4, 0]] {
+            let mut device = made_up_frame(2, strip);
+            assert_eq!(next_lines(&mut device, &ram, 2), [('T', 6), ('T', 4)]);
+            assert_eq!(frame_bytes(&device), [38, 0, 4, 0, 5, 2, 0x58, 2, 2, 0]);
+        }
+    }
+}
+
+#[test]
 fn bus_events_leave_bit_3() {
     let mut ram = zeros(&[]);
     for flags in [0, 8, 13, 0xFF] {

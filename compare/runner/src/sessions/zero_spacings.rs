@@ -56,6 +56,8 @@ impl<L: Library> Session<'_, L> {
             self.questions();
             self.line();
             self.control(p);
+            let refused = self.random.pick(&[0, 2049, 65_537]);
+            self.start(refused);
         }
         self.start(3);
         self.line();
@@ -84,6 +86,8 @@ impl<L: Library> Session<'_, L> {
                     let p = self.other_page(zero_page);
                     self.control(p);
                 }
+                // Any number of lines: refused ones end no plain rest.
+                _ if self.random.one_in(2) => self.frame_start(),
                 _ => self.start_short(),
             }
         }
