@@ -3,7 +3,7 @@
 use Prim.Native.Nat.{ℕ, zero, suc, _+_, _-_, _≤_, _<_, min}
 use mathlib.Core.Path.{_≡_, refl, sym, ap, ap₂, _∙_, subst}
 use mathlib.Core.Bool.{Bool, true, false, cond, _&&_, _||_, or-false, and-or-distrib-right}
-use mathlib.Core.List.{List, [], _∷_, _++_, append-assoc}
+use mathlib.Core.List.{List, [], _++_, append-assoc}
 use native.Mathlib.Nat.{not-suc-le-zero}
 use native.Mathlib.Omega.{arith}
 use borrow.Author.Tests.{eqb-false, eq-eqb, ne-eqb}
@@ -11,6 +11,7 @@ use lib.Dec.{eqb}
 use lib.ListN.{getD}
 use Rattle.buffers.specs.Buffers.{Bytes}
 use Rattle.limits.specs.Limits.{ramLength, ramPairs}
+use Rattle.facts.proofs.Tests.{and-both}
 use Rattle.facts.proofs.Pairs.{pair-is}
 use Rattle.cells.specs.Reading.{Reading, value, cells, among}
 use Rattle.cells.proofs.Laws.{cells-bind, among-append}
@@ -24,8 +25,8 @@ use Rattle.raster.proofs.Rules.{slice-range}
 use Rattle.walk.specs.declared.Strip.{Strip}
 use Rattle.walk.specs.declared.Strip.the-variants.{Spacing, Characters}
 use Rattle.walk.specs.declared.Walk.{Walk}
-use Rattle.walk.specs.Walk.{even, next, walkAt, plainRest, stripOf, over, linesLeft, nextStrip, advanced, onward, nextLine}
-use Rattle.walk.proofs.Laws.{left-over, none-over, left-advanced, advancedBy, left-by, passed-strip, stripAt, passedAt, stripOf-begun, pass-value, pass-cells, begin-value, begin-cells, step-same, on-value, on-cells, over-value, over-cells, plain-value, plain-cells}
+use Rattle.walk.specs.Walk.{even, next, walkAt, plainRest, stripOf, over, linesLeft, nextStrip, inPlainRest, advanced, onward, nextLine}
+use Rattle.walk.proofs.Laws.{left-over, none-over, left-advanced, advancedBy, left-by, passed-strip, stripAt, passedAt, stripOf-begun, pass-value, pass-cells, begin-value, begin-cells, step-strips, step-same, on-value, on-cells, over-value, over-cells, plain-value, plain-cells}
 use Rattle.glyph.specs.Cells.{ofUser, userSlice}
 use Rattle.glyph.proofs.Cells.{ofSlice}
 use Rattle.line.specs.Line.{Place, shownRow, scanBy, scan}
@@ -119,74 +120,73 @@ module _ (ram : List ℕ) (s : Settings) (k : ℕ) (strip : Strip) (c : ℕ) whe
 
 -- ---- the remaining lines of the strip on screen
 
--- with no line remaining nothing is read
-none-read : (ram : List ℕ) (s : Settings) (w : Walk) → cells ram (remaining s 0 w) ≡ []
-unfolding remaining cells
-none-read ram s w = refl
-
 -- one line: what the walk reads, what the row reads, and then the lines after it
 line-first : (ram : List ℕ) (s : Settings) (n : ℕ) (w v : Walk) (l : List ℕ) → value ram (nextLine (s .ch) w) ≡ v → cells ram (nextLine (s .ch) w) ≡ l
     → cells ram (remaining s (suc n) w) ≡ (l ++ cells ram (shownRow s (v .strip))) ++ cells ram (remaining s n v)
 unfolding remaining
 line-first ram s n w v l e f = cells-bind ram (scan s w) _ ∙ rw (scan-cells shownRow ram s w, scan-value shownRow ram s w, e, f)
 
--- the walk k lines on in its strip
-abbrev onwardBy : ℕ → Walk → Walk
-onwardBy k w = record { descriptor = w .descriptor; strip = advancedBy k (w .strip); plain = w .plain }
-
 -- a strip that has one left
-line-on : (ram : List ℕ) (s : Settings) (n : ℕ) (w : Walk) → over (w .strip) ≡ false
-    → cells ram (remaining s (suc n) w) ≡ cells ram (shownRow s (advanced (w .strip))) ++ cells ram (remaining s n (onward w))
-line-on ram s n w e = line-first ram s n w (onward w) [] (on-value ram (s .ch) w e) (on-cells ram (s .ch) w e)
+line-on : (ram : List ℕ) (s : Settings) (n a : ℕ) (t : Strip) → over t ≡ false
+    → cells ram (remaining s (suc n) (walkAt a t)) ≡ cells ram (shownRow s (advanced t)) ++ cells ram (remaining s n (walkAt a (advanced t)))
+line-on ram s n a t e =
+    line-first ram s n (walkAt a t) (walkAt a (advanced t)) [] (on-value ram (s .ch) (walkAt a t) e) (on-cells ram (s .ch) (walkAt a t) e)
 
-lines-on : (k : ℕ) (ram : List ℕ) (s : Settings) (n : ℕ) (w : Walk) → k ≤ n → k ≤ linesLeft (w .strip)
-    → cells ram (remaining s n w) ≡ rowCells ram s k (w .strip) ++ cells ram (remaining s (n - k) (onwardBy k w))
+lines-on : (k : ℕ) (ram : List ℕ) (s : Settings) (n a : ℕ) (t : Strip) → k ≤ n → k ≤ linesLeft t
+    → cells ram (remaining s n (walkAt a t)) ≡ rowCells ram s k t ++ cells ram (remaining s (n - k) (walkAt a (advancedBy k t)))
 unfolding rowCells advancedBy
-lines-on zero ram s n w h l = let e : n - 0 ≡ n = omega arith in ap (λ (m : ℕ). cells ram (remaining s m w)) (sym e)
-lines-on (suc k) ram s zero w h l = absurd (not-suc-le-zero h)
-lines-on (suc k) ram s (suc n) w h l =
+lines-on zero ram s n a t h l = let e : n - 0 ≡ n = omega arith in ap (λ (m : ℕ). cells ram (remaining s m (walkAt a t))) (sym e)
+lines-on (suc k) ram s zero a t h l = absurd (not-suc-le-zero h)
+lines-on (suc k) ram s (suc n) a t h l =
     let e : suc n - suc k ≡ n - k = omega arith in
-    let t : Strip = w .strip in
-    line-on ram s n w (left-over t (omega arith))
+    line-on ram s n a t (left-over t (omega arith))
     ∙ ap (λ (x : List ℕ). cells ram (shownRow s (advanced t)) ++ x)
-    (lines-on k ram s n (onward w) (omega arith) (omega (arith, left-advanced t)))
-    ∙ sym (append-assoc (cells ram (shownRow s (advanced t))) (rowCells ram s k (advanced t)) (cells ram (remaining s (n - k) (onwardBy k (onward w)))))
-    ∙ ap (λ (m : ℕ). (cells ram (shownRow s (advanced t)) ++ rowCells ram s k (advanced t)) ++ cells ram (remaining s m (onwardBy k (onward w)))) (sym e)
+    (lines-on k ram s n a (advanced t) (omega arith) (omega (arith, left-advanced t)))
+    ∙ sym (append-assoc (cells ram (shownRow s (advanced t))) (rowCells ram s k (advanced t)) (cells ram (remaining s (n - k) (walkAt a (advancedBy k (advanced t))))))
+    ∙ ap (λ (m : ℕ). (cells ram (shownRow s (advanced t)) ++ rowCells ram s k (advanced t)) ++ cells ram (remaining s m (walkAt a (advancedBy k (advanced t))))) (sym e)
 
 -- any strip that is over stands for any other, and any address of a descriptor for its even one
-over-same : (ram : List ℕ) (s : Settings) (n : ℕ) (w : Walk) (b : ℕ) → (1 ≤ n → over (w .strip) ≡ true) → w .plain ≡ false → even (w .descriptor) ≡ even b
-    → cells ram (remaining s n w) ≡ cells ram (remaining s n (walkAt b (Spacing 0)))
+over-same : (ram : List ℕ) (s : Settings) (n a b : ℕ) (t : Strip) → (1 ≤ n → over t ≡ true) → even a ≡ even b
+    → cells ram (remaining s n (walkAt a t)) ≡ cells ram (remaining s n (walkAt b (Spacing 0)))
 unfolding remaining scanBy cells
-over-same ram s zero w b e q f = refl
-over-same ram s (suc n) w b e q f = rw (step-same (s .ch) w b (e (omega arith)) q f)
+over-same ram s zero a b t e f = refl
+over-same ram s (suc n) a b t e f = rw (step-same (s .ch) (walkAt a t) b (e (omega arith)) refl f)
 
--- in the plain rest nothing is read
-pub plain-none : (ram : List ℕ) (s : Settings) (n : ℕ) (w : Walk) → (1 ≤ n → over (w .strip) ≡ true) → w .plain ≡ true → cells ram (remaining s n w) ≡ []
+-- outside the plain rest a walk goes by its strip and its descriptors
+strips-alone : (ram : List ℕ) (s : Settings) (n : ℕ) (w : Walk) → inPlainRest w ≡ false
+    → cells ram (remaining s n w) ≡ cells ram (remaining s n (walkAt (w .descriptor) (w .strip)))
+unfolding remaining scanBy cells
+strips-alone ram s zero w e = refl
+strips-alone ram s (suc n) w e = rw (step-strips (s .ch) w e)
+
+-- in it nothing is read
+pub plain-none : (ram : List ℕ) (s : Settings) (n : ℕ) (w : Walk) → inPlainRest w ≡ true → cells ram (remaining s n w) ≡ []
 unfolding remaining cells over hasRow
-plain-none ram s zero w e q = refl
-plain-none ram s (suc n) w e q =
-    let o = e (omega arith) in
-    line-first ram s n w (plainRest (w .descriptor)) [] (plain-value ram (s .ch) w o q) (plain-cells ram (s .ch) w o q)
-    ∙ ap₂ (λ (p : Reading (List Place)) (l : List ℕ). cells ram p ++ l) (no-row s (Spacing 0) refl) (plain-none ram s n (plainRest (w .descriptor)) (λ h. refl) refl)
+plain-none ram s zero w e = refl
+plain-none ram s (suc n) w e =
+    let t = and-both (w .plain) (over (w .strip)) e in
+    line-first ram s n w (plainRest (w .descriptor)) [] (plain-value ram (s .ch) w (t .1) (t .0)) (plain-cells ram (s .ch) w (t .1) (t .0))
+    ∙ ap₂ (λ (p : Reading (List Place)) (l : List ℕ). cells ram p ++ l) (no-row s (Spacing 0) refl) (plain-none ram s n (plainRest (w .descriptor)) refl)
+
+pub plain-unread : (ram : List ℕ) (s : Settings) (n : ℕ) (w : Walk) (c : ℕ) → inPlainRest w ≡ true → among c (cells ram (remaining s n w)) ≡ false
+plain-unread ram s n w c e = no-cell c (plain-none ram s n w e)
 
 -- ---- strip by strip
 
--- the strip on screen is passed: the rows of its lines, and then the lines after it. In the plain rest those read nothing
-pub strip-passed : (ram : List ℕ) (s : Settings) (n : ℕ) (w : Walk) (k c : ℕ) → k ≡ min (linesLeft (w .strip)) n
-    → among c (cells ram (remaining s n w))
-    ≡ among c (rowCells ram s k (w .strip)) || among c (cells ram (remaining s (cond (w .plain) 0 (n - k)) (walkAt (w .descriptor) (Spacing 0))))
-strip-passed ram s n w k c e =
+-- the strip on screen is passed: the rows of its lines, and then the lines after it
+strip-passed : (ram : List ℕ) (s : Settings) (n a : ℕ) (t : Strip) (k c : ℕ) → k ≡ min (linesLeft t) n
+    → among c (cells ram (remaining s n (walkAt a t))) ≡ among c (rowCells ram s k t) || among c (cells ram (remaining s (n - k) (walkAt a (Spacing 0))))
+strip-passed ram s n a t k c e =
     ap (among c)
-    (lines-on k ram s n w (omega arith) (omega arith) ∙ ap (λ (l : List ℕ). rowCells ram s k (w .strip) ++ l) (by (w .plain) refl))
-    ∙ among-append c (rowCells ram s k (w .strip)) (cells ram (remaining s (cond (w .plain) 0 (n - k)) (walkAt (w .descriptor) (Spacing 0))))
-  where
-    gone : 1 ≤ n - k → over (advancedBy k (w .strip)) ≡ true
-    gone h = none-over (advancedBy k (w .strip)) (left-by k (w .strip) ∙ omega arith)
+    (lines-on k ram s n a t (omega arith) (omega arith)
+    ∙ ap (λ (l : List ℕ). rowCells ram s k t ++ l)
+    (over-same ram s (n - k) a a (advancedBy k t) (λ h. none-over (advancedBy k t) (left-by k t ∙ omega arith)) refl))
+    ∙ among-append c (rowCells ram s k t) (cells ram (remaining s (n - k) (walkAt a (Spacing 0))))
 
-    by : (t : Bool) → w .plain ≡ t
-        → cells ram (remaining s (n - k) (onwardBy k w)) ≡ cells ram (remaining s (cond t 0 (n - k)) (walkAt (w .descriptor) (Spacing 0)))
-    by true q = plain-none ram s (n - k) (onwardBy k w) gone q ∙ sym (none-read ram s (walkAt (w .descriptor) (Spacing 0)))
-    by false q = over-same ram s (n - k) (onwardBy k w) (w .descriptor) gone q refl
+pub walk-passed : (ram : List ℕ) (s : Settings) (n : ℕ) (w : Walk) (k c : ℕ) → inPlainRest w ≡ false → k ≡ min (linesLeft (w .strip)) n
+    → among c (cells ram (remaining s n w))
+    ≡ among c (rowCells ram s k (w .strip)) || among c (cells ram (remaining s (n - k) (walkAt (w .descriptor) (Spacing 0))))
+walk-passed ram s n w k c o e = ap (among c) (strips-alone ram s n w o) ∙ strip-passed ram s n (w .descriptor) (w .strip) k c e
 
 -- ---- descriptor by descriptor
 
@@ -218,7 +218,7 @@ module _ (ram : List ℕ) (s : Settings) (c : ℕ) where
       → lineBy n (suc m) a ≡ eqb (pairOf c) (even a) || among c (cells ram (remaining s (suc n) (walkAt (next a) (stripAt ram (s .ch) a))))
   unfolding lineBy among
   by-strip n m a e =
-      rw (begin-value ram m (s .ch) a e, begin-cells ram m (s .ch) a e, line-on ram s n (walkAt (next a) (stripAt ram (s .ch) a)) (stripOf-begun (s .ch) _ _ e))
+      rw (begin-value ram m (s .ch) a e, begin-cells ram m (s .ch) a e, line-on ram s n (next a) (stripAt ram (s .ch) a) (stripOf-begun (s .ch) _ _ e))
       (first-two (eqb c (even a)) (eqb c (even a + 1)) _ ∙ or-with _ (pair-is c (even a) (omega arith)))
 
   module _ (inside : c < ramLength) where
@@ -255,7 +255,7 @@ module _ (ram : List ℕ) (s : Settings) (c : ℕ) where
 
   pub from-even : (n a : ℕ) → among c (cells ram (remaining s n (walkAt (even a) (Spacing 0)))) ≡ among c (cells ram (remaining s n (walkAt a (Spacing 0))))
   unfolding over
-  from-even n a = ap (among c) (over-same ram s n (walkAt (even a) (Spacing 0)) a (λ _. refl) refl (omega arith))
+  from-even n a = ap (among c) (over-same ram s n (even a) a (Spacing 0) (λ _. refl) (omega arith))
 
   pub none-left : (n a : ℕ) → n ≤ 0 → among c (cells ram (remaining s n (walkAt a (Spacing 0)))) ≡ false
   unfolding remaining cells among
@@ -277,5 +277,5 @@ module _ (ram : List ℕ) (s : Settings) (c : ℕ) where
         ∙ or-with _ (ne-eqb (pairOf c) (even a) (λ y. e (omega arith)))
         ∙ ap (λ (x : ℕ). among c (cells ram (remaining s n (walkAt (next a) (stripOf (s .ch) (getD ram x 0) (getD ram (x + 1) 0)))))) p
         ∙ ap (λ (u : Strip). among c (cells ram (remaining s n (walkAt (next a) u)))) (sym q)
-        ∙ strip-passed ram s n (walkAt (next a) t) lines c m
+        ∙ strip-passed ram s n (next a) t lines c m
         ∙ ap (λ (x : ℕ). stripReads ram s lines t c || among c (cells ram (remaining s x (walkAt (next a) (Spacing 0))))) z

@@ -2,7 +2,7 @@
 -- Assumes nothing.
 use Prim.Native.Nat.{ℕ, _+_, _-_, _*_, _/_, _%_, _≤_, _<_, min}
 use mathlib.Core.Path.{_≡_, refl, sym, ap, ap₂, _∙_, subst}
-use mathlib.Core.Bool.{Bool, true, false, cond, _&&_, _||_, true≢false, or-false, or-true, or-assoc}
+use mathlib.Core.Bool.{Bool, true, false, _&&_, _||_, true≢false, or-false, or-true, or-assoc}
 use mathlib.Core.List.{List}
 use native.Mathlib.Omega.{arith}
 use borrow.Author.Tests.{lt-ltb, le-ltb}
@@ -17,7 +17,7 @@ use Rattle.raster.proofs.Slices.{whole-zoom}
 use Rattle.walk.specs.declared.Strip.{Strip}
 use Rattle.walk.specs.declared.Strip.the-variants.{Spacing, Characters}
 use Rattle.walk.specs.declared.Walk.{Walk}
-use Rattle.walk.specs.Walk.{heightOf, zoomedBy, codesAt, showsCodes, stripOf, linesLeft}
+use Rattle.walk.specs.Walk.{heightOf, zoomedBy, codesAt, showsCodes, stripOf, linesLeft, inPlainRest}
 use Rattle.walk.proofs.Laws.{stripOf-some, codes-shown, codes-begin, codes-none}
 use Rattle.glyph.specs.Cells.{ofUser, userSlice}
 use Rattle.ahead.specs.Ahead.{remaining}
@@ -25,7 +25,7 @@ use Rattle.ahead.specs.declared.Sought.{Sought}
 use Rattle.ahead.specs.declared.Looked.{Looked}
 use Rattle.ahead.specs.Looking.{codesTo, userShown, rowReads, userReads, Starts, Far, Kept, Marks, anyRow, rowRead, stripRead, wholeRead, linesRead, Posed, Adds}
 use Rattle.ahead.proofs.Rows.{reads-split, all-far, code-even, code-of, code-next}
-use Rattle.ahead.proofs.Lines.{or-with, strip-spacing, strip-disabled, strip-characters, from-even, none-left, descriptor-here, descriptor-on, strip-passed}
+use Rattle.ahead.proofs.Lines.{or-with, strip-spacing, strip-disabled, strip-characters, from-even, none-left, descriptor-here, descriptor-on, walk-passed}
 use Rattle.ahead.proofs.Marks.{no-row}
 
 -- does a marked row show the cell's user character?
@@ -193,18 +193,18 @@ module _ {ram : List ℕ} {q : Sought} {marks₀ : List ℕ} {left₀ a₀ : ℕ
 
 -- ---- the frame's remaining lines
 
-module _ (ram : List ℕ) (left : ℕ) (w : Walk) (q : Sought) (k : ℕ) (e : k ≡ min (linesLeft (w .strip)) left) {marks₁ : List ℕ} {r₁ : Looked}
+module _ (ram : List ℕ) (left : ℕ) (w : Walk) (q : Sought) (k : ℕ) (o : inPlainRest w ≡ false) (e : k ≡ min (linesLeft (w .strip)) left) {marks₁ : List ℕ} {r₁ : Looked}
     (first : Adds ram q (stripRead ram q k (w .strip)) (replicate 16 0) marks₁ r₁) where
   all : among (q .cell) (cells ram (remaining (q .settings) left w))
-      ≡ (sofar ram q (replicate 16 0) || stripRead ram q k (w .strip)) || linesRead ram q (cond (w .plain) 0 (left - k)) (w .descriptor)
+      ≡ (sofar ram q (replicate 16 0) || stripRead ram q k (w .strip)) || linesRead ram q (left - k) (w .descriptor)
   all =
-      strip-passed ram (q .settings) left w k (q .cell) e
+      walk-passed ram (q .settings) left w k (q .cell) o e
       ∙ or-with _ (or-with (stripRead ram q k (w .strip)) (sym (no-row ram (q .cell) (q .codes))))
 
   pub found-first : r₁ .found ≡ true → among (q .cell) (cells ram (remaining (q .settings) left w)) ≡ true
   found-first y = all ∙ or-with _ (first .hit y)
 
-  module _ {marks₂ : List ℕ} {r₂ : Looked} (later : Adds ram q (linesRead ram q (cond (w .plain) 0 (left - k)) (w .descriptor)) marks₁ marks₂ r₂) (z : r₁ .found ≡ false) where
+  module _ {marks₂ : List ℕ} {r₂ : Looked} (later : Adds ram q (linesRead ram q (left - k) (w .descriptor)) marks₁ marks₂ r₂) (z : r₁ .found ≡ false) where
     pub found-later : r₂ .found ≡ true → among (q .cell) (cells ram (remaining (q .settings) left w)) ≡ true
     found-later y = all ∙ or-with _ (sym (first .miss z)) ∙ later .hit y
 

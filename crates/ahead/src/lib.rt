@@ -2,7 +2,6 @@
 // if it starts closely before it; the rows that show the cell's slice are marked, and then looked through for its user character.
 ghost use mathlib.Core.Path.{_≡_};
 ghost use Prim.Native.Nat.{ℕ, _+_, _*_, _≤_, _<_, min};
-ghost use mathlib.Core.Bool.{cond};
 ghost use lib.ListN.{length};
 ghost use Rattle.limits.specs.Limits.{ramLength, ramPairs};
 ghost use Rattle.cells.specs.Reading.{cells, among};
@@ -367,19 +366,15 @@ fn seek(settings: Settings, cell: u16) -> Sought
     }
 }
 
-// The lines after the strip on screen: in the plain rest of a frame none of them reads.
-fn lines_to_look(plain: bool, left: u16) -> u16
-    ensures { λ r. ⌜ r ≡ cond plain 0 left ⌝ }
-{
-    if plain { 0 } else { left }
-}
-
 // Do the frame's remaining lines read the cell?
 pub fn reads(ram: &[u8], settings: Settings, left: u16, walk: Walk, cell: u16) -> bool
     requires { ⌜ length (now ram) ≡ ramLength ⌝ }
     requires { ⌜ cell < ramLength ⌝ }
     ensures { λ r. ⌜ r ≡ among cell (cells (now (ram .entry)) (remaining settings left walk)) ⌝ }
 {
+    if walk.in_plain_rest() {
+        return false;
+    }
     let mut marks = [0u32; 16];
     let sought = seek(settings, cell);
     let strip = walk.strip;
@@ -388,8 +383,14 @@ pub fn reads(ram: &[u8], settings: Settings, left: u16, walk: Walk, cell: u16) -
     if first.found {
         return true;
     }
-    let rest = lines_to_look(walk.plain, left - k);
-    let looked = look_lines(ram, &mut marks, first.near, sought, rest, walk.descriptor);
+    let looked = look_lines(
+        ram,
+        &mut marks,
+        first.near,
+        sought,
+        left - k,
+        walk.descriptor,
+    );
     if looked.found {
         return true;
     }

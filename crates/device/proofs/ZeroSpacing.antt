@@ -14,7 +14,7 @@ use Rattle.registers.specs.Registers.{settingsOf}
 use Rattle.raster.specs.Raster.{widthOf}
 use Rattle.walk.specs.declared.Strip.the-variants.{Spacing}
 use Rattle.walk.specs.declared.Walk.{Walk}
-use Rattle.walk.specs.Walk.{next, plainRest, walkFrom, passedOver, over, nextStrip, advanced, onward, nextLine}
+use Rattle.walk.specs.Walk.{next, plainRest, walkFrom, passedOver, over, inPlainRest, nextStrip, advanced, onward, nextLine}
 use Rattle.walk.proofs.Laws.{begin-value, begin-cells, run-value, run-cells, all-value, all-cells, over-value, over-cells, plain-value, plain-cells}
 use Rattle.paint.specs.Pixels.{plainOf}
 use Rattle.line.specs.Line.{Place, Scanned, shownRow, paint}
@@ -22,7 +22,7 @@ use Rattle.line.proofs.Strips.{hasRow, no-row, paint-none, scan-value, scan-cel
 use Rattle.ahead.proofs.Lines.{plain-none}
 use Rattle.device.specs.declared.Device.{Device}
 use Rattle.device.specs.Device.{freshDevice, hearEvent, inFrame, startFrame, nextScan, pixelsOf, lineOn, cellsLeft}
-use Rattle.device.specs.ZeroSpacing.{lowAt, highAt, ZeroSpacings, readsDescriptor, inPlainRest, plainLine, StripBegins, PlainBegins, PlainRest, ZeroSpacing}
+use Rattle.device.specs.ZeroSpacing.{lowAt, highAt, ZeroSpacings, readsDescriptor, restIsPlain, plainLine, StripBegins, PlainBegins, PlainRest, ZeroSpacing}
 
 no : (t : Bool) → not t ≡ true → t ≡ false
 no true e = absurd (false≢true e)
@@ -72,9 +72,9 @@ module _ (d : Device) (ram : List ℕ) where
     plain-reads : length (cells ram (nextScan d)) ≡ length (cells ram (nextLine (s .ch) w))
     plain-reads = ap length (scan-cells shownRow ram s w ∙ ap (λ (l : List ℕ). cells ram (nextLine (s .ch) w) ++ l) no-reads ∙ append-nil (cells ram (nextLine (s .ch) w)))
 
-    plain-on : inPlainRest (lineOn d ram) ≡ true
+    plain-on : restIsPlain (lineOn d ram) ≡ true
     unfolding lineOn over
-    plain-on = ap (λ (v : Walk). over (v .strip) && v .plain) (walk-is e)
+    plain-on = ap inPlainRest (walk-is e)
 
 -- ---- the claim
 
@@ -117,19 +117,19 @@ all d ram h z =
       rest = plain-on d ram a e;
     }
 
-rest : (d : Device) → inPlainRest d ≡ true → PlainRest d
+rest : (d : Device) → restIsPlain d ≡ true → PlainRest d
 unfolding hearEvent cellsLeft
 rest d h =
     let ch = settingsOf (d .registers) .ch in
     let w = d .frame .walk in
-    let t = and-both (over (w .strip)) (w .plain) h in
-    let e : (ram : List ℕ) → value ram (nextLine ch w) ≡ plainRest (w .descriptor) = λ ram. plain-value ram ch w (t .0) (t .1) in
+    let t = and-both (w .plain) (over (w .strip)) h in
+    let e : (ram : List ℕ) → value ram (nextLine ch w) ≡ plainRest (w .descriptor) = λ ram. plain-value ram ch w (t .1) (t .0) in
     record {
       pixels = λ ram. plain-pixels d ram (w .descriptor) (e ram);
       reads = λ ram.
           scan-cells shownRow ram (settingsOf (d .registers)) w
-          ∙ ap₂ (λ (l m : List ℕ). l ++ m) (plain-cells ram ch w (t .0) (t .1)) (no-reads d ram (w .descriptor) (e ram));
-      remaining = λ ram. plain-none ram (settingsOf (d .registers)) (d .frame .left) w (λ l. t .0) (t .1);
+          ∙ ap₂ (λ (l m : List ℕ). l ++ m) (plain-cells ram ch w (t .1) (t .0)) (no-reads d ram (w .descriptor) (e ram));
+      remaining = λ ram. plain-none ram (settingsOf (d .registers)) (d .frame .left) w h;
       drawn = λ ram. plain-on d ram (w .descriptor) (e ram);
       written = λ ram v. h;
     }

@@ -11,7 +11,7 @@ use Rattle.cells.specs.Reading.{value, cells}
 use Rattle.registers.specs.declared.Settings.{Settings}
 use Rattle.registers.specs.Registers.{settingsOf}
 use Rattle.bus.specs.declared.Event.{Event}
-use Rattle.walk.specs.Walk.{even, next, passedOver, stripOf, over, advanced, walkAt}
+use Rattle.walk.specs.Walk.{even, next, walkAt, passedOver, stripOf, over, inPlainRest, advanced}
 use Rattle.paint.specs.Pixels.{plainOf}
 use Rattle.line.specs.Line.{shownRow}
 use Rattle.device.specs.declared.Device.{Device}
@@ -32,9 +32,9 @@ ZeroSpacings ram k a = (i : ℕ) → i < k → passedOver (lowAt ram (a + 2 * i)
 abbrev pub readsDescriptor : Device → Bool
 readsDescriptor d = over (d .frame .walk .strip) && not (d .frame .walk .plain)
 
--- the rest of the frame is plain
-abbrev pub inPlainRest : Device → Bool
-inPlainRest d = over (d .frame .walk .strip) && d .frame .walk .plain
+-- the rest of its frame is plain
+abbrev pub restIsPlain : Device → Bool
+restIsPlain d = inPlainRest (d .frame .walk)
 
 -- a line of plain pixels, 0 with OSD 0; OSD and FBK as they stand
 abbrev pub plainLine : Device → List ℕ
@@ -52,15 +52,15 @@ pub record StripBegins (d : Device) (ram : List ℕ) (k a : ℕ) : Type 0 where
 pub record PlainBegins (d : Device) (ram : List ℕ) : Type 0 where
   pub pixels : (font : List ℕ) → pixelsOf d ram font ≡ plainLine d
   pub reads : length (cells ram (nextScan d)) ≡ 1024
-  pub rest : inPlainRest (lineOn d ram) ≡ true
+  pub rest : restIsPlain (lineOn d ram) ≡ true
 
 -- what the plain rest is: over any RAM each line is plain, nothing is read, and it lasts over draws and bus events
 pub record PlainRest (d : Device) : Type 0 where
   pub pixels : (ram font : List ℕ) → pixelsOf d ram font ≡ plainLine d
   pub reads : (ram : List ℕ) → cells ram (nextScan d) ≡ []
   pub remaining : (ram : List ℕ) → cellsLeft d ram ≡ []
-  pub drawn : (ram : List ℕ) → inPlainRest (lineOn d ram) ≡ true
-  pub written : (ram : List ℕ) (e : Event) → inPlainRest (hearEvent d ram e .device) ≡ true
+  pub drawn : (ram : List ℕ) → restIsPlain (lineOn d ram) ≡ true
+  pub written : (ram : List ℕ) (e : Event) → restIsPlain (hearEvent d ram e .device) ≡ true
 
 -- the claim
 pub record ZeroSpacing : Type 0 where
@@ -68,7 +68,7 @@ pub record ZeroSpacing : Type 0 where
       → passedOver (lowAt ram (d .frame .walk .descriptor + 2 * k)) (highAt ram (d .frame .walk .descriptor + 2 * k)) ≡ false
       → StripBegins d ram k (d .frame .walk .descriptor + 2 * k)
   pub all : (d : Device) (ram : List ℕ) → readsDescriptor d ≡ true → ZeroSpacings ram 512 (d .frame .walk .descriptor) → PlainBegins d ram
-  pub rest : (d : Device) → inPlainRest d ≡ true → PlainRest d
+  pub rest : (d : Device) → restIsPlain d ≡ true → PlainRest d
   -- it ends with an accepted frame start or a reset
-  pub started : (d : Device) (lines : ℕ) → badLineCount lines ≡ false → inPlainRest (startFrame d lines .device) ≡ false
-  pub fresh : inPlainRest freshDevice ≡ false
+  pub started : (d : Device) (lines : ℕ) → badLineCount lines ≡ false → restIsPlain (startFrame d lines .device) ≡ false
+  pub fresh : restIsPlain freshDevice ≡ false

@@ -22,7 +22,7 @@ use Rattle.walk.specs.declared.Strip.{Strip}
 use Rattle.walk.specs.declared.Strip.the-variants.{Spacing, Characters}
 use Rattle.walk.specs.declared.Walk.{Walk}
 use Rattle.walk.specs.declared.Walked.{Walked}
-use Rattle.walk.specs.Walk.{even, next, walkAt, plainRest, heightOf, isSpacing, enabledBy, zoomedBy, codesAt, passedOver, showsCodes, stripOf, over, linesLeft, nextStrip, begun, advanced, onward, nextLine, OnLine, walked}
+use Rattle.walk.specs.Walk.{even, next, walkAt, plainRest, heightOf, isSpacing, enabledBy, zoomedBy, codesAt, passedOver, showsCodes, stripOf, over, linesLeft, nextStrip, inPlainRest, begun, advanced, onward, nextLine, OnLine, walked}
 
 -- ---- addresses
 
@@ -246,7 +246,7 @@ nextStrip-few r ram (suc n) ch a =
 
 module _ (ch : ℕ) (w : Walk) where
   -- a strip with a line left goes on, and nothing is read
-  pub step-on : over (w .strip) ≡ false → nextLine ch w ≡ done (onward w)
+  pub step-on : over (w .strip) ≡ false → nextLine ch w ≡ done (walkAt (w .descriptor) (advanced (w .strip)))
   unfolding nextLine begun fmap
   step-on e = rw e
 
@@ -260,6 +260,19 @@ module _ (ch : ℕ) (w : Walk) where
   unfolding nextLine begun fmap advanced
   step-plain e f = rw (e, f)
 
+  -- `plain` counts in the plain rest alone
+  pub step-strips : inPlainRest w ≡ false → nextLine ch w ≡ nextLine ch (walkAt (w .descriptor) (w .strip))
+  unfolding nextLine begun
+  step-strips e = by (over (w .strip)) (w .plain) e
+    where
+      by : (t u : Bool) → u && t ≡ false
+          → fmap onward
+          (cond t (cond u (done (plainRest (w .descriptor))) (nextStrip ramPairs ch (w .descriptor))) (done (walkAt (w .descriptor) (w .strip))))
+          ≡ fmap onward (cond t (nextStrip ramPairs ch (w .descriptor)) (done (walkAt (w .descriptor) (w .strip))))
+      by true true q = absurd (false≢true (sym q))
+      by true false q = refl
+      by false u q = refl
+
 -- whichever strip is over, and whichever of its two addresses the descriptor is given by
 pub step-same : (ch : ℕ) (w : Walk) (b : ℕ) → over (w .strip) ≡ true → w .plain ≡ false → even (w .descriptor) ≡ even b
     → nextLine ch w ≡ nextLine ch (walkAt b (Spacing 0))
@@ -269,7 +282,7 @@ step-same ch w b e f p =
 
 -- what it finds and what it reads
 module _ (ram : List ℕ) (ch : ℕ) (w : Walk) where
-  pub on-value : over (w .strip) ≡ false → value ram (nextLine ch w) ≡ onward w
+  pub on-value : over (w .strip) ≡ false → value ram (nextLine ch w) ≡ walkAt (w .descriptor) (advanced (w .strip))
   unfolding value
   on-value e = ap (value ram) (step-on ch w e)
 
@@ -316,7 +329,8 @@ pub left-pos : (left : ℕ) → eqb left 0 ≡ false → 1 ≤ left
 left-pos left e = omega (arith, eqb-false left 0 e)
 
 -- the walk's next line where a strip has a line left
-pub walked-on : (ram : List ℕ) (ch : ℕ) (w : Walk) → over (w .strip) ≡ false → walked ram ch w ≡ record { walk = onward w; cells = 0 }
+pub walked-on : (ram : List ℕ) (ch : ℕ) (w : Walk) → over (w .strip) ≡ false
+    → walked ram ch w ≡ record { walk = walkAt (w .descriptor) (advanced (w .strip)); cells = 0 }
 unfolding walked
 walked-on ram ch w e = rw (on-value ram ch w e, on-cells ram ch w e)
 

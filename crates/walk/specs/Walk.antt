@@ -101,13 +101,17 @@ nextStrip zero ch a = done (plainRest a)
 nextStrip (suc n) ch a =
     readPair descriptor a λ low high. cond (passedOver low high) (nextStrip n ch (next a)) (done (walkAt (next a) (stripOf ch low high)))
 
+-- the rest of the frame is plain: where a strip has a line left, `plain` does not count
+abbrev pub inPlainRest : Walk → Bool
+inPlainRest w = w .plain && over (w .strip)
+
 -- a descriptor is read at the first line of its strip: where the strip on screen is over, 512 in a row at the most, and none where the rest of the
 -- frame is plain
 unfoldable pub begun : ℕ → Walk → Reading Walk
 begun ch w =
     cond (over (w .strip))
     (cond (w .plain) (done (plainRest (w .descriptor))) (nextStrip ramPairs ch (w .descriptor)))
-    (done w)
+    (done (walkAt (w .descriptor) (w .strip)))
 
 -- the strip at its next line
 unfoldable pub advanced : Strip → Strip

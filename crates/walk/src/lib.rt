@@ -3,7 +3,7 @@ ghost use mathlib.Core.Path.{_≡_};
 ghost use mathlib.Core.Bool.{false};
 ghost use lib.ListN.{length};
 ghost use Rattle.limits.specs.Limits.{ramLength};
-ghost use Rattle.walk.specs.Walk.{even, next, walkFrom, isSpacing, enabledBy, zoomedBy, codesAt, passedOver, heightOf, showsCodes, stripOf, over, linesLeft, advanced, walkAt, plainRest, walked};
+ghost use Rattle.walk.specs.Walk.{even, next, walkFrom, isSpacing, enabledBy, zoomedBy, codesAt, passedOver, heightOf, showsCodes, stripOf, over, linesLeft, advanced, walkAt, plainRest, inPlainRest, walked};
 ghost use Rattle.walk.specs.declared.Strip.the-variants.{Spacing};
 use raster::ScanLine;
 
@@ -31,7 +31,8 @@ pub struct Walk {
     // the address of the next descriptor
     pub descriptor: u16,
     pub strip: Strip,
-    // 512 descriptors in a row were passed over: no more are read, and after the strip the rest of the frame is plain
+    // 512 descriptors in a row were passed over: no more are read, and the rest of the frame is plain. Where the strip has a line left
+    // it does not count
     pub plain: bool,
 }
 
@@ -248,6 +249,16 @@ impl Walk {
         }
     }
 
+    pub fn in_plain_rest(self) -> bool
+        ensures { λ r. ⌜ r ≡ inPlainRest self ⌝ }
+    {
+        let strip = self.strip;
+        if self.plain {
+            return strip.is_over();
+        }
+        false
+    }
+
     // The walk at the frame's next line. Descriptors are read where the strip on screen is over.
     pub fn next_line(self, ram: &[u8], ch: u8) -> Walked
         requires { ⌜ length (now ram) ≡ ramLength ⌝ }
@@ -267,7 +278,7 @@ impl Walk {
             walk: Walk {
                 descriptor: self.descriptor,
                 strip: strip.advance(),
-                plain: self.plain,
+                plain: false,
             },
             cells: 0,
         }

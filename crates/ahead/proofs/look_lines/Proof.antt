@@ -1,6 +1,6 @@
 -- `look_lines`: each turn passes a descriptor and its strip; what is marked and what is still to look at add up to the same (`SumSame`).
 -- Assumes nothing.
-use Prim.Native.Nat.{_+_, _*_, _≤_, _<_}
+use Prim.Native.Nat.{_*_, _≤_, _<_}
 use mathlib.Core.Path.{refl, ap}
 use native.Mathlib.Omega.{arith}
 use borrow.Author.Needs.{needs}
