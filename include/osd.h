@@ -270,7 +270,7 @@ typedef uint64_t osd_len;
  *     22, 23  lines of the frame left; 0: no frame, or all its lines drawn
  *     24, 25  address of the next descriptor
  *     26      strip on screen: bit 0 characters (else spacing), bit 1 ZY, bit 2 DE; bit 3: 512 descriptors in a row were passed over,
- *             and no more are read: behind the strip on screen (spacing with no line left, if no bytes were corrupted) all is plain
+ *             no more are read, and the rest of the frame is plain (of a strip with a line left it is not read, and falls with that line)
  *     27      characters: height (CH as taken); spacing: lines left
  *     28, 29  characters: code address; spacing: 0
  *     30, 31  characters: scan line of the strip, from 1; spacing: 0

@@ -16,15 +16,11 @@ pub(crate) fn is_read(registers: &Registers, frame: &Frame, ram: &RamWords, cell
     let word = cell / 2;
     let slice = UserSlice::at(cell);
     let mut left = frame.left;
-    if left == 0 {
+    if left == 0 || frame.in_plain_rest() {
         return false;
     }
     let mut shown = ShownRows::NONE;
     left -= shown.add_strip(frame.strip, left, &slice);
-    if frame.exhausted {
-        // The lines behind that strip read nothing.
-        left = 0;
-    }
 
     // This ends within 512 descriptors, passed over or not: they go round all
     // of RAM and so meet the word in question, if the frame is long enough.

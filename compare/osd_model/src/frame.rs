@@ -136,7 +136,7 @@ pub(crate) struct Frame {
     pub(crate) descriptor: u16,
     pub(crate) strip: Strip,
     /// All descriptors were passed over at one line: none is read any more, and
-    /// what follows the strip on screen is plain.
+    /// the rest of the frame is plain. Counts where the strip on screen is over.
     pub(crate) exhausted: bool,
 }
 
@@ -153,11 +153,17 @@ impl Frame {
         self.descriptor / 2 % RAM_WORDS as u16
     }
 
+    #[inline]
+    pub(crate) fn in_plain_rest(&self) -> bool {
+        self.exhausted && self.strip.lines_left() == 0
+    }
+
     /// Where the strip on screen is over, reads descriptors up to one that has
     /// lines; answers the cells read.
     #[inline]
     pub(crate) fn enter_strip(&mut self, ram: &RamWords, height: u8) -> u32 {
         if self.strip.lines_left() > 0 {
+            self.exhausted = false;
             return 0;
         }
         if self.exhausted {

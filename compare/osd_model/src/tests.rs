@@ -633,6 +633,8 @@ impl Slow {
     /// the strip on screen is over. None in the plain rest of a frame.
     fn strip_of_line(&mut self, ram: &[u8], reads: &mut Vec<usize>) -> Option<(u8, u8, usize, usize)> {
         if let Some((low, high, ch, j)) = self.strip.filter(|&strip| strip.3 < Slow::height(strip)) {
+            // Counts where the strip on screen is over.
+            self.rest = false;
             return Some((low, high, ch, j + 1));
         }
         if self.rest {
@@ -2195,18 +2197,23 @@ fn made_up_records_in_the_plain_rest() {
             let [low, high] = address.to_le_bytes();
             let after = |left: u8| [left, 0, low, high, 8, 0, 0, 0, 0, 0];
             for upper in [0, 0x10, 0x80, 0xF0] {
-                // A spacing, of this many lines left; bits 1 and 2 and bytes 28 to 31 do not count.
-                for lines in [0, 1, 2, 30] {
+                // A spacing with no line left; bits 1 and 2 and bytes 28 to 31 do not count.
+                let mut device = made_up_frame(address, [8 | 6 | upper, 0, 7, 2, 1, 0]);
+                assert_eq!(cells_left(&device, &ram, 0..1024), []);
+                for drawn in 1..=40 {
+                    assert_eq!(next_line(&mut device, &ram), ('.', 0));
+                    assert_eq!(frame_bytes(&device), after(40 - drawn));
+                }
+                // With lines left bit 3 does not count, and falls with the next one.
+                for lines in [1, 2, 30] {
                     let mut device = made_up_frame(address, [8 | 6 | upper, lines, 7, 2, 1, 0]);
-                    assert_eq!(cells_left(&device, &ram, 0..1024), []);
+                    let without = made_up_frame(address, [6 | upper, lines, 7, 2, 1, 0]);
+                    assert_eq!(cells_left(&device, &ram, 0..1024), cells_left(&without, &ram, 0..1024));
                     for drawn in 1..=lines {
                         assert_eq!(next_line(&mut device, &ram), ('.', 0));
-                        assert_eq!(frame_bytes(&device), [40 - drawn, 0, low, high, 8, lines - drawn, 0, 0, 0, 0]);
+                        assert_eq!(frame_bytes(&device), [40 - drawn, 0, low, high, 0, lines - drawn, 0, 0, 0, 0]);
                     }
-                    for drawn in lines + 1..=40 {
-                        assert_eq!(next_line(&mut device, &ram), ('.', 0));
-                        assert_eq!(frame_bytes(&device), after(40 - drawn));
-                    }
+                    assert_ne!(cells_left(&device, &ram, 0..1024), []);
                 }
                 // A strip of characters that is over, and further than that.
                 for (flags, height, scan) in [(1, 5, 5), (5, 5, 6), (7, 5, 10), (3, 63, 126), (5, 1, 255)] {
@@ -2223,31 +2230,31 @@ fn made_up_records_in_the_plain_rest() {
 }
 
 #[test]
-fn a_strip_on_screen_before_the_plain_rest() {
+fn a_strip_on_screen_is_no_plain_rest() {
     let ram = zeros(&[(0, [5, 0]), (1, strip_at(300))]);
     for (address, _) in ADDRESSES {
         let [low, high] = address.to_le_bytes();
         for (flags, lines, kind, reads) in [(5, 4, 'T', 4), (7, 8, 'T', 4), (1, 4, '.', 0), (3, 8, '.', 0)] {
-            for scan in 0..=lines {
+            for scan in 0..lines {
                 let mut device = made_up_frame(address, [0xA8 | flags, 4, 30, 2, scan, 0]);
-                let codes = if kind == 'T' && scan < lines { vec![542, 543, 544, 545] } else { vec![] };
+                let mut without = made_up_frame(address, [0xA0 | flags, 4, 30, 2, scan, 0]);
                 for drawn in scan + 1..=lines {
-                    assert_eq!(cells_left(&device, &ram, 0..1024), codes);
+                    assert_eq!(cells_left(&device, &ram, 0..1024), cells_left(&without, &ram, 0..1024));
                     assert_eq!(next_line(&mut device, &ram), (kind, reads));
+                    assert_eq!(next_line(&mut without, &ram), (kind, reads));
                     let left = 40 - (drawn - scan);
-                    assert_eq!(frame_bytes(&device), [left, 0, low, high, 8 | flags, 4, 30, 2, drawn, 0]);
+                    assert_eq!(frame_bytes(&device), [left, 0, low, high, flags, 4, 30, 2, drawn, 0]);
                 }
-                assert_eq!(next_lines(&mut device, &ram, 3), [('.', 0); 3]);
-                assert_eq!(frame_bytes(&device), [40 - (lines - scan) - 3, 0, low, high, 8, 0, 0, 0, 0, 0]);
+                assert_eq!(next_lines(&mut device, &ram, 3), next_lines(&mut without, &ram, 3));
+                assert_eq!(frame_bytes(&device), frame_bytes(&without));
             }
         }
     }
-    // The frame ends in the strip: bit 3 stays in the record, and counts no more.
+    // The frame ends in the strip: bit 3 stays in the record until a line is drawn.
     let mut record = made_up_frame(0, [13, 4, 30, 2, 1, 0]).to_bytes();
-    record[22] = 2;
+    record[22] = 0;
     let mut device = Device::from_bytes(&record);
-    assert_eq!(next_lines(&mut device, &ram, 2), [('T', 4), ('T', 4)]);
-    assert_eq!(frame_bytes(&device), [0, 0, 0, 0, 13, 4, 30, 2, 3, 0]);
+    assert_eq!(frame_bytes(&device), [0, 0, 0, 0, 13, 4, 30, 2, 1, 0]);
     assert_eq!(cells_left(&device, &ram, 0..1024), []);
     assert_eq!(zero_frame(&mut device, &ram, 6)[4..], [('.', 0), ('T', 6)]);
 }
