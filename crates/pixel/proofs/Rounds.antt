@@ -1,21 +1,23 @@
 -- Once round RAM, descriptor by descriptor: the line is found, or whole rounds of lines lie before it.
 -- Assumes nothing.
-use Prim.Native.Nat.{ℕ, zero, suc, _+_, _-_, _*_, _≤_, _<_}
-use mathlib.Core.Path.{_≡_, refl, sym, ap, ap₂, _∙_}
-use mathlib.Core.Bool.{true, false, false≢true}
+use Prim.Native.Nat.{ℕ, zero, suc, _+_, _-_, _*_, _/_, _≤_, _<_}
+use mathlib.Core.Path.{_≡_, refl, sym, ap, ap₂, _∙_, subst}
+use mathlib.Core.Bool.{Bool, true, false, cond, false≢true}
 use mathlib.Core.List.{List}
+use native.Mathlib.Nat.{zero-add, add-zero}
 use native.Mathlib.Decide.{decLt}
 use native.Mathlib.Omega.{arith}
 use borrow.Author.Tests.{eq-eqb, ne-eqb, lt-ltb, le-ltb}
-use lib.Dec.{eqb}
+use lib.Dec.{eqb, ltb}
+use lib.ListN.{getD}
 use Rattle.limits.specs.Limits.{ramPairs}
 use Rattle.walk.specs.Walk.{even, next}
-use Rattle.walk.proofs.Laws.{passedAt}
+use Rattle.walk.proofs.Laws.{next-even, passedAt}
 use Rattle.pixel.specs.declared.Pair.{Pair}
 use Rattle.pixel.specs.declared.Round.{Round}
 use Rattle.pixel.specs.declared.StripLine.{StripLine}
-use Rattle.pixel.specs.Pixel.{pairAt, stripFrom, lineAt, fallsIn}
-use Rattle.pixel.specs.Rounds.{roundOf}
+use Rattle.pixel.specs.Pixel.{pairAt, linesOf, stripFrom, lineAt, fallsIn}
+use Rattle.pixel.specs.Rounds.{Span, roundOf}
 use Rattle.pixel.proofs.Laws.{lines-none, lines-passed, lines-some, pair-same, strip-here, strip-next, strip-none, strip-by, strip-last, firstAt, Strips, strips-next, linesAt, falls-none, falls-even, falls-here, falls-next}
 
 module _ (ram : List ℕ) (ch : ℕ) where
@@ -33,6 +35,114 @@ module _ (ram : List ℕ) (ch : ℕ) where
   pub round-end : (a y : ℕ) → roundOf 0 ram ch a y ≡ record { found = false; line = lineAt ram (a + 1022) y; left = y }
   unfolding roundOf
   round-end a y = refl
+
+  -- ---- descriptors in two parts
+
+  -- any address of a descriptor stands for its even one
+  pub round-even : (k a b y : ℕ) → even a ≡ even b → roundOf k ram ch a y ≡ roundOf k ram ch b y
+  unfolding roundOf
+  round-even zero a b y e =
+      let by-even : (x : ℕ) → even (even x + 1022) ≡ even (x + 1022) = λ x. omega arith in
+      ap (λ (d : Pair). record { found = false; line = record { descriptor = d; line = record { 0 = y + 1 } }; left = y })
+      (pair-same ram (a + 1022) (b + 1022) (sym (by-even a) ∙ ap (λ (x : ℕ). even (x + 1022)) e ∙ by-even b))
+  round-even (suc k) a b y e =
+      let n : next a ≡ next b = sym (next-even a) ∙ ap next e ∙ next-even b in
+      ap₂ (λ (d : Pair) (x : ℕ). cond (ltb y (linesOf ch d))
+      (record { found = true; line = record { descriptor = d; line = record { 0 = y + 1 } }; left = y })
+      (roundOf k ram ch x (y - linesOf ch d))) (pair-same ram a b e) n
+
+  -- the first k, and the others where these do not have the line
+  abbrev inTwo : ℕ → ℕ → Round → Round
+  inTwo m b r = cond (r .found) r (roundOf m ram ch b (r .left))
+
+  pub round-two : (k m a y : ℕ) → roundOf (k + m) ram ch a y ≡ inTwo m (a + 2 * k) (roundOf k ram ch a y)
+  round-two zero m a y =
+      rw (round-end a y) (ap₂ (λ (n b : ℕ). roundOf n ram ch b y) (zero-add m) (sym (add-zero a)))
+  round-two (suc k) m a y = by (decLt y (linesAt ram ch a)) (round-two k m (next a) (y - linesAt ram ch a))
+    where
+      more : suc k + m ≡ suc (k + m)
+      more = omega arith
+
+      by : Dec (y < linesAt ram ch a)
+          → roundOf (k + m) ram ch (next a) (y - linesAt ram ch a) ≡ inTwo m (next a + 2 * k) (roundOf k ram ch (next a) (y - linesAt ram ch a))
+          → roundOf (suc k + m) ram ch a y ≡ inTwo m (a + 2 * suc k) (roundOf (suc k) ram ch a y)
+      by (yes p) ih =
+          ap (λ (n : ℕ). roundOf n ram ch a y) more ∙ round-here (k + m) a y p
+          ∙ sym (ap (inTwo m (a + 2 * suc k)) (round-here k a y p))
+      by (no p) ih =
+          let r : Round = roundOf k ram ch (next a) (y - linesAt ram ch a) in
+          ap (λ (n : ℕ). roundOf n ram ch a y) more
+          ∙ round-next (k + m) a y (omega arith)
+          ∙ ih
+          ∙ ap (cond (r .found) r) (round-even m (next a + 2 * k) (a + 2 * suc k) (r .left) (omega arith))
+          ∙ sym (ap (inTwo m (a + 2 * suc k)) (round-next k a y (omega arith)))
+
+  -- all 512: up to the end of RAM, and from its start on
+  module _ (a first y : ℕ) (start : a ≡ even first) where
+    abbrev upper : Round
+    upper = roundOf ((1024 - a) / 2) ram ch a y
+
+    parts : roundOf ramPairs ram ch first y ≡ inTwo ((a - 0) / 2) 0 upper
+    parts =
+        let all : ramPairs ≡ (1024 - a) / 2 + (a - 0) / 2 = omega (arith, start) in
+        let end : a + 2 * ((1024 - a) / 2) ≡ 1024 = omega (arith, start) in
+        round-even ramPairs first a y (omega (arith, start))
+        ∙ ap (λ (n : ℕ). roundOf n ram ch a y) all
+        ∙ round-two ((1024 - a) / 2) ((a - 0) / 2) a y
+        ∙ ap (cond (upper .found) upper) (round-even ((a - 0) / 2) (a + 2 * ((1024 - a) / 2)) 0 (upper .left) (ap even end))
+
+    pub round-upper : upper .found ≡ true → upper ≡ roundOf ramPairs ram ch first y
+    round-upper e = sym (parts ∙ ap (λ (t : Bool). cond t upper (roundOf ((a - 0) / 2) ram ch 0 (upper .left))) e)
+
+    pub round-lower : upper .found ≡ false → roundOf ((a - 0) / 2) ram ch 0 (upper .left) ≡ roundOf ramPairs ram ch first y
+    round-lower e = sym (parts ∙ ap (λ (t : Bool). cond t upper (roundOf ((a - 0) / 2) ram ch 0 (upper .left))) e)
+
+  -- ---- up to an address, with no round to end
+
+  -- both bytes of the descriptor at an even address
+  abbrev pub pairHere : ℕ → Pair
+  pairHere a = record { low = getD ram a 0; high = getD ram (a + 1) 0 }
+
+  module _ (to a y : ℕ) (in-span : Span a to) (more : a < to) where
+    here : pairHere a ≡ pairAt ram a
+    here =
+        let e : a ≡ even a = omega (arith, in-span .inside, in-span .paired) in
+        ap (λ (i : ℕ). record { low = getD ram i 0; high = getD ram (i + 1) 0 }) e
+
+    one-more : (to - a) / 2 ≡ suc ((to - (a + 2)) / 2)
+    one-more = omega (arith, in-span .paired)
+
+    pub span-here : y < linesOf ch (pairHere a)
+        → roundOf ((to - a) / 2) ram ch a y ≡ record { found = true; line = record { descriptor = pairHere a; line = record { 0 = y + 1 } }; left = y }
+    span-here h =
+        ap (λ (k : ℕ). roundOf k ram ch a y) one-more
+        ∙ round-here ((to - (a + 2)) / 2) a y (subst (λ (d : Pair). y < linesOf ch d) here h)
+        ∙ ap (λ (d : Pair). record { found = true; line = record { descriptor = d; line = record { 0 = y + 1 } }; left = y }) (sym here)
+
+    pub span-next : (z : ℕ) → z + linesOf ch (pairHere a) ≡ y → roundOf ((to - (a + 2)) / 2) ram ch (a + 2) z ≡ roundOf ((to - a) / 2) ram ch a y
+    span-next z e =
+        let p : z + linesAt ram ch a ≡ y = subst (λ (d : Pair). z + linesOf ch d ≡ y) here e in
+        let left : z ≡ y - linesAt ram ch a = omega (arith, p) in
+        round-even ((to - (a + 2)) / 2) (a + 2) (next a) z (omega arith)
+        ∙ ap (roundOf ((to - (a + 2)) / 2) ram ch (next a)) left
+        ∙ sym (ap (λ (k : ℕ). roundOf k ram ch a y) one-more ∙ round-next ((to - (a + 2)) / 2) a y (omega (arith, p)))
+
+  pub span-end : (to a y : ℕ) → to ≤ a → a ≤ to
+      → roundOf ((to - a) / 2) ram ch a y ≡ record { found = false; line = lineAt ram (to + 1022) y; left = y }
+  span-end to a y h k =
+      let none : (to - a) / 2 ≡ 0 = omega arith in
+      let end : a ≡ to = omega arith in
+      ap (λ (n : ℕ). roundOf n ram ch a y) none ∙ round-end a y ∙ ap (λ (x : ℕ). record { found = false; line = lineAt ram (x + 1022) y; left = y }) end
+
+  -- no more lines are left
+  pub round-less : (k a y : ℕ) → roundOf k ram ch a y .left ≤ y
+  round-less zero a y = rw (round-end a y) (omega arith)
+  round-less (suc k) a y = by (decLt y (linesAt ram ch a)) (round-less k (next a) (y - linesAt ram ch a))
+    where
+      by : Dec (y < linesAt ram ch a) → roundOf k ram ch (next a) (y - linesAt ram ch a) .left ≤ y - linesAt ram ch a
+          → roundOf (suc k) ram ch a y .left ≤ y
+      by (yes p) ih = rw (round-here k a y p) (omega arith)
+      by (no p) ih = rw (round-next k a y (omega arith)) (omega arith)
 
   -- ---- the lines of k descriptors in a row
 

@@ -1,7 +1,8 @@
 // One pixel of a frame, asked for by column and line: document 01 as plainly as it can be read, for the bench. Nothing is kept between
 // calls, so every call walks from the frame's first descriptor. A line is drawn faster by the device's own draw.
 ghost use mathlib.Core.Path.{_≡_};
-ghost use Prim.Native.Nat.{_+_, _<_};
+ghost use mathlib.Core.Bool.{true};
+ghost use Prim.Native.Nat.{_+_, _-_, _/_, _<_};
 ghost use lib.ListN.{length};
 ghost use Rattle.limits.specs.Limits.{ramLength, ramPairs, frameLines};
 ghost use Rattle.raster.specs.Raster.{InStrip, OnScreen};
@@ -10,7 +11,7 @@ ghost use Rattle.glyph.specs.Glyph.{Lent};
 ghost use Rattle.paint.specs.Pixels.{foreground, background};
 ghost use Rattle.pixel.specs.Pixel.{pairAt, fallsIn, sliceOf, ended, isForeground, codeOf, foregroundAt, besideAt, rowPixel, pixelAt};
 ghost use Rattle.pixel.specs.Ask.{pixelReply, askPixel};
-ghost use Rattle.pixel.specs.Rounds.{roundOf};
+ghost use Rattle.pixel.specs.Rounds.{Span, roundOf};
 use device::Device;
 use raster::ScanLine;
 use raster::Slice;
@@ -67,66 +68,82 @@ fn line_of(descriptor: Pair, number: u32) -> StripLine
     }
 }
 
-// The 512 descriptors of RAM, once round: line y was found in a strip of theirs, or lies past them all, so many lines on. Then the
-// last descriptor stands for its strip.
+// Some descriptors in a row: line y was found in the strip of one of them, or lies past them all, so many lines on. Then the last of
+// them stands for its strip.
 pub struct Round {
     pub found: bool,
     pub line: StripLine,
     pub left: u32,
 }
 
-// Descriptor by descriptor, once round RAM. Each kind of strip is tested by itself: where their lines come together before the test, the
-// compiler counts them by a shift, and a strip takes half as long again.
-fn walk_round(ram: &[u8], ch: u8, first: u16, y: u32) -> Round
+// The line is one of a descriptor's strip.
+fn found_in(descriptor: Pair, left: u32) -> Round
+    requires { ⌜ left < frameLines ⌝ }
+    ensures { λ r. ⌜ r ≡ record { found = true; line = record { descriptor = descriptor; line = record { 0 = left + 1 } }; left = left } ⌝ }
+{
+    Round {
+        found: true,
+        line: line_of(descriptor, left),
+        left: left,
+    }
+}
+
+// The descriptors from one address of RAM up to another, with no round to end. Each kind of strip is tested by itself: where their lines
+// come together before the test, the compiler counts them by a shift, and a strip takes half as long again.
+fn walk_span(ram: &[u8], ch: u8, from: usize, to: usize, y: u32) -> Round
     requires { ⌜ length (now ram) ≡ ramLength ⌝ }
+    requires { ⌜ Span from to ⌝ }
     requires { ⌜ y < frameLines ⌝ }
-    ensures { λ r. ⌜ r ≡ roundOf ramPairs (now (ram .entry)) ch first y ⌝ }
+    ensures { λ r. ⌜ r ≡ roundOf ((to - from) / 2) (now (ram .entry)) ch from y ⌝ }
 {
     let height = walk::height(ch) as u32;
-    let mut at = first as usize;
+    let mut at = from;
     let mut left = y;
-    let mut more = limits::RAM_PAIRS;
-    while more > 0 {
-        let descriptor = pair_at(ram, at);
+    while at < to {
+        let descriptor = Pair {
+            low: ram[at],
+            high: ram[at + 1],
+        };
         if walk::is_spacing(descriptor.high) {
             let lines = descriptor.low as u32;
             if left < lines {
-                return Round {
-                    found: true,
-                    line: line_of(descriptor, left),
-                    left: left,
-                };
+                return found_in(descriptor, left);
             }
             left -= lines;
         } else {
             if walk::zoom(descriptor.high) {
                 if left < 2 * height {
-                    return Round {
-                        found: true,
-                        line: line_of(descriptor, left),
-                        left: left,
-                    };
+                    return found_in(descriptor, left);
                 }
                 left -= 2 * height;
             } else {
                 if left < height {
-                    return Round {
-                        found: true,
-                        line: line_of(descriptor, left),
-                        left: left,
-                    };
+                    return found_in(descriptor, left);
                 }
                 left -= height;
             }
         }
-        at = walk::next_address(at);
-        more -= 1;
+        at += 2;
     }
     Round {
         found: false,
-        line: line_of(pair_at(ram, at + limits::RAM_LENGTH - 2), left),
+        line: line_of(pair_at(ram, to + limits::RAM_LENGTH - 2), left),
         left: left,
     }
+}
+
+// All 512 descriptors of RAM, from one on.
+fn walk_round(ram: &[u8], ch: u8, first: u16, y: u32) -> Round
+    requires { ⌜ length (now ram) ≡ ramLength ⌝ }
+    requires { ⌜ y < frameLines ⌝ }
+    ensures { λ r. ⌜ r ≡ roundOf ramPairs (now (ram .entry)) ch first y ⌝ }
+{
+    let start = walk::even_address(first as usize);
+    let once = walk_span(ram, ch, start, limits::RAM_LENGTH, y);
+    if once.found {
+        return once;
+    }
+    walk_span(ram, ch, 0, start, once.left)
 }
 
 // The strip that line y falls in, of those from a descriptor on. While RAM stays put its descriptors come round again, with as many
