@@ -1,7 +1,7 @@
 -- Request K5: the pixel at column x of line y of a frame, both counted from 0, while RAM, registers and font stay put. Document 01 read once
 -- more, as plainly as it can be and in its order: neither the scan nor the painting of a line (crate line) is used. Shared with them are small
--- rules alone: settings and P, even addresses and the next, the bits of a descriptor and a strip's lines, the slice of a line and where its
--- bytes lie, the end of line, the plain pixel and the colours of a low byte, the first pixel and the hidden time.
+-- rules alone: settings and P, even addresses and the next, the bits of a descriptor, which spacing is passed over and a strip's lines, the slice
+-- of a line and where its bytes lie, the end of line, the plain pixel and the colours of a low byte, the first pixel and the hidden time.
 -- Assumes nothing.
 use Prim.Native.Nat.{ℕ, zero, suc, _+_, _-_, _*_, _/_, _%_, _^_}
 use mathlib.Core.Bool.{Bool, not, cond, _&&_, _||_}
@@ -44,9 +44,9 @@ abbrev pub lineAt : List ℕ → ℕ → ℕ → StripLine
 lineAt ram a y = record { descriptor = pairAt ram a; line = record { 0 = y + 1 } }
 
 -- line y, counted from the first line of the strip that the descriptors from an address on begin, is a line of that strip, or it falls in the strips
--- after it. Where 512 descriptors in a row are passed over, it falls in none, and nor do the lines after it (K9): the last of the 512 is its
--- descriptor, which is spacing, so that it is plain. n is how many strips may still be passed: y is enough, since each has a line at least, and where
--- n is 0 so is y
+-- after it. Where 512 descriptors in a row are passed over, it falls in none, and nor do the lines after it (K9): the last of the 512 stands for
+-- its descriptor; it is spacing, so the line is plain. n is how many strips may still be passed: y is enough, since each has a line at least, and
+-- where n is 0 so is y
 unfoldable pub fallsIn : (n : ℕ) (ram : List ℕ) (ch a y : ℕ) → StripLine
 fallsIn zero ram ch a y = lineAt ram (stripFrom 511 ram a) y
 fallsIn (suc n) ram ch a y =

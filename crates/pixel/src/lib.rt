@@ -24,7 +24,8 @@ pub struct Pair {
     pub high: u8,
 }
 
-// A line of a frame: the descriptor of its strip, and which line of the strip it is.
+// A line of a frame: the descriptor of its strip, and which line of the strip it is. In the plain rest of a frame it has no strip: a
+// descriptor that is passed over stands for it.
 pub struct StripLine {
     pub descriptor: Pair,
     pub line: ScanLine,

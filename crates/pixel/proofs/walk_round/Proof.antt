@@ -1,8 +1,7 @@
 -- `walk_round`: up to the end of RAM (`round-upper`), and then from its start on (`round-lower`).
 -- Assumes nothing.
 use Prim.Native.Nat.{_≤_}
-use mathlib.Core.Path.{_≡_, refl, sym, ap, _∙_}
-use mathlib.Core.Bool.{false}
+use mathlib.Core.Path.{refl, sym, ap, _∙_}
 use native.Mathlib.Omega.{arith}
 use denote.Ref.{now}
 use Rattle.pixel.specs.declared.Round.{Round}

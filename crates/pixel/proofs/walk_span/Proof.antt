@@ -1,6 +1,6 @@
 -- `walk_span`: each turn finds the line in the strip at hand (`span-here`), or passes all lines of that strip (`passed`, `span-next`).
 -- Assumes nothing.
-use Prim.Native.Nat.{_+_, _-_, _/_, _%_, _≤_}
+use Prim.Native.Nat.{_+_, _-_, _/_, _≤_}
 use mathlib.Core.Path.{_≡_, refl, sym, _∙_}
 use mathlib.Core.Bool.{true, false}
 use mathlib.Core.Logic.{⊎-elim}
