@@ -1,9 +1,10 @@
 -- The laws of the walk: addresses lie below 1,024, and the strip on screen is at one of its lines.
 -- Assumes nothing.
-use Prim.Native.Nat.{ℕ, zero, suc, _+_, _-_, _*_, _≤_, _<_}
+use Prim.Native.Nat.{ℕ, zero, suc, _+_, _-_, _*_, _/_, _%_, _≤_, _<_}
 use mathlib.Core.Path.{_≡_, refl, sym, ap, ap₂, _∙_}
 use mathlib.Core.Bool.{Bool, true, false, cond, _&&_, false≢true}
 use native.Mathlib.Nat.{zero-add, add-zero}
+use native.Mathlib.Decide.{decLt}
 use native.Mathlib.Omega.{arith}
 use borrow.Author.Tests.{eqb-true, eqb-false, eq-eqb, ne-eqb}
 use mathlib.Core.List.{List, [], _∷_}
@@ -21,8 +22,7 @@ use Rattle.raster.proofs.Laws.{some-after, one-less, last-none, following-in}
 use Rattle.walk.specs.declared.Strip.{Strip}
 use Rattle.walk.specs.declared.Strip.the-variants.{Spacing, Characters}
 use Rattle.walk.specs.declared.Walk.{Walk}
-use Rattle.walk.specs.declared.Walked.{Walked}
-use Rattle.walk.specs.Walk.{even, next, walkAt, plainRest, heightOf, isSpacing, enabledBy, zoomedBy, codesAt, passedOver, showsCodes, stripOf, over, linesLeft, nextStrip, inPlainRest, begun, advanced, onward, nextLine, OnLine, walked}
+use Rattle.walk.specs.Walk.{even, next, walkAt, plainRest, heightOf, isSpacing, enabledBy, zoomedBy, codesAt, passedOver, showsCodes, stripOf, over, linesLeft, nextStrip, inPlainRest, begun, advanced, onward, nextLine, OnLine, walked, beginsAt}
 
 -- ---- addresses
 
@@ -33,6 +33,38 @@ even-bound a = omega arith
 -- the next one of an address is that of its even one
 pub next-even : (a : ℕ) → next (even a) ≡ next a
 next-even a = omega arith
+
+-- so many further from the next one
+next-by : (a i : ℕ) → even (next a + 2 * i) ≡ even (a + 2 * suc i)
+next-by a i = omega arith
+
+-- the next one, where it does not wrap
+next-on : (a : ℕ) → a % 2 ≡ 0 → a < 1022 → next a ≡ a + 2
+next-on a e l = omega arith
+
+-- another lies two cells further from an address than from the next one
+two-further : (a b : ℕ) → even a ≡ a → even b ≡ b → (b ≡ a → ⊥) → (b + 1024 - next a) % 1024 + 2 ≡ (b + 1024 - a) % 1024
+two-further a b p q h = by (decLt a 1022) (decLt b a)
+  where
+    paired : (x : ℕ) → even x ≡ x → (x % 2 ≡ 0) × (x < 1024)
+    paired x e = (omega (arith, e), omega (arith, e))
+
+    behind : a + 2 ≤ b → b < 1024 → (b + 1024 - (a + 2)) % 1024 + 2 ≡ (b + 1024 - a) % 1024
+    behind m l =
+        let once : (d : ℕ) → d < 1024 → (d + 1024) % 1024 ≡ d = λ d k. omega arith in
+        let near : b + 1024 - (a + 2) ≡ b - (a + 2) + 1024 = omega arith in
+        let far : b + 1024 - a ≡ b - a + 1024 = omega arith in
+        rw (near, far, once (b - (a + 2)) (omega arith), once (b - a) (omega arith)) (omega (arith, m))
+
+    by : Dec (a < 1022) → Dec (b < a) → (b + 1024 - next a) % 1024 + 2 ≡ (b + 1024 - a) % 1024
+    by (yes l) (yes m) =
+        rw (next-on a (paired a p .0) l) (omega (arith, l, m))
+    by (yes l) (no m) =
+        let more : a + 2 ≤ b = omega (arith, paired a p, paired b q, m, h) in
+        rw (next-on a (paired a p .0) l) (behind more (paired b q .1))
+    by (no l) m =
+        let last : a ≡ 1022 = omega (arith, paired a p, l) in
+        rw last (omega (arith, paired b q, last, h))
 
 -- ---- the lines that a strip has left
 
@@ -182,8 +214,7 @@ module _ (ram : List ℕ) (ch : ℕ) where
 
   run-on : (k a : ℕ) → PassedRun (suc k) a → PassedRun k (next a)
   run-on k a h i l =
-      let e : even (next a + 2 * i) ≡ even (a + 2 * suc i) = omega arith in
-      ap (λ (x : ℕ). passedOver (getD ram x 0) (getD ram (x + 1) 0)) e ∙ h (suc i) (omega arith)
+      ap (λ (x : ℕ). passedOver (getD ram x 0) (getD ram (x + 1) 0)) (next-by a i) ∙ h (suc i) (omega arith)
 
   run-first : (k a : ℕ) → PassedRun (suc k) a → passedAt ram a ≡ true
   run-first k a h = let e : even a ≡ even (a + 2 * 0) = omega arith in ap (λ (x : ℕ). passedOver (getD ram x 0) (getD ram (x + 1) 0)) e ∙ h 0 (omega arith)
@@ -340,48 +371,91 @@ pub walked-plain : (ram : List ℕ) (ch : ℕ) (w : Walk) → over (w .strip) �
 unfolding walked
 walked-plain ram ch w e f = rw (plain-value ram ch w e f, plain-cells ram ch w e f)
 
--- and where a strip begins
-pub walked-begin : (ram : List ℕ) (ch : ℕ) (w : Walk) → over (w .strip) ≡ true → w .plain ≡ false
-    → walked ram ch w ≡ walked ram ch (walkAt (w .descriptor) (Spacing 0))
-unfolding walked
-walked-begin ram ch w e f = rw (step-same ch w (w .descriptor) e f refl)
+-- ---- where a strip begins
 
--- there: the descriptors from an address on, of which so many are left of 512
-unfoldable pub walkedBy : List ℕ → (ch left a : ℕ) → Walked
-walkedBy ram ch left a =
-    record { walk = onward (value ram (nextStrip left ch a)); cells = 2 * (ramPairs - left) + length (cells ram (nextStrip left ch a)) }
+module _ (ram : List ℕ) where
+  abbrev passedHere : ℕ → Bool
+  passedHere a = passedOver (getD ram a 0) (getD ram (a + 1) 0)
 
-module _ (ram : List ℕ) (ch : ℕ) where
-  pub by-all : (a : ℕ) → walkedBy ram ch ramPairs (even a) ≡ walked ram ch (walkAt a (Spacing 0))
-  unfolding walkedBy walked over
-  by-all a =
-      let w : Walk = walkAt a (Spacing 0) in
-      let e : nextStrip ramPairs ch (even a) ≡ nextStrip ramPairs ch a = nextStrip-even 511 ch (even a) a (omega arith) in
-      rw e
-      (ap₂ (λ (v : Walk) (n : ℕ). record { walk = v; cells = n }) (sym (over-value ram ch w refl refl))
-      (omega (arith, ap length (over-cells ram ch w refl refl))))
+  pub at-next : (n a : ℕ) → passedHere a ≡ true → beginsAt (suc n) ram a ≡ beginsAt n ram (next a)
+  unfolding beginsAt
+  at-next n a e = ap (λ (t : Bool). cond t (beginsAt n ram (next a)) a) e
 
-  module _ (left a : ℕ) (some : 1 ≤ left) (most : left ≤ ramPairs) where
-    abbrev one-more : suc (left - 1) ≡ left
-    one-more = omega arith
+  pub at-here : (n a : ℕ) → passedHere a ≡ false → beginsAt (suc n) ram a ≡ a
+  unfolding beginsAt
+  at-here n a e = ap (λ (t : Bool). cond t (beginsAt n ram (next a)) a) e
 
-    pub by-pass : passedAt ram a ≡ true → walkedBy ram ch (left - 1) (next a) ≡ walkedBy ram ch left a
-    unfolding walkedBy
-    by-pass e =
-        let v = ap (λ (n : ℕ). value ram (nextStrip n ch a)) one-more in
-        let l = ap (λ (n : ℕ). length (cells ram (nextStrip n ch a))) one-more in
-        let p = ap length (pass-cells ram (left - 1) ch a e) in
-        ap₂ (λ (w : Walk) (n : ℕ). record { walk = onward w; cells = n }) (sym (pass-value ram (left - 1) ch a e) ∙ v) (omega (arith, l, p))
+  pub at-none : (a : ℕ) → beginsAt 0 ram a ≡ ramLength
+  unfolding beginsAt
+  at-none a = refl
 
-    pub by-strip : passedAt ram a ≡ false
-        → record { walk = walkAt (next a) (advanced (stripAt ram ch a)); cells = 2 * (ramPairs - (left - 1)) } ≡ walkedBy ram ch left a
-    unfolding walkedBy
-    by-strip e =
-        let v = ap (λ (n : ℕ). value ram (nextStrip n ch a)) one-more in
-        let l = ap (λ (n : ℕ). length (cells ram (nextStrip n ch a))) one-more in
-        let p = ap length (begin-cells ram (left - 1) ch a e) in
-        ap₂ (λ (w : Walk) (n : ℕ). record { walk = onward w; cells = n }) (sym (begin-value ram (left - 1) ch a e) ∙ v) (omega (arith, l, p))
+  -- by its two bytes at the even address
+  here-at : (a : ℕ) → even a ≡ a → passedAt ram a ≡ passedHere a
+  here-at a p = ap (λ (x : ℕ). passedOver (getD ram x 0) (getD ram (x + 1) 0)) p
 
-  pub by-none : (a : ℕ) → record { walk = plainRest a; cells = ramLength } ≡ walkedBy ram ch 0 a
-  unfolding walkedBy nextStrip value cells advanced
-  by-none a = refl
+  -- the walk's next strip is that of the descriptor there
+  pub record BeginsAt (n ch a b : ℕ) : Type 0 where
+    pub paired : even b ≡ b
+    pub begins : passedHere b ≡ false
+    pub walk : value ram (nextStrip n ch a) ≡ walkAt (next b) (stripOf ch (getD ram b 0) (getD ram (b + 1) 0))
+    pub reads : length (cells ram (nextStrip n ch a)) ≡ (b + 1024 - a) % 1024 + 2
+
+  pub begins-some : (n ch a : ℕ) → even a ≡ a → (beginsAt n ram a ≡ ramLength → ⊥) → BeginsAt n ch a (beginsAt n ram a)
+  begins-some zero ch a p h = absurd (h (at-none a))
+  begins-some (suc n) ch a p h = by (passedHere a) refl (begins-some n ch (next a) (omega arith))
+    where
+      by : (t : Bool) → passedHere a ≡ t → ((beginsAt n ram (next a) ≡ ramLength → ⊥) → BeginsAt n ch (next a) (beginsAt n ram (next a)))
+          → BeginsAt (suc n) ch a (beginsAt (suc n) ram a)
+      by false e later =
+          rw (at-here n a e)
+          (record {
+            paired = p;
+            begins = e;
+            walk = begin-value ram n ch a (here-at a p ∙ e) ∙ ap (λ (x : ℕ). walkAt (next a) (stripOf ch (getD ram x 0) (getD ram (x + 1) 0))) p;
+            reads = ap length (begin-cells ram n ch a (here-at a p ∙ e)) ∙ omega (arith, p);
+          })
+      by true e later =
+          let b : ℕ = beginsAt n ram (next a) in
+          let r : BeginsAt n ch (next a) b = later (λ q. h (at-next n a e ∙ q)) in
+          let other : b ≡ a → ⊥ = λ q. false≢true (sym (r .begins) ∙ ap passedHere q ∙ e) in
+          rw (at-next n a e)
+          (record {
+            paired = r .paired;
+            begins = r .begins;
+            walk = pass-value ram n ch a (here-at a p ∙ e) ∙ r .walk;
+            reads = omega (arith, two-further a b p (r .paired) other, r .reads, ap length (pass-cells ram n ch a (here-at a p ∙ e)));
+          })
+
+  pub begins-none : (n a : ℕ) → even a ≡ a → beginsAt n ram a ≡ ramLength → (i : ℕ) → i < n → passedAt ram (a + 2 * i) ≡ true
+  begins-none zero a p h i l = absurd (omega arith)
+  begins-none (suc n) a p h i l = by (passedHere a) refl i l (begins-none n (next a) (omega arith))
+    where
+      by : (t : Bool) → passedHere a ≡ t → (i : ℕ) → i < suc n
+          → (beginsAt n ram (next a) ≡ ramLength → (j : ℕ) → j < n → passedAt ram (next a + 2 * j) ≡ true) → passedAt ram (a + 2 * i) ≡ true
+      by false e i l later = absurd (omega (arith, p, sym (at-here n a e) ∙ h))
+      by true e zero l later = ap (passedAt ram) (add-zero a) ∙ here-at a p ∙ e
+      by true e (suc i) l later =
+          ap (λ (x : ℕ). passedOver (getD ram x 0) (getD ram (x + 1) 0)) (sym (next-by a i)) ∙ later (sym (at-next n a e) ∙ h) i (omega arith)
+
+-- the walk's next line there
+module _ (ram : List ℕ) (ch : ℕ) (w : Walk) (o : over (w .strip) ≡ true) (f : w .plain ≡ false) (first : ℕ) (e : first ≡ even (w .descriptor)) where
+  from-first : nextStrip ramPairs ch (w .descriptor) ≡ nextStrip ramPairs ch first
+  from-first = nextStrip-even 511 ch (w .descriptor) first (omega (arith, e))
+
+  pub walked-none : beginsAt ramPairs ram first ≡ ramLength → walked ram ch w ≡ record { walk = plainRest first; cells = ramLength }
+  unfolding walked advanced
+  walked-none h =
+      let all = begins-none ram ramPairs first (omega (arith, e)) h in
+      let round : next (first + 2 * 511) ≡ first = omega (arith, e) in
+      ap₂ (λ (v : Walk) (n : ℕ). record { walk = v; cells = n })
+      (over-value ram ch w o f ∙ ap (λ (p : Reading Walk). onward (value ram p)) from-first ∙ ap onward (all-value ram ch first all) ∙ ap plainRest round)
+      (ap length (over-cells ram ch w o f) ∙ ap (λ (p : Reading Walk). length (cells ram p)) from-first ∙ all-cells ram ch first all)
+
+  pub walked-strip : (b : ℕ) → BeginsAt ram ramPairs ch first b
+      → walked ram ch w
+      ≡ record { walk = walkAt (next b) (advanced (stripOf ch (getD ram b 0) (getD ram (b + 1) 0))); cells = (b + 1024 - first) % 1024 + 2 }
+  unfolding walked
+  walked-strip b r =
+      ap₂ (λ (v : Walk) (n : ℕ). record { walk = v; cells = n })
+      (over-value ram ch w o f ∙ ap (λ (p : Reading Walk). onward (value ram p)) from-first ∙ ap onward (r .walk))
+      (ap length (over-cells ram ch w o f) ∙ ap (λ (p : Reading Walk). length (cells ram p)) from-first ∙ r .reads)

@@ -3,9 +3,9 @@
 use Prim.Native.Nat.{ℕ, zero, suc, _+_, _-_, _*_, _/_, _%_, max}
 use mathlib.Core.Bool.{Bool, true, false, cond, _&&_}
 use lib.Dec.{eqb}
-use lib.ListN.{length}
+use lib.ListN.{length, getD}
 use mathlib.Core.List.{List}
-use Rattle.limits.specs.Limits.{ramPairs}
+use Rattle.limits.specs.Limits.{ramLength, ramPairs}
 use Rattle.cells.specs.Reading.{Role, descriptor, Reading, done, read, fmap, value, cells}
 use Rattle.raster.specs.Raster.{beforeFirst, following, InStrip, isLast, linesAfter}
 use Rattle.walk.specs.declared.Strip.{Strip}
@@ -134,3 +134,8 @@ OnLine (Characters address height zoom enabled line) = InStrip line height zoom
 -- what the walk's next line gives and how many cells it reads
 unfoldable pub walked : List ℕ → ℕ → Walk → Walked
 walked ram ch w = record { walk = value ram (nextLine ch w); cells = length (cells ram (nextLine ch w)) }
+
+-- where the first descriptor lies that begins a strip, of n in a row from an even address on; past the end of RAM where all are passed over
+unfoldable pub beginsAt : (n : ℕ) → List ℕ → ℕ → ℕ
+beginsAt zero ram a = ramLength
+beginsAt (suc n) ram a = cond (passedOver (getD ram a 0) (getD ram (a + 1) 0)) (beginsAt n ram (next a)) a

@@ -2,9 +2,8 @@
 ghost use mathlib.Core.Path.{_≡_};
 ghost use mathlib.Core.Bool.{false};
 ghost use lib.ListN.{length};
-ghost use Rattle.limits.specs.Limits.{ramLength};
-ghost use Rattle.walk.specs.Walk.{even, next, walkFrom, isSpacing, enabledBy, zoomedBy, codesAt, passedOver, heightOf, showsCodes, stripOf, over, linesLeft, advanced, walkAt, plainRest, inPlainRest, walked};
-ghost use Rattle.walk.specs.declared.Strip.the-variants.{Spacing};
+ghost use Rattle.limits.specs.Limits.{ramLength, ramPairs};
+ghost use Rattle.walk.specs.Walk.{even, next, walkFrom, isSpacing, enabledBy, zoomedBy, codesAt, passedOver, heightOf, showsCodes, stripOf, over, linesLeft, advanced, plainRest, inPlainRest, walked, beginsAt};
 use raster::ScanLine;
 
 // The strip on screen. One with no line left gives way at the next line: to the next strip, or to the plain rest of the frame.
@@ -124,6 +123,37 @@ pub fn descriptor_lines(ch: u8, low: u8, high: u8) -> u16
     ScanLine::before_first().lines_after(height(ch), zoom(high))
 }
 
+// Descriptors are passed over, from an even address on, up to one that begins its strip.
+fn pass_over(ram: &[u8], first: usize) -> usize
+    requires { ⌜ length (now ram) ≡ ramLength ⌝ }
+    requires { ⌜ even first ≡ first ⌝ }
+    ensures { λ r. ⌜ r ≡ beginsAt ramPairs (now (ram .entry)) first ⌝ }
+{
+    let mut at = first;
+    let mut left = limits::RAM_PAIRS as u32;
+    while left > 0 {
+        if is_passed_over(ram[at], ram[at + 1]) {
+            at = next_address(at);
+            left -= 1;
+        } else {
+            return at;
+        }
+    }
+    limits::RAM_LENGTH
+}
+
+// Mostly it is the first: tested by itself, it keeps the loop from the lines that have none to pass over.
+fn begins_at(ram: &[u8], first: usize) -> usize
+    requires { ⌜ length (now ram) ≡ ramLength ⌝ }
+    requires { ⌜ even first ≡ first ⌝ }
+    ensures { λ r. ⌜ r ≡ beginsAt ramPairs (now (ram .entry)) first ⌝ }
+{
+    if is_passed_over(ram[first], ram[first + 1]) {
+        return pass_over(ram, first);
+    }
+    first
+}
+
 impl Strip {
     // The strip of a descriptor, before its first line.
     pub fn of_descriptor(ch: u8, low: u8, high: u8) -> Strip
@@ -218,37 +248,6 @@ impl Walk {
         }
     }
 
-    // The first line of the next strip, by the descriptors from an address on. CH is taken here.
-    fn begin(ram: &[u8], ch: u8, descriptor: u16) -> Walked
-        requires { ⌜ length (now ram) ≡ ramLength ⌝ }
-        ensures { λ r. ⌜ r ≡ walked (now (ram .entry)) ch (walkAt descriptor (Spacing 0)) ⌝ }
-    {
-        let mut at = even_address(descriptor as usize);
-        let mut left = limits::RAM_PAIRS;
-        while left > 0 {
-            let low = ram[at];
-            let high = ram[at + 1];
-            let next = next_address(at);
-            left -= 1;
-            if is_passed_over(low, high) {
-                at = next;
-            } else {
-                return Walked {
-                    walk: Walk {
-                        descriptor: next as u16,
-                        strip: Strip::of_descriptor(ch, low, high).advance(),
-                        plain: false,
-                    },
-                    cells: (2 * (limits::RAM_PAIRS - left)) as u16,
-                };
-            }
-        }
-        Walked {
-            walk: Walk::of_plain_rest(at as u16),
-            cells: limits::RAM_LENGTH as u16,
-        }
-    }
-
     pub fn in_plain_rest(self) -> bool
         ensures { λ r. ⌜ r ≡ inPlainRest self ⌝ }
     {
@@ -259,7 +258,7 @@ impl Walk {
         false
     }
 
-    // The walk at the frame's next line. Descriptors are read where the strip on screen is over.
+    // The walk at the frame's next line. Descriptors are read, and CH taken, where the strip on screen is over.
     pub fn next_line(self, ram: &[u8], ch: u8) -> Walked
         requires { ⌜ length (now ram) ≡ ramLength ⌝ }
         ensures { λ r. ⌜ r ≡ walked (now (ram .entry)) ch self ⌝ }
@@ -272,7 +271,23 @@ impl Walk {
                     cells: 0,
                 };
             }
-            return Walk::begin(ram, ch, self.descriptor);
+            let first = even_address(self.descriptor as usize);
+            let at = begins_at(ram, first);
+            if at == limits::RAM_LENGTH {
+                return Walked {
+                    walk: Walk::of_plain_rest(first as u16),
+                    cells: limits::RAM_LENGTH as u16,
+                };
+            }
+            let next = Strip::of_descriptor(ch, ram[at], ram[at + 1]).advance();
+            return Walked {
+                walk: Walk {
+                    descriptor: next_address(at) as u16,
+                    strip: next,
+                    plain: false,
+                },
+                cells: ((at + limits::RAM_LENGTH - first) % limits::RAM_LENGTH + 2) as u16,
+            };
         }
         Walked {
             walk: Walk {
