@@ -89,9 +89,9 @@ fn found_in(descriptor: Pair, left: u32) -> Round
     }
 }
 
-// The descriptors from one address of RAM up to another, with no round to end. Each kind of strip is tested by itself: where their lines
+// The descriptors from one address of RAM up to another, with no round to end; addresses of 32 bits, for small processors. Each kind of strip is tested by itself: where their lines
 // come together before the test, the compiler counts them by a shift, and a strip takes half as long again.
-fn walk_span(ram: &[u8], ch: u8, from: usize, to: usize, y: u32) -> Round
+fn walk_span(ram: &[u8], ch: u8, from: u32, to: u32, y: u32) -> Round
     requires { ⌜ length (now ram) ≡ ramLength ⌝ }
     requires { ⌜ Span from to ⌝ }
     requires { ⌜ y < frameLines ⌝ }
@@ -101,9 +101,10 @@ fn walk_span(ram: &[u8], ch: u8, from: usize, to: usize, y: u32) -> Round
     let mut at = from;
     let mut left = y;
     while at < to {
+        let here = at as usize;
         let descriptor = Pair {
-            low: ram[at],
-            high: ram[at + 1],
+            low: ram[here],
+            high: ram[here + 1],
         };
         if walk::is_spacing(descriptor.high) {
             let lines = descriptor.low as u32;
@@ -128,7 +129,7 @@ fn walk_span(ram: &[u8], ch: u8, from: usize, to: usize, y: u32) -> Round
     }
     Round {
         found: false,
-        line: line_of(pair_at(ram, to + limits::RAM_LENGTH - 2), left),
+        line: line_of(pair_at(ram, to as usize + limits::RAM_LENGTH - 2), left),
         left: left,
     }
 }
@@ -139,8 +140,8 @@ fn walk_round(ram: &[u8], ch: u8, first: u16, y: u32) -> Round
     requires { ⌜ y < frameLines ⌝ }
     ensures { λ r. ⌜ r ≡ roundOf ramPairs (now (ram .entry)) ch first y ⌝ }
 {
-    let start = walk::even_address(first as usize);
-    let once = walk_span(ram, ch, start, limits::RAM_LENGTH, y);
+    let start = walk::even_address(first as usize) as u32;
+    let once = walk_span(ram, ch, start, limits::RAM_LENGTH as u32, y);
     if once.found {
         return once;
     }

@@ -44,4 +44,4 @@ returns-2 c =
 pub walk-round-spec : {M : Type 1} → statement M
 walk-round-spec =
     tie.close
-    (tie.spec (λ c κs. search needs) walk-span-requires returns walk-span-requires-2 returns-2)
+    (tie.spec (λ c κs. search needs) (λ c. search needs) (λ c. search needs) walk-span-requires returns walk-span-requires-2 returns-2)
