@@ -20,7 +20,8 @@
 /* As compare/runner/src/bin/pages.rs writes them. */
 extern const struct {
     uint8_t font[OSD_FONT_LEN], font_page[OSD_RAM_LEN], user_page[OSD_RAM_LEN], shadowed[OSD_RAM_LEN], stop[OSD_RAM_LEN],
-        noise[OSD_RAM_LEN], descriptors[OSD_RAM_LEN], strips[OSD_RAM_LEN], writing[2 * 65], reading[2 * 67];
+        noise[OSD_RAM_LEN], descriptors[OSD_RAM_LEN], strips[OSD_RAM_LEN], writing[2 * 65], reading[2 * 67],
+        passing[3][OSD_RAM_LEN], behind_511[OSD_RAM_LEN], zeros[OSD_RAM_LEN];
 } pages;
 
 static uint8_t device[OSD_DEVICE_LEN], feed[OSD_FEED_LEN], ram[OSD_RAM_LEN];
@@ -104,17 +105,24 @@ static void row(const char *name, const char *more, uint64_t instructions, uint3
     put(" |\n");
 }
 
-static void line(const char *name, const uint8_t *page, uint8_t ld)
+/* The lines of a frame from one on, up to another. */
+static void lines(const char *name, const uint8_t *page, uint8_t ld, uint32_t from, uint32_t to)
 {
     uint64_t all = 0;
     show(page, ld, 18);
-    for (int i = 0; i < LINES; i++) {
+    for (uint32_t i = 0; i < to; i++) {
         BEGIN();
         uint32_t answer = osd_draw(device, sizeof device, ram, sizeof ram, pages.font, sizeof pages.font, lent.line, sizeof lent.line);
-        all += END();
+        uint32_t one = END();
         take(answer);
+        all += i < from ? 0 : one;
     }
-    row(name, "", all, LINES);
+    row(name, "", all, to - from);
+}
+
+static void line(const char *name, const uint8_t *page, uint8_t ld)
+{
+    lines(name, page, ld, 0, LINES);
 }
 
 static void bus(const char *name, const uint8_t *events, uint32_t n)
@@ -195,6 +203,11 @@ int count(void)
     line("a line of a stop page, mostly transparent", pages.stop, 63);
     line("a line over noise RAM", pages.noise, 63);
     line("a narrow line, 48 pixels", pages.font_page, 3);
+    line("a line that passes over 1 zero spacing", pages.passing[0], 63);
+    line("a line that passes over 16 zero spacings", pages.passing[1], 63);
+    line("a line that passes over 511 zero spacings", pages.passing[2], 63);
+    lines("a line that meets 512 zero spacings", pages.zeros, 63, 0, 1);
+    lines("a line of the plain rest", pages.zeros, 63, 1, LINES);
     bus("a bus event, writing", pages.writing, sizeof pages.writing);
     bus("a bus event, reading", pages.reading, sizeof pages.reading);
     fed("a fed event, writing", pages.writing, sizeof pages.writing);
@@ -211,9 +224,13 @@ int count(void)
     cells("a cell question, CH 63, stop page", pages.stop, 63);
     cells("a cell question, CH 63, noise", pages.noise, 63);
     cells("a cell question, CH 63, all descriptors", pages.descriptors, 63);
+    cells("a cell question, zero spacings", pages.zeros, 18);
+    cells("a cell question, CH 1, 511 zero spacings and a strip", pages.behind_511, 1);
     pixel("a pixel, first line, first character", pages.font_page, 18, 36, 0);
     pixel("a pixel, CH 18, full page, line 1,000, in the middle", pages.font_page, 18, 384, 1000);
     pixel("a pixel, CH 1, 2,048 strips, last line, last column", pages.strips, 1, 767, 2047);
+    pixel("a pixel, CH 1, 511 zero spacings and a strip, last line, last column", pages.behind_511, 1, 767, 2047);
+    pixel("a pixel, zero spacings, last line, last column", pages.zeros, 18, 767, 2047);
     font_files();
     if (refused > 0) {
         put("a call was refused\n");

@@ -437,10 +437,22 @@ module _ (ram : List ℕ) where
       by true e (suc i) l later =
           ap (λ (x : ℕ). passedOver (getD ram x 0) (getD ram (x + 1) 0)) (sym (next-by a i)) ∙ later (sym (at-next n a e) ∙ h) i (omega arith)
 
--- the walk's next line there
-module _ (ram : List ℕ) (ch : ℕ) (w : Walk) (o : over (w .strip) ≡ true) (f : w .plain ≡ false) (first : ℕ) (e : first ≡ even (w .descriptor)) where
-  from-first : nextStrip ramPairs ch (w .descriptor) ≡ nextStrip ramPairs ch first
-  from-first = nextStrip-even 511 ch (w .descriptor) first (omega (arith, e))
+-- the walk's next line where a strip is over: whichever it was
+pub walked-begin : (ram : List ℕ) (ch : ℕ) (w : Walk) → over (w .strip) ≡ true → w .plain ≡ false
+    → walked ram ch w ≡ walked ram ch (walkAt (w .descriptor) (Spacing 0))
+unfolding walked
+walked-begin ram ch w e f = rw (step-same ch w (w .descriptor) e f refl)
+
+module _ (ram : List ℕ) (ch descriptor first : ℕ) (e : first ≡ even descriptor) where
+  abbrev w : Walk
+  w = walkAt descriptor (Spacing 0)
+
+  o : over (w .strip) ≡ true
+  unfolding over
+  o = refl
+
+  from-first : nextStrip ramPairs ch descriptor ≡ nextStrip ramPairs ch first
+  from-first = nextStrip-even 511 ch descriptor first (omega (arith, e))
 
   pub walked-none : beginsAt ramPairs ram first ≡ ramLength → walked ram ch w ≡ record { walk = plainRest first; cells = ramLength }
   unfolding walked advanced
@@ -448,8 +460,8 @@ module _ (ram : List ℕ) (ch : ℕ) (w : Walk) (o : over (w .strip) ≡ true) (
       let all = begins-none ram ramPairs first (omega (arith, e)) h in
       let round : next (first + 2 * 511) ≡ first = omega (arith, e) in
       ap₂ (λ (v : Walk) (n : ℕ). record { walk = v; cells = n })
-      (over-value ram ch w o f ∙ ap (λ (p : Reading Walk). onward (value ram p)) from-first ∙ ap onward (all-value ram ch first all) ∙ ap plainRest round)
-      (ap length (over-cells ram ch w o f) ∙ ap (λ (p : Reading Walk). length (cells ram p)) from-first ∙ all-cells ram ch first all)
+      (over-value ram ch w o refl ∙ ap (λ (p : Reading Walk). onward (value ram p)) from-first ∙ ap onward (all-value ram ch first all) ∙ ap plainRest round)
+      (ap length (over-cells ram ch w o refl) ∙ ap (λ (p : Reading Walk). length (cells ram p)) from-first ∙ all-cells ram ch first all)
 
   pub walked-strip : (b : ℕ) → BeginsAt ram ramPairs ch first b
       → walked ram ch w
@@ -457,5 +469,5 @@ module _ (ram : List ℕ) (ch : ℕ) (w : Walk) (o : over (w .strip) ≡ true) (
   unfolding walked
   walked-strip b r =
       ap₂ (λ (v : Walk) (n : ℕ). record { walk = v; cells = n })
-      (over-value ram ch w o f ∙ ap (λ (p : Reading Walk). onward (value ram p)) from-first ∙ ap onward (r .walk))
-      (ap length (over-cells ram ch w o f) ∙ ap (λ (p : Reading Walk). length (cells ram p)) from-first ∙ r .reads)
+      (over-value ram ch w o refl ∙ ap (λ (p : Reading Walk). onward (value ram p)) from-first ∙ ap onward (r .walk))
+      (ap length (over-cells ram ch w o refl) ∙ ap (λ (p : Reading Walk). length (cells ram p)) from-first ∙ r .reads)

@@ -3,7 +3,8 @@ ghost use mathlib.Core.Path.{_≡_};
 ghost use mathlib.Core.Bool.{false};
 ghost use lib.ListN.{length};
 ghost use Rattle.limits.specs.Limits.{ramLength, ramPairs};
-ghost use Rattle.walk.specs.Walk.{even, next, walkFrom, isSpacing, enabledBy, zoomedBy, codesAt, passedOver, heightOf, showsCodes, stripOf, over, linesLeft, advanced, plainRest, inPlainRest, walked, beginsAt};
+ghost use Rattle.walk.specs.Walk.{even, next, walkFrom, isSpacing, enabledBy, zoomedBy, codesAt, passedOver, heightOf, showsCodes, stripOf, over, linesLeft, advanced, walkAt, plainRest, inPlainRest, walked, beginsAt};
+ghost use Rattle.walk.specs.declared.Strip.the-variants.{Spacing};
 use raster::ScanLine;
 
 // The strip on screen. One with no line left gives way at the next line: to the next strip, or to the plain rest of the frame.
@@ -248,6 +249,30 @@ impl Walk {
         }
     }
 
+    // The first line of the next strip, by the descriptors from an address on. CH is taken here.
+    fn begin(ram: &[u8], ch: u8, descriptor: u16) -> Walked
+        requires { ⌜ length (now ram) ≡ ramLength ⌝ }
+        ensures { λ r. ⌜ r ≡ walked (now (ram .entry)) ch (walkAt descriptor (Spacing 0)) ⌝ }
+    {
+        let first = even_address(descriptor as usize);
+        let at = begins_at(ram, first);
+        if at == limits::RAM_LENGTH {
+            return Walked {
+                walk: Walk::of_plain_rest(first as u16),
+                cells: limits::RAM_LENGTH as u16,
+            };
+        }
+        let next = Strip::of_descriptor(ch, ram[at], ram[at + 1]).advance();
+        Walked {
+            walk: Walk {
+                descriptor: next_address(at) as u16,
+                strip: next,
+                plain: false,
+            },
+            cells: ((at + limits::RAM_LENGTH - first) % limits::RAM_LENGTH + 2) as u16,
+        }
+    }
+
     pub fn in_plain_rest(self) -> bool
         ensures { λ r. ⌜ r ≡ inPlainRest self ⌝ }
     {
@@ -258,7 +283,7 @@ impl Walk {
         false
     }
 
-    // The walk at the frame's next line. Descriptors are read, and CH taken, where the strip on screen is over.
+    // The walk at the frame's next line. Descriptors are read where the strip on screen is over.
     pub fn next_line(self, ram: &[u8], ch: u8) -> Walked
         requires { ⌜ length (now ram) ≡ ramLength ⌝ }
         ensures { λ r. ⌜ r ≡ walked (now (ram .entry)) ch self ⌝ }
@@ -271,23 +296,7 @@ impl Walk {
                     cells: 0,
                 };
             }
-            let first = even_address(self.descriptor as usize);
-            let at = begins_at(ram, first);
-            if at == limits::RAM_LENGTH {
-                return Walked {
-                    walk: Walk::of_plain_rest(first as u16),
-                    cells: limits::RAM_LENGTH as u16,
-                };
-            }
-            let next = Strip::of_descriptor(ch, ram[at], ram[at + 1]).advance();
-            return Walked {
-                walk: Walk {
-                    descriptor: next_address(at) as u16,
-                    strip: next,
-                    plain: false,
-                },
-                cells: ((at + limits::RAM_LENGTH - first) % limits::RAM_LENGTH + 2) as u16,
-            };
+            return Walk::begin(ram, ch, self.descriptor);
         }
         Walked {
             walk: Walk {
