@@ -56,7 +56,7 @@ userReads ram c zero a = false
 userReads ram c (suc n) a =
     cond (endsLine (getD ram (even a + 1) 0)) false (eqb (getD ram (even a + 1) 0) (userHigh c) || userReads ram c n (next a))
 
--- how many codes before the cell's own an address is
+-- how many codes, or descriptors, before the cell's own an address is
 abbrev pub codesTo : ℕ → ℕ → ℕ
 codesTo c a = (c / 2 + ramPairs - a / 2 % ramPairs) % ramPairs
 

@@ -188,8 +188,8 @@ fn look_whole(
     }
 }
 
-// The lines from a descriptor on. Descriptors go round all of RAM, so within 512 they meet the cell or the frame's end; so do 512 that are
-// passed over.
+// The lines from a descriptor on. Descriptors, passed over or not, go round all of RAM, so within 512 they meet the cell or the frame's
+// end.
 fn look_lines(
     ram: &[u8],
     marks: &mut [u32; 16],

@@ -5,6 +5,7 @@ use mathlib.Core.Path.{_≡_, refl, sym, ap, ap₂, _∙_}
 use mathlib.Core.Bool.{Bool, true, false, not, cond, false≢true}
 use mathlib.Core.List.{List, [], _++_, append-nil}
 use native.Mathlib.Omega.{arith}
+use borrow.Author.Tests.{not-true}
 use lib.ListN.{length, replicate, length-append}
 use Rattle.limits.specs.Limits.{ramPairs}
 use Rattle.facts.proofs.Tests.{and-both}
@@ -24,10 +25,6 @@ use Rattle.device.specs.declared.Device.{Device}
 use Rattle.device.specs.Device.{freshDevice, hearEvent, inFrame, startFrame, nextScan, pixelsOf, lineOn, cellsLeft}
 use Rattle.device.specs.ZeroSpacing.{lowAt, highAt, ZeroSpacings, readsDescriptor, restIsPlain, plainLine, StripBegins, PlainBegins, PlainRest, ZeroSpacing}
 
-no : (t : Bool) → not t ≡ true → t ≡ false
-no true e = absurd (false≢true e)
-no false e = refl
-
 -- ---- a line with nothing on it
 
 plain-line : (s : Settings) (font : List ℕ) (f : ℕ) → paint s font f [] ≡ replicate (widthOf (s .ld)) (cond (s .osd) (plainOf (s .fbk)) 0)
@@ -46,10 +43,12 @@ module _ (d : Device) (ram : List ℕ) where
   w = d .frame .walk
 
   -- where the line brings the walk, and what it reads
-  walk-is : {v : Walk} → value ram (nextLine (s .ch) w) ≡ v → value ram (nextScan d) .walk ≡ v
+  walk-is : {v : Walk} → value ram (nextLine (s .ch) w) ≡ v → lineOn d ram .frame .walk ≡ v
+  unfolding lineOn
   walk-is e = ap (λ (x : Scanned). x .walk) (scan-value shownRow ram s w) ∙ e
 
-  reads-are : length (cells ram (nextScan d)) ≡ length (cells ram (nextLine (s .ch) w)) + length (cells ram (shownRow s (value ram (nextScan d) .walk .strip)))
+  reads-are : length (cells ram (nextScan d))
+      ≡ length (cells ram (nextLine (s .ch) w)) + length (cells ram (shownRow s (lineOn d ram .frame .walk .strip)))
   reads-are =
       ap length (scan-cells shownRow ram s w)
       ∙ length-append (cells ram (nextLine (s .ch) w)) _
@@ -69,11 +68,12 @@ module _ (d : Device) (ram : List ℕ) where
         ∙ ap (λ (p : Reading (List Place)). paint s font (d .frame .number) (value ram p)) (no-row s (Spacing 0) refl)
         ∙ plain-line s font (d .frame .number)
 
-    plain-reads : length (cells ram (nextScan d)) ≡ length (cells ram (nextLine (s .ch) w))
-    plain-reads = ap length (scan-cells shownRow ram s w ∙ ap (λ (l : List ℕ). cells ram (nextLine (s .ch) w) ++ l) no-reads ∙ append-nil (cells ram (nextLine (s .ch) w)))
+    plain-reads : cells ram (nextScan d) ≡ cells ram (nextLine (s .ch) w)
+    plain-reads =
+        scan-cells shownRow ram s w ∙ ap (λ (l : List ℕ). cells ram (nextLine (s .ch) w) ++ l) no-reads ∙ append-nil (cells ram (nextLine (s .ch) w))
 
     plain-on : restIsPlain (lineOn d ram) ≡ true
-    unfolding lineOn over
+    unfolding over
     plain-on = ap inPlainRest (walk-is e)
 
 -- ---- the claim
@@ -81,7 +81,7 @@ module _ (d : Device) (ram : List ℕ) where
 reads-one : (d : Device) → readsDescriptor d ≡ true → (over (d .frame .walk .strip) ≡ true) × (d .frame .walk .plain ≡ false)
 reads-one d h =
     let t = and-both (over (d .frame .walk .strip)) (not (d .frame .walk .plain)) h in
-    (t .0, no (d .frame .walk .plain) (t .1))
+    (t .0, not-true (d .frame .walk .plain) (t .1))
 
 some : (d : Device) (ram : List ℕ) (k : ℕ) → readsDescriptor d ≡ true → k < 512 → ZeroSpacings ram k (d .frame .walk .descriptor)
     → passedOver (lowAt ram (d .frame .walk .descriptor + 2 * k)) (highAt ram (d .frame .walk .descriptor + 2 * k)) ≡ false
@@ -113,12 +113,12 @@ all d ram h z =
     let e : value ram (nextLine ch w) ≡ plainRest a = over-value ram ch w (t .0) (t .1) ∙ ap onward (all-value ram ch (w .descriptor) z) in
     record {
       pixels = plain-pixels d ram a e;
-      reads = plain-reads d ram a e ∙ ap length (over-cells ram ch w (t .0) (t .1)) ∙ all-cells ram ch (w .descriptor) z;
+      reads = ap length (plain-reads d ram a e) ∙ ap length (over-cells ram ch w (t .0) (t .1)) ∙ all-cells ram ch (w .descriptor) z;
       rest = plain-on d ram a e;
     }
 
 rest : (d : Device) → restIsPlain d ≡ true → PlainRest d
-unfolding hearEvent cellsLeft
+unfolding hearEvent cellsLeft startFrame
 rest d h =
     let ch = settingsOf (d .registers) .ch in
     let w = d .frame .walk in
@@ -126,12 +126,11 @@ rest d h =
     let e : (ram : List ℕ) → value ram (nextLine ch w) ≡ plainRest (w .descriptor) = λ ram. plain-value ram ch w (t .1) (t .0) in
     record {
       pixels = λ ram. plain-pixels d ram (w .descriptor) (e ram);
-      reads = λ ram.
-          scan-cells shownRow ram (settingsOf (d .registers)) w
-          ∙ ap₂ (λ (l m : List ℕ). l ++ m) (plain-cells ram ch w (t .1) (t .0)) (no-reads d ram (w .descriptor) (e ram));
+      reads = λ ram. plain-reads d ram (w .descriptor) (e ram) ∙ plain-cells ram ch w (t .1) (t .0);
       remaining = λ ram. plain-none ram (settingsOf (d .registers)) (d .frame .left) w h;
       drawn = λ ram. plain-on d ram (w .descriptor) (e ram);
       written = λ ram v. h;
+      refused = λ lines bad. rw bad h;
     }
 
 pub zero-spacing : ZeroSpacing

@@ -7,7 +7,7 @@ use mathlib.Core.Bool.{Bool, true, false, not, cond, _&&_}
 use mathlib.Core.List.{List, []}
 use lib.ListN.{getD, length, replicate}
 use Rattle.limits.specs.Limits.{badLineCount}
-use Rattle.cells.specs.Reading.{value, cells}
+use Rattle.cells.specs.Reading.{cells}
 use Rattle.registers.specs.declared.Settings.{Settings}
 use Rattle.registers.specs.Registers.{settingsOf}
 use Rattle.bus.specs.declared.Event.{Event}
@@ -36,7 +36,7 @@ readsDescriptor d = over (d .frame .walk .strip) && not (d .frame .walk .plain)
 abbrev pub restIsPlain : Device → Bool
 restIsPlain d = inPlainRest (d .frame .walk)
 
--- a line of plain pixels, 0 with OSD 0; OSD and FBK as they stand
+-- a line of plain pixels, 0 with OSD 0; LD, OSD and FBK as they stand
 abbrev pub plainLine : Device → List ℕ
 plainLine d =
     let s : Settings = settingsOf (d .registers) in
@@ -44,9 +44,9 @@ plainLine d =
 
 -- fewer than 512 are passed over, and then one begins its strip: it is on screen, at its first line. They are read, it is, and then its row
 pub record StripBegins (d : Device) (ram : List ℕ) (k a : ℕ) : Type 0 where
-  pub strip : value ram (nextScan d) .walk ≡ walkAt (next a) (advanced (stripOf (settingsOf (d .registers) .ch) (lowAt ram a) (highAt ram a)))
+  pub strip : lineOn d ram .frame .walk ≡ walkAt (next a) (advanced (stripOf (settingsOf (d .registers) .ch) (lowAt ram a) (highAt ram a)))
   pub reads : length (cells ram (nextScan d))
-      ≡ 2 * (k + 1) + length (cells ram (shownRow (settingsOf (d .registers)) (value ram (nextScan d) .walk .strip)))
+      ≡ 2 * (k + 1) + length (cells ram (shownRow (settingsOf (d .registers)) (lineOn d ram .frame .walk .strip)))
 
 -- 512 are: the line is plain, and so is the rest of the frame
 pub record PlainBegins (d : Device) (ram : List ℕ) : Type 0 where
@@ -54,13 +54,14 @@ pub record PlainBegins (d : Device) (ram : List ℕ) : Type 0 where
   pub reads : length (cells ram (nextScan d)) ≡ 1024
   pub rest : restIsPlain (lineOn d ram) ≡ true
 
--- what the plain rest is: over any RAM each line is plain, nothing is read, and it lasts over draws and bus events
+-- what the plain rest is: over any RAM each line is plain, nothing is read, and it lasts over draws, bus events and refused frame starts
 pub record PlainRest (d : Device) : Type 0 where
   pub pixels : (ram font : List ℕ) → pixelsOf d ram font ≡ plainLine d
   pub reads : (ram : List ℕ) → cells ram (nextScan d) ≡ []
   pub remaining : (ram : List ℕ) → cellsLeft d ram ≡ []
   pub drawn : (ram : List ℕ) → restIsPlain (lineOn d ram) ≡ true
   pub written : (ram : List ℕ) (e : Event) → restIsPlain (hearEvent d ram e .device) ≡ true
+  pub refused : (lines : ℕ) → badLineCount lines ≡ true → restIsPlain (startFrame d lines .device) ≡ true
 
 -- the claim
 pub record ZeroSpacing : Type 0 where
@@ -69,6 +70,6 @@ pub record ZeroSpacing : Type 0 where
       → StripBegins d ram k (d .frame .walk .descriptor + 2 * k)
   pub all : (d : Device) (ram : List ℕ) → readsDescriptor d ≡ true → ZeroSpacings ram 512 (d .frame .walk .descriptor) → PlainBegins d ram
   pub rest : (d : Device) → restIsPlain d ≡ true → PlainRest d
-  -- it ends with an accepted frame start or a reset
-  pub started : (d : Device) (lines : ℕ) → badLineCount lines ≡ false → restIsPlain (startFrame d lines .device) ≡ false
-  pub fresh : restIsPlain freshDevice ≡ false
+  -- it ends with an accepted frame start or a reset: the walk is at a descriptor again
+  pub started : (d : Device) (lines : ℕ) → badLineCount lines ≡ false → readsDescriptor (startFrame d lines .device) ≡ true
+  pub fresh : readsDescriptor freshDevice ≡ true

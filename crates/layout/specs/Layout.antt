@@ -10,7 +10,7 @@
 --     21     frame number
 --     22, 23 lines of the frame left; 0: no frame, or all its lines drawn
 --     24, 25 address of the next descriptor
---     26     strip on screen: bit 0 characters (else spacing), bit 1 ZY, bit 2 DE; bit 3: the rest of the frame is plain (K9)
+--     26     strip on screen: bit 0 characters (else spacing), bit 1 ZY, bit 2 DE; bit 3: the rest of the frame is plain (K9), where the strip has no line left
 --     27     characters: height (CH as taken); spacing: lines left
 --     28, 29 characters: code address; spacing: 0
 --     30, 31 characters: scan line of the strip; spacing: 0
@@ -133,7 +133,7 @@ nextIn bytes = getD bytes 0 0
 
 -- ---- the frame
 
--- the strip on screen as numbers. Its kind also says whether the rest of the frame is plain (K9)
+-- the strip on screen as numbers. Its kind also has the walk's `plain` (K9)
 abbrev pub packed : Bool → Strip → Packed
 packed plain (Spacing left) = record { kind = cond plain 8 0; lines = left; address = 0; line = 0 }
 packed plain (Characters address height zoom enabled line) =

@@ -37,7 +37,7 @@ const FRAME_LENGTH: usize = 11;
 
 // A strip as its bytes have it.
 pub struct Packed {
-    // 0 spacing; 1 characters, with 2 for ZY and 4 for DE; with 8 the rest of the frame is plain
+    // 0 spacing; 1 characters, with 2 for ZY and 4 for DE; 8 more with the walk's `plain`
     pub kind: u8,
     // spacing: lines left; characters: height
     pub lines: u8,

@@ -21,7 +21,7 @@ use Rattle.raster.specs.Raster.{InStrip, beforeFirst, stripLines, widthOf}
 use Rattle.raster.proofs.Laws.{all-after}
 use Rattle.walk.specs.declared.Strip.the-variants.{Spacing, Characters}
 use Rattle.walk.specs.Walk.{even, next, heightOf, isSpacing, enabledBy, zoomedBy, codesAt, showsCodes, stripOf, linesLeft}
-use Rattle.walk.proofs.Laws.{next-even, none-passed, codes-begin, passedAt}
+use Rattle.walk.proofs.Laws.{next-same, none-passed, codes-begin, passedAt}
 use Rattle.glyph.specs.Words.{wordIn}
 use Rattle.glyph.proofs.Laws.{word-low}
 use Rattle.glyph.specs.Glyph.{font, user, blank, endsLine, userCell, fontByte, inRam, glyphOf, ofBytes, bitsOf}
@@ -70,9 +70,6 @@ lines-characters ch d z e f = ap₂ (λ (t z : Bool). cond t (d .low) (stripLine
 -- an address stands for its even one
 pub pair-same : (ram : List ℕ) (a b : ℕ) → even a ≡ even b → pairAt ram a ≡ pairAt ram b
 pair-same ram a b e = ap (λ (i : ℕ). record { low = getD ram i 0; high = getD ram (i + 1) 0 }) e
-
-pub next-same : (a b : ℕ) → even a ≡ even b → next a ≡ next b
-next-same a b e = sym (next-even a) ∙ ap next e ∙ next-even b
 
 module _ (ram : List ℕ) where
   -- it is the one at the address, or the search goes on from the next

@@ -12,7 +12,7 @@ use lib.Dec.{eqb, ltb}
 use lib.ListN.{getD}
 use Rattle.limits.specs.Limits.{ramPairs}
 use Rattle.walk.specs.Walk.{even, next}
-use Rattle.walk.proofs.Laws.{next-even, passedAt}
+use Rattle.walk.proofs.Laws.{next-same, passedAt}
 use Rattle.pixel.specs.declared.Pair.{Pair}
 use Rattle.pixel.specs.declared.Round.{Round}
 use Rattle.pixel.specs.declared.StripLine.{StripLine}
@@ -46,10 +46,9 @@ module _ (ram : List ℕ) (ch : ℕ) where
       ap (λ (d : Pair). record { found = false; line = record { descriptor = d; line = record { 0 = y + 1 } }; left = y })
       (pair-same ram (a + 1022) (b + 1022) (sym (by-even a) ∙ ap (λ (x : ℕ). even (x + 1022)) e ∙ by-even b))
   round-even (suc k) a b y e =
-      let n : next a ≡ next b = sym (next-even a) ∙ ap next e ∙ next-even b in
       ap₂ (λ (d : Pair) (x : ℕ). cond (ltb y (linesOf ch d))
       (record { found = true; line = record { descriptor = d; line = record { 0 = y + 1 } }; left = y })
-      (roundOf k ram ch x (y - linesOf ch d))) (pair-same ram a b e) n
+      (roundOf k ram ch x (y - linesOf ch d))) (pair-same ram a b e) (next-same a b e)
 
   -- the first k, and the others where these do not have the line
   abbrev inTwo : ℕ → ℕ → Round → Round
@@ -97,7 +96,7 @@ module _ (ram : List ℕ) (ch : ℕ) where
     pub round-lower : upper .found ≡ false → roundOf ((a - 0) / 2) ram ch 0 (upper .left) ≡ roundOf ramPairs ram ch first y
     round-lower e = sym (parts ∙ ap (λ (t : Bool). cond t upper (roundOf ((a - 0) / 2) ram ch 0 (upper .left))) e)
 
-  -- ---- up to an address, with no round to end
+  -- ---- up to an address, with no wrap between
 
   -- both bytes of the descriptor at an even address
   abbrev pub pairHere : ℕ → Pair

@@ -89,8 +89,9 @@ fn found_in(descriptor: Pair, left: u32) -> Round
     }
 }
 
-// The descriptors from one address of RAM up to another, with no round to end; addresses of 32 bits, for small processors. Each kind of strip is tested by itself: where their lines
-// come together before the test, the compiler counts them by a shift, and a strip takes half as long again.
+// The descriptors from one address of RAM up to another, with no wrap between; addresses of 32 bits, for small processors. Each kind of
+// strip is tested by itself: where their lines come together before the test, the compiler counts them by a shift, and a strip takes half
+// as long again. Past them all, the one before the end stands for the line's strip.
 fn walk_span(ram: &[u8], ch: u8, from: u32, to: u32, y: u32) -> Round
     requires { ⌜ length (now ram) ≡ ramLength ⌝ }
     requires { ⌜ Span from to ⌝ }

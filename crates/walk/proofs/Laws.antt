@@ -1,4 +1,5 @@
--- The laws of the walk: addresses lie below 1,024, and the strip on screen is at one of its lines.
+-- The laws of the walk: addresses lie below 1,024, the strip on screen is at one of its lines, which descriptors are passed over, and the plain
+-- rest of a frame (K9).
 -- Assumes nothing.
 use Prim.Native.Nat.{ℕ, zero, suc, _+_, _-_, _*_, _%_, _≤_, _<_}
 use mathlib.Core.Path.{_≡_, refl, sym, ap, ap₂, _∙_}
@@ -33,6 +34,9 @@ even-bound a = omega arith
 -- the next one of an address is that of its even one
 pub next-even : (a : ℕ) → next (even a) ≡ next a
 next-even a = omega arith
+
+pub next-same : (a b : ℕ) → even a ≡ even b → next a ≡ next b
+next-same a b e = sym (next-even a) ∙ ap next e ∙ next-even b
 
 -- so many further from the next one
 next-by : (a i : ℕ) → even (next a + 2 * i) ≡ even (a + 2 * suc i)
@@ -170,8 +174,11 @@ left-on (Characters address height zoom enabled line) h = following-in line heig
 abbrev pub stripAt : List ℕ → ℕ → ℕ → Strip
 stripAt ram ch a = stripOf ch (getD ram (even a) 0) (getD ram (even a + 1) 0)
 
+abbrev passedHere : List ℕ → ℕ → Bool
+passedHere ram a = passedOver (getD ram a 0) (getD ram (a + 1) 0)
+
 abbrev pub passedAt : List ℕ → ℕ → Bool
-passedAt ram a = passedOver (getD ram (even a) 0) (getD ram (even a + 1) 0)
+passedAt ram a = passedHere ram (even a)
 
 -- a strip that has just begun is not over
 pub stripOf-begun : (ch low high : ℕ) → passedOver low high ≡ false → over (stripOf ch low high) ≡ false
@@ -204,8 +211,9 @@ rest-value ram ch a = refl
 nextStrip-even : (n ch a b : ℕ) → even a ≡ even b → nextStrip (suc n) ch a ≡ nextStrip (suc n) ch b
 unfolding nextStrip
 nextStrip-even n ch a b p =
-    let e : next a ≡ next b = sym (next-even a) ∙ ap next p ∙ next-even b in
-    ap₂ (λ (x y : ℕ). read descriptor x λ low. read descriptor (x + 1) λ high. cond (passedOver low high) (nextStrip n ch y) (done (walkAt y (stripOf ch low high)))) p e
+    ap₂ (λ (x y : ℕ).
+    read descriptor x λ low. read descriptor (x + 1) λ high. cond (passedOver low high) (nextStrip n ch y) (done (walkAt y (stripOf ch low high))))
+    p (next-same a b p)
 
 -- k that are passed over, one after the other
 module _ (ram : List ℕ) (ch : ℕ) where
@@ -214,10 +222,10 @@ module _ (ram : List ℕ) (ch : ℕ) where
 
   run-on : (k a : ℕ) → PassedRun (suc k) a → PassedRun k (next a)
   run-on k a h i l =
-      ap (λ (x : ℕ). passedOver (getD ram x 0) (getD ram (x + 1) 0)) (next-by a i) ∙ h (suc i) (omega arith)
+      ap (passedHere ram) (next-by a i) ∙ h (suc i) (omega arith)
 
   run-first : (k a : ℕ) → PassedRun (suc k) a → passedAt ram a ≡ true
-  run-first k a h = let e : even a ≡ even (a + 2 * 0) = omega arith in ap (λ (x : ℕ). passedOver (getD ram x 0) (getD ram (x + 1) 0)) e ∙ h 0 (omega arith)
+  run-first k a h = let e : even a ≡ even (a + 2 * 0) = omega arith in ap (passedHere ram) e ∙ h 0 (omega arith)
 
   run-more : (k n : ℕ) → suc k + suc n ≡ suc (k + suc n)
   run-more k n = omega arith
@@ -374,14 +382,11 @@ walked-plain ram ch w e f = rw (plain-value ram ch w e f, plain-cells ram ch w e
 -- ---- where a strip begins
 
 module _ (ram : List ℕ) where
-  abbrev passedHere : ℕ → Bool
-  passedHere a = passedOver (getD ram a 0) (getD ram (a + 1) 0)
-
-  pub at-next : (n a : ℕ) → passedHere a ≡ true → beginsAt (suc n) ram a ≡ beginsAt n ram (next a)
+  pub at-next : (n a : ℕ) → passedHere ram a ≡ true → beginsAt (suc n) ram a ≡ beginsAt n ram (next a)
   unfolding beginsAt
   at-next n a e = ap (λ (t : Bool). cond t (beginsAt n ram (next a)) a) e
 
-  pub at-here : (n a : ℕ) → passedHere a ≡ false → beginsAt (suc n) ram a ≡ a
+  pub at-here : (n a : ℕ) → passedHere ram a ≡ false → beginsAt (suc n) ram a ≡ a
   unfolding beginsAt
   at-here n a e = ap (λ (t : Bool). cond t (beginsAt n ram (next a)) a) e
 
@@ -390,21 +395,21 @@ module _ (ram : List ℕ) where
   at-none a = refl
 
   -- by its two bytes at the even address
-  here-at : (a : ℕ) → even a ≡ a → passedAt ram a ≡ passedHere a
-  here-at a p = ap (λ (x : ℕ). passedOver (getD ram x 0) (getD ram (x + 1) 0)) p
+  here-at : (a : ℕ) → even a ≡ a → passedAt ram a ≡ passedHere ram a
+  here-at a p = ap (passedHere ram) p
 
   -- the walk's next strip is that of the descriptor there
   pub record BeginsAt (n ch a b : ℕ) : Type 0 where
     pub paired : even b ≡ b
-    pub begins : passedHere b ≡ false
+    pub begins : passedHere ram b ≡ false
     pub walk : value ram (nextStrip n ch a) ≡ walkAt (next b) (stripOf ch (getD ram b 0) (getD ram (b + 1) 0))
     pub reads : length (cells ram (nextStrip n ch a)) ≡ (b + 1024 - a) % 1024 + 2
 
   pub begins-some : (n ch a : ℕ) → even a ≡ a → (beginsAt n ram a ≡ ramLength → ⊥) → BeginsAt n ch a (beginsAt n ram a)
   begins-some zero ch a p h = absurd (h (at-none a))
-  begins-some (suc n) ch a p h = by (passedHere a) refl (begins-some n ch (next a) (omega arith))
+  begins-some (suc n) ch a p h = by (passedHere ram a) refl (begins-some n ch (next a) (omega arith))
     where
-      by : (t : Bool) → passedHere a ≡ t → ((beginsAt n ram (next a) ≡ ramLength → ⊥) → BeginsAt n ch (next a) (beginsAt n ram (next a)))
+      by : (t : Bool) → passedHere ram a ≡ t → ((beginsAt n ram (next a) ≡ ramLength → ⊥) → BeginsAt n ch (next a) (beginsAt n ram (next a)))
           → BeginsAt (suc n) ch a (beginsAt (suc n) ram a)
       by false e later =
           rw (at-here n a e)
@@ -417,7 +422,7 @@ module _ (ram : List ℕ) where
       by true e later =
           let b : ℕ = beginsAt n ram (next a) in
           let r : BeginsAt n ch (next a) b = later (λ q. h (at-next n a e ∙ q)) in
-          let other : b ≡ a → ⊥ = λ q. false≢true (sym (r .begins) ∙ ap passedHere q ∙ e) in
+          let other : b ≡ a → ⊥ = λ q. false≢true (sym (r .begins) ∙ ap (passedHere ram) q ∙ e) in
           rw (at-next n a e)
           (record {
             paired = r .paired;
@@ -428,14 +433,14 @@ module _ (ram : List ℕ) where
 
   pub begins-none : (n a : ℕ) → even a ≡ a → beginsAt n ram a ≡ ramLength → (i : ℕ) → i < n → passedAt ram (a + 2 * i) ≡ true
   begins-none zero a p h i l = absurd (omega arith)
-  begins-none (suc n) a p h i l = by (passedHere a) refl i l (begins-none n (next a) (omega arith))
+  begins-none (suc n) a p h i l = by (passedHere ram a) refl i l (begins-none n (next a) (omega arith))
     where
-      by : (t : Bool) → passedHere a ≡ t → (i : ℕ) → i < suc n
+      by : (t : Bool) → passedHere ram a ≡ t → (i : ℕ) → i < suc n
           → (beginsAt n ram (next a) ≡ ramLength → (j : ℕ) → j < n → passedAt ram (next a + 2 * j) ≡ true) → passedAt ram (a + 2 * i) ≡ true
       by false e i l later = absurd (omega (arith, p, sym (at-here n a e) ∙ h))
       by true e zero l later = ap (passedAt ram) (add-zero a) ∙ here-at a p ∙ e
       by true e (suc i) l later =
-          ap (λ (x : ℕ). passedOver (getD ram x 0) (getD ram (x + 1) 0)) (sym (next-by a i)) ∙ later (sym (at-next n a e) ∙ h) i (omega arith)
+          ap (passedHere ram) (sym (next-by a i)) ∙ later (sym (at-next n a e) ∙ h) i (omega arith)
 
 -- the walk's next line where a strip is over: whichever it was
 pub walked-begin : (ram : List ℕ) (ch : ℕ) (w : Walk) → over (w .strip) ≡ true → w .plain ≡ false

@@ -1,4 +1,4 @@
--- The walk line by line, while the RAM stays put: through the lines of a strip, and into the next descriptor's.
+-- The walk line by line, while the RAM stays put: through the lines of a strip, and into the next one or the plain rest.
 -- Assumes nothing.
 use Prim.Native.Nat.{ℕ, zero, suc, _+_, _≤_}
 use mathlib.Core.Path.{_≡_, refl, ap, _∙_}

@@ -78,7 +78,7 @@ pub fn zoom(high: u8) -> bool
 }
 
 // Spacing of zero lines.
-pub fn is_passed_over(low: u8, high: u8) -> bool
+fn is_passed_over(low: u8, high: u8) -> bool
     ensures { λ r. ⌜ r ≡ passedOver low high ⌝ }
 {
     if is_spacing(high) {
@@ -124,7 +124,7 @@ pub fn descriptor_lines(ch: u8, low: u8, high: u8) -> u16
     ScanLine::before_first().lines_after(height(ch), zoom(high))
 }
 
-// Descriptors are passed over, from an even address on, up to one that begins its strip.
+// Where the first descriptor lies that begins its strip, from an even address on; past the end of RAM where all 512 are passed over.
 fn pass_over(ram: &[u8], first: usize) -> usize
     requires { ⌜ length (now ram) ≡ ramLength ⌝ }
     requires { ⌜ even first ≡ first ⌝ }
@@ -143,7 +143,7 @@ fn pass_over(ram: &[u8], first: usize) -> usize
     limits::RAM_LENGTH
 }
 
-// Mostly it is the first: tested by itself, it keeps the loop from the lines that have none to pass over.
+// The same. Mostly it is the first: tested by itself, it keeps the loop from lines that have none to pass over.
 fn begins_at(ram: &[u8], first: usize) -> usize
     requires { ⌜ length (now ram) ≡ ramLength ⌝ }
     requires { ⌜ even first ≡ first ⌝ }
@@ -249,7 +249,7 @@ impl Walk {
         }
     }
 
-    // The first line of the next strip, by the descriptors from an address on. CH is taken here.
+    // The first line of the next strip, or of the plain rest, by the descriptors from an address on. CH is taken here.
     fn begin(ram: &[u8], ch: u8, descriptor: u16) -> Walked
         requires { ⌜ length (now ram) ≡ ramLength ⌝ }
         ensures { λ r. ⌜ r ≡ walked (now (ram .entry)) ch (walkAt descriptor (Spacing 0)) ⌝ }

@@ -6,7 +6,7 @@ use native.Mathlib.Omega.{arith}
 use borrow.Author.Needs.{needs}
 use denote.Ref.{now}
 use Rattle.walk.specs.Walk.{linesLeft}
-use Rattle.ahead.specs.Looking.{codesTo, Far, Kept}
+use Rattle.ahead.specs.Looking.{codesTo, Far, Kept, Posed}
 use Rattle.ahead.proofs.Looks.{SumSame, sum-start, sum-on, lines-here, lines-last, lines-found, lines-over}
 use Rattle.ahead.proofs.look_lines.Statement.{statement}
 use Rattle.ahead.proofs.look_lines.Tie as tie
@@ -17,6 +17,9 @@ Inv-loop ram marks₀ nearest sought all descriptor own p₀ left₀ near₀ mar
 
 abbrev μ-loop : tie.MeasureT-loop
 μ-loop ram marks₀ nearest sought all descriptor own p₀ left₀ near₀ marks p left near = codesTo (sought .cell) (2 * p)
+
+posed-at : (n : tie.After-descriptor-lines Inv-loop μ-loop) → Posed (n .before .before .before .before .before .before .before .before .args .sought)
+posed-at n = n .before .before .before .before .before .before .before .before .pre .1 .0
 
 loop-holds : tie.Need-loop-holds Inv-loop μ-loop
 loop-holds c =
@@ -43,7 +46,7 @@ returns-2 c =
     let n = d .before .before in
     let l = n .before .before .before .before .before .loop in
     let shorter : l .left ≤ linesLeft (d .of-descriptor .result) = omega (arith, ap linesLeft (d .of-descriptor .ensures), n .descriptor-lines .ensures, d .before .if2 .taken) in
-    lines-last (l .p) (l .inv .3) (l .inv .0) (n .before .before .before .before .before .before .before .before .pre .1 .0) (d .of-descriptor .result) (d .of-descriptor .ensures) (n .before .before .before .before .loop-test .taken)
+    lines-last (l .p) (l .inv .3) (l .inv .0) (posed-at n) (d .of-descriptor .result) (d .of-descriptor .ensures) (n .before .before .before .before .loop-test .taken)
     (n .before .before .before .if1 .left) (l .left) (omega (arith, shorter)) (c .look-strip .ensures) shorter
 
 look-whole-requires : tie.Need-look-whole-requires Inv-loop μ-loop
@@ -56,7 +59,7 @@ returns-3 : tie.Need-returns-3 Inv-loop μ-loop
 returns-3 c =
     let n = c .before .before .before .before in
     let l = n .before .before .before .before .before .loop in
-    lines-found (l .p) (l .inv .3) (l .inv .0) (n .before .before .before .before .before .before .before .before .pre .1 .0) _ refl (n .before .before .before .before .loop-test .taken) (n .before .before .before .if1 .left) _
+    lines-found (l .p) (l .inv .3) (l .inv .0) (posed-at n) _ refl (n .before .before .before .before .loop-test .taken) (n .before .before .before .if1 .left) _
     (omega (arith, n .descriptor-lines .ensures, c .before .before .before .if2 .left)) (c .before .look-whole .ensures) (c .if3 .taken)
 
 -- the cell's own descriptor is one nearer
@@ -64,7 +67,7 @@ loop-less : tie.Need-loop-less Inv-loop μ-loop
 loop-less c =
     let n = c .before .before .before .before in
     let l = n .before .before .before .before .before .loop in
-    let q = n .before .before .before .before .before .before .before .before .pre .1 .0 in
+    let q = posed-at n in
     let e = n .before .before .before .if1 .left in
     omega (arith, q .cell, l .inv .0, e)
 
@@ -77,7 +80,7 @@ loop-again c =
       w .kept,
       w .far,
       rw (n .descriptor-lines .ensures)
-          (sum-on (l .p) (l .inv .3) (l .inv .0) (n .before .before .before .before .before .before .before .before .pre .1 .0) _ refl (n .before .before .before .before .loop-test .taken) (n .before .before .before .if1 .left) _
+          (sum-on (l .p) (l .inv .3) (l .inv .0) (posed-at n) _ refl (n .before .before .before .before .loop-test .taken) (n .before .before .before .if1 .left) _
           (omega (arith, n .descriptor-lines .ensures, c .before .before .before .if2 .left)) w (c .if3 .left)),
     )
 
