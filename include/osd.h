@@ -196,9 +196,9 @@ typedef uint64_t osd_len;
  *
  * If 512 descriptors in a row, read at one line, are passed over (a whole round of RAM), that line and the rest of the frame are plain, 0
  * with OSD 0, and nothing more is read, whatever is written meanwhile, until the next accepted frame start or a reset; LD, OSD and FBK
- * still count from line to line. So a page must close with spacing that lasts to the frame's end, several of up to 255 lines if need be: behind the last strip of a
- * page that does not, zeros are passed over, and the frame goes on in whatever lies behind them. A RAM of zeros is plain; its first
- * line reads all 1,024 cells.
+ * still count from line to line. So a page must close with spacing that lasts to the frame's end, several of up to 255 lines if need
+ * be: behind the last strip of a page that does not, zeros are passed over, and the frame goes on in whatever lies behind them. A RAM
+ * of zeros is plain; its first line reads all 1,024 cells.
  *
  * A strip of characters has CH lines, with ZY (zoom) twice as many. With DE 0 its lines are plain, and no code is read. Line j of
  * the strip, counted from 1, shows slice (36 * n + CH) / (2 * CH), rounded down, where n is j, or with ZY (j + 1) / 2 rounded down.
@@ -235,8 +235,8 @@ typedef uint64_t osd_len;
  *     background, BK3 1, BK1 1: shadow       8 where the pixel to its left is foreground, else plain
  *
  * With BK3 1, BK2 and BK0 do not count. Plain are spacing strips, strips with DE 0, the rest of a frame behind 512 descriptors that were
- * passed over, the pixels before the first character and those from the end of line on. In its hidden time a flashing character draws foreground as background and casts no shadow; its slice is
- * read all the same. By the frame number f, 0 to 63, mode FL of register 3FF3 shows it: 0 always, 1 with f below 32, 2 with f below
+ * passed over, the pixels before the first character and those from the end of line on. In its hidden time a flashing character draws
+ * foreground as background and casts no shadow; its slice is read all the same. By the frame number f, 0 to 63, mode FL of register 3FF3 shows it: 0 always, 1 with f below 32, 2 with f below
  * 16, 3 with f below 48.
  *
  * To the left of a character's leftmost column stands the last column of the character just to its left, whatever that one's
@@ -270,7 +270,8 @@ typedef uint64_t osd_len;
  *     22, 23  lines of the frame left; 0: no frame, or all its lines drawn
  *     24, 25  address of the next descriptor
  *     26      strip on screen: bit 0 characters (else spacing), bit 1 ZY, bit 2 DE; bit 3: 512 descriptors in a row were passed over,
- *             no more are read, and the rest of the frame is plain (where the strip has a line left it is not read, and its next line clears it)
+ *             no more are read, and the rest of the frame is plain (where the strip has a line left this bit is not read, and the
+ *             strip's next line clears it)
  *     27      characters: height (CH as taken); spacing: lines left
  *     28, 29  characters: code address; spacing: 0
  *     30, 31  characters: scan line of the strip, from 1; spacing: 0

@@ -54,6 +54,12 @@ module _ (d : Device) (ram : List ℕ) where
       ∙ length-append (cells ram (nextLine (s .ch) w)) _
       ∙ ap (λ (v : Walk). length (cells ram (nextLine (s .ch) w)) + length (cells ram (shownRow s (v .strip)))) (sym (walk-is refl))
 
+  pixels-are : (font : List ℕ) → pixelsOf d ram font ≡ paint s font (d .frame .number) (value ram (shownRow s (lineOn d ram .frame .walk .strip)))
+  unfolding pixelsOf
+  pixels-are font =
+      ap (λ (x : Scanned). paint s font (d .frame .number) (x .row)) (scan-value shownRow ram s w)
+      ∙ ap (λ (v : Walk). paint s font (d .frame .number) (value ram (shownRow s (v .strip)))) (sym (walk-is refl))
+
   -- into the plain rest, or on in it
   module _ (a : ℕ) (e : value ram (nextLine (s .ch) w) ≡ plainRest a) where
     no-reads : cells ram (shownRow s (value ram (nextLine (s .ch) w) .strip)) ≡ []
@@ -61,10 +67,10 @@ module _ (d : Device) (ram : List ℕ) where
     no-reads = ap (λ (v : Walk). cells ram (shownRow s (v .strip))) e ∙ ap (cells ram) (no-row s (Spacing 0) refl)
 
     plain-pixels : (font : List ℕ) → pixelsOf d ram font ≡ plainLine d
-    unfolding pixelsOf value hasRow
+    unfolding value hasRow
     plain-pixels font =
-        ap (λ (x : Scanned). paint s font (d .frame .number) (x .row)) (scan-value shownRow ram s w)
-        ∙ ap (λ (v : Walk). paint s font (d .frame .number) (value ram (shownRow s (v .strip)))) e
+        pixels-are font
+        ∙ ap (λ (v : Walk). paint s font (d .frame .number) (value ram (shownRow s (v .strip)))) (walk-is e)
         ∙ ap (λ (p : Reading (List Place)). paint s font (d .frame .number) (value ram p)) (no-row s (Spacing 0) refl)
         ∙ plain-line s font (d .frame .number)
 
@@ -101,6 +107,7 @@ some d ram k h l z b =
           (over-value ram ch w (t .0) (t .1)
           ∙ ap onward (ap (λ (m : ℕ). value ram (nextStrip m ch a)) whole ∙ run-value ram ch k n a z ∙ begin-value ram n ch (a + 2 * k) b));
       reads = omega (arith, reads-are d ram, ap length (over-cells ram ch w (t .0) (t .1)), cut, run-cells ram ch k n a z, first);
+      pixels = pixels-are d ram;
     }
 
 all : (d : Device) (ram : List ℕ) → readsDescriptor d ≡ true → ZeroSpacings ram 512 (d .frame .walk .descriptor) → PlainBegins d ram

@@ -7,13 +7,13 @@ use mathlib.Core.Bool.{Bool, true, false, not, cond, _&&_}
 use mathlib.Core.List.{List, []}
 use lib.ListN.{getD, length, replicate}
 use Rattle.limits.specs.Limits.{badLineCount}
-use Rattle.cells.specs.Reading.{cells}
+use Rattle.cells.specs.Reading.{value, cells}
 use Rattle.registers.specs.declared.Settings.{Settings}
 use Rattle.registers.specs.Registers.{settingsOf}
 use Rattle.bus.specs.declared.Event.{Event}
 use Rattle.walk.specs.Walk.{even, next, walkAt, passedOver, stripOf, over, inPlainRest, advanced}
 use Rattle.paint.specs.Pixels.{plainOf}
-use Rattle.line.specs.Line.{shownRow}
+use Rattle.line.specs.Line.{shownRow, paint}
 use Rattle.device.specs.declared.Device.{Device}
 use Rattle.device.specs.Device.{freshDevice, hearEvent, startFrame, nextScan, pixelsOf, lineOn, lineWidth, cellsLeft}
 
@@ -42,11 +42,14 @@ plainLine d =
     let s : Settings = settingsOf (d .registers) in
     replicate (lineWidth d) (cond (s .osd) (plainOf (s .fbk)) 0)
 
--- fewer than 512 are passed over, and then one begins its strip: it is on screen, at its first line. They are read, it is, and then its row
+-- fewer than 512 are passed over, and then one begins its strip: it is on screen, at its first line. They are read, it is, and then its row,
+-- which is painted
 pub record StripBegins (d : Device) (ram : List ℕ) (k a : ℕ) : Type 0 where
   pub strip : lineOn d ram .frame .walk ≡ walkAt (next a) (advanced (stripOf (settingsOf (d .registers) .ch) (lowAt ram a) (highAt ram a)))
   pub reads : length (cells ram (nextScan d))
       ≡ 2 * (k + 1) + length (cells ram (shownRow (settingsOf (d .registers)) (lineOn d ram .frame .walk .strip)))
+  pub pixels : (font : List ℕ) → pixelsOf d ram font
+      ≡ paint (settingsOf (d .registers)) font (d .frame .number) (value ram (shownRow (settingsOf (d .registers)) (lineOn d ram .frame .walk .strip)))
 
 -- 512 are: the line is plain, and so is the rest of the frame
 pub record PlainBegins (d : Device) (ram : List ℕ) : Type 0 where

@@ -10,7 +10,8 @@
 --     21     frame number
 --     22, 23 lines of the frame left; 0: no frame, or all its lines drawn
 --     24, 25 address of the next descriptor
---     26     strip on screen: bit 0 characters (else spacing), bit 1 ZY, bit 2 DE; bit 3: the rest of the frame is plain (K9), where the strip has no line left
+--     26     strip on screen: bit 0 characters (else spacing), bit 1 ZY, bit 2 DE; bit 3: where the strip has no line left, the rest of
+--            the frame is plain (K9)
 --     27     characters: height (CH as taken); spacing: lines left
 --     28, 29 characters: code address; spacing: 0
 --     30, 31 characters: scan line of the strip; spacing: 0

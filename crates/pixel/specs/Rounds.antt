@@ -17,8 +17,8 @@ pub record Span (from to : ℕ) : Type 0 where
   pub inside : to ≤ ramLength
   pub paired : (from % 2 ≡ 0) × (to % 2 ≡ 0)
 
--- k descriptors from an address on: line y falls in the strip of one of them, or past them all, and then the last of them stands for its strip (1,022 on is 2
--- back, where addresses wrap)
+-- k descriptors from an address on: line y falls in the strip of one of them, or past them all, and then the last of them stands for its strip
+-- (1,022 on is 2 back, where addresses wrap)
 unfoldable pub roundOf : (k : ℕ) (ram : List ℕ) (ch a y : ℕ) → Round
 roundOf zero ram ch a y = record { found = false; line = lineAt ram (a + 1022) y; left = y }
 roundOf (suc k) ram ch a y =

@@ -207,6 +207,10 @@ pub rest-value : (ram : List ℕ) (ch a : ℕ) → value ram (nextStrip 0 ch a) 
 unfolding nextStrip value
 rest-value ram ch a = refl
 
+rest-cells : (ram : List ℕ) (ch a : ℕ) → cells ram (nextStrip 0 ch a) ≡ []
+unfolding nextStrip cells
+rest-cells ram ch a = refl
+
 -- any address of a descriptor stands for its even one
 nextStrip-even : (n ch a b : ℕ) → even a ≡ even b → nextStrip (suc n) ch a ≡ nextStrip (suc n) ch b
 unfolding nextStrip
@@ -251,12 +255,16 @@ module _ (ram : List ℕ) (ch : ℕ) where
 
   -- all 512: a whole round of RAM
   pub all-value : (a : ℕ) → PassedRun ramPairs a → value ram (nextStrip ramPairs ch a) ≡ plainRest (next (a + 2 * 511))
-  unfolding nextStrip value
-  all-value a h = run-value 511 0 a (λ i l. h i (omega arith)) ∙ pass-value ram 0 ch (a + 2 * 511) (h 511 (omega arith))
+  all-value a h =
+      run-value 511 0 a (λ i l. h i (omega arith))
+      ∙ pass-value ram 0 ch (a + 2 * 511) (h 511 (omega arith))
+      ∙ rest-value ram ch (next (a + 2 * 511))
 
   pub all-cells : (a : ℕ) → PassedRun ramPairs a → length (cells ram (nextStrip ramPairs ch a)) ≡ ramLength
-  unfolding nextStrip cells
-  all-cells a h = omega (arith, run-cells 511 0 a (λ i l. h i (omega arith)), ap length (pass-cells ram 0 ch (a + 2 * 511) (h 511 (omega arith))))
+  all-cells a h =
+      let last = ap length (pass-cells ram 0 ch (a + 2 * 511) (h 511 (omega arith))) in
+      let none = ap length (rest-cells ram ch (next (a + 2 * 511))) in
+      omega (arith, run-cells 511 0 a (λ i l. h i (omega arith)), last, none)
 
 -- n descriptors at the most, two cells each at an even address; and the strip has a line, or the rest of the frame is plain
 abbrev Begun : Walk → Type 0
