@@ -236,8 +236,8 @@ typedef uint64_t osd_len;
  *
  * With BK3 1, BK2 and BK0 do not count. Plain are spacing strips, strips with DE 0, the rest of a frame behind 512 descriptors that were
  * passed over, the pixels before the first character and those from the end of line on. In its hidden time a flashing character draws
- * foreground as background and casts no shadow; its slice is read all the same. By the frame number f, 0 to 63, mode FL of register 3FF3 shows it: 0 always, 1 with f below 32, 2 with f below
- * 16, 3 with f below 48.
+ * foreground as background and casts no shadow; its slice is read all the same. By the frame number f, 0 to 63, mode FL of register
+ * 3FF3 shows it: 0 always, 1 with f below 32, 2 with f below 16, 3 with f below 48.
  *
  * To the left of a character's leftmost column stands the last column of the character just to its left, whatever that one's
  * background, so that the shadow of a logo crosses the seams between its characters. To the left of the first character stands nothing.
