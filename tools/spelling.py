@@ -14,6 +14,8 @@ import re
 
 WORD = re.compile(r'[^\s(){}.;,@"«»`:]+')
 TABLE = dict(line.split('\t') for line in pathlib.Path('tools/spelling.tsv').read_text().splitlines())
+# A function of src/ has this name too: it turns in the proofs of one crate alone.
+LEMMA, WHERE = 'lines_left', 'crates/pixel/proofs'
 # No file of specs/ may have this name any more.
 MODULES = {'crates/line/specs/Contracts.antt': 'crates/line/specs/Promises.antt'}
 
@@ -55,9 +57,13 @@ def main():
     for old, new in MODULES.items():
         if pathlib.Path(old).is_file():
             pathlib.Path(old).rename(new)
+    lemma = TABLE.pop(LEMMA)
     for path in sorted(pathlib.Path('crates').rglob('*')):
         if path.suffix not in ('.antt', '.rt') or 'out' in path.parts:
             continue
+        TABLE.pop(LEMMA, None)
+        if str(path).startswith(WHERE):
+            TABLE[LEMMA] = lemma
         text = path.read_text()
         if path.suffix == '.rt':
             new = of_code(text)
@@ -69,6 +75,7 @@ def main():
         new = new.replace('Rattle.line.specs.Contracts.', 'Rattle.line.specs.Promises.')
         if new != text:
             path.write_text(new)
+    TABLE.pop(LEMMA, None)
     for path in [pathlib.Path('README.md')] + sorted(pathlib.Path('docs').glob('*.md')):
         path.write_text(spans(path.read_text()))
 

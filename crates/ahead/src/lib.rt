@@ -1,3 +1,4 @@
+#![tactic(auto)]
 // What the frame's remaining lines read. The strips are walked once, each in constant time: a strip's row reads the cell as a code
 // if it starts closely before it; the rows that show the cell's slice are marked, and then looked through for its user character.
 ghost use Rattle.std.specs.Prelude.{◌≡◌, ℕ, ◌+◌, ◌*◌, ◌≤◌, ◌<◌, min, length};
@@ -13,7 +14,7 @@ use registers::Settings;
 use walk::{Strip, Walk};
 
 // What is looked for in each strip.
-#[derive(Drop)]
+#[derive(Clone, Copy)]
 pub struct Sought {
     pub cell: u16,
     pub settings: Settings,
@@ -24,7 +25,7 @@ pub struct Sought {
 }
 
 // A strip was looked at: the cell was found, or only rows that start fewer codes before it than `near` can read it as a code.
-#[derive(Drop)]
+#[derive(Clone, Copy)]
 pub struct Looked {
     pub found: bool,
     pub near: u16,
@@ -260,7 +261,7 @@ pub fn user_reads(ram: &[u8], row: usize, n: usize, cell: u16) -> bool
 
 // The zeros at the low end of a word, as far as they were passed, and the word without them. They are passed by halves: the kit's
 // count of them is compiled into a table on RISC-V, and a port has no data of its own.
-#[derive(Drop)]
+#[derive(Clone, Copy)]
 pub struct Passed {
     pub zeros: usize,
     pub rest: u32,
@@ -379,7 +380,7 @@ pub fn reads(ram: &[u8], settings: Settings, left: u16, walk: Walk, cell: u16) -
     let mut marks = [0u32; 16];
     let sought = seek(settings, cell);
     let strip = walk.strip;
-    let k = least(strip.lines_left_lem(), left);
+    let k = least(strip.lines_left(), left);
     let first = look_strip(ram, &mut marks, sought.codes, sought, strip, k);
     if first.found {
         return true;

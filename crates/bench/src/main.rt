@@ -1,3 +1,4 @@
+#![tactic(auto)]
 // The bench of document 01: reads RAM, registers, font and a line count, and prints a heading and the lines of frame 0, or a refusal.
 use device::{Device, StartAnswer};
 

@@ -1,3 +1,4 @@
+#![tactic(auto)]
 // The two-wire bus: what an event does to the bus, the registers and the lent RAM, and how it is answered.
 ghost use Rattle.std.specs.Prelude.{◌≡◌, length};
 ghost use Rattle.limits.specs.Limits.{ram_length};
@@ -15,7 +16,7 @@ pub const FETCH: u8 = 2;
 
 pub const STOP: u8 = 3;
 
-#[derive(Drop)]
+#[derive(Clone, Copy)]
 pub enum Event {
     Start,
     Byte(u8),
@@ -24,7 +25,7 @@ pub enum Event {
 }
 
 // What the bus waits for.
-#[derive(Drop)]
+#[derive(Clone, Copy)]
 pub enum BusState {
     // a start
     Idle,
@@ -42,14 +43,14 @@ pub enum BusState {
     Read,
 }
 
-#[derive(Drop)]
+#[derive(Clone, Copy)]
 pub struct Bus {
     pub state: BusState,
     pub counter: u16,
 }
 
 // What an event asks of the cells.
-#[derive(Drop)]
+#[derive(Clone, Copy)]
 pub enum Effect {
     // acknowledged, and no cell is asked for
     Acknowledge,
@@ -61,19 +62,19 @@ pub enum Effect {
     Load(u16),
 }
 
-#[derive(Drop)]
+#[derive(Clone, Copy)]
 pub struct Step {
     pub bus: Bus,
     pub effect: Effect,
 }
 
-#[derive(Drop)]
+#[derive(Clone, Copy)]
 pub enum BusAnswer {
     Acknowledged(u8),
     Refused(Refusal),
 }
 
-#[derive(Drop)]
+#[derive(Clone, Copy)]
 pub struct Heard {
     pub bus: Bus,
     pub registers: Registers,

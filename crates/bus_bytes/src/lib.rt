@@ -1,3 +1,4 @@
+#![tactic(auto)]
 // Bus events on the device record's lent bytes, in place: of the record only the bus part and at most one register are read and written.
 ghost use Rattle.std.specs.Prelude.{◌≡◌, ◌≤◌, ◌<◌, length};
 ghost use Rattle.limits.specs.Limits.{ram_length, address_space};

@@ -1,3 +1,4 @@
+#![tactic(auto)]
 // A logger's capture, fed in chunks: two bytes an event go in, two bytes for each finished event come out.
 ghost use Rattle.std.specs.Prelude.{◌≡◌, false, cond, ◌+◌, ◌-◌, ◌*◌, ◌^◌, ◌≤◌, ◌<◌, eqb, length};
 ghost use Rattle.std.proofs.lemmas.List.Edits.{sets};
@@ -10,7 +11,7 @@ use bus::{BusAnswer, Event};
 use device::Device;
 use refusals::Refusal;
 
-#[derive(Drop)]
+#[derive(Clone, Copy)]
 pub enum Feed {
     // nothing held
     Open,
@@ -20,7 +21,7 @@ pub enum Feed {
     Shut,
 }
 
-#[derive(Drop)]
+#[derive(Clone, Copy)]
 pub enum FeedAnswer {
     // with the number of output bytes written
     Fed(usize),
@@ -29,14 +30,14 @@ pub enum FeedAnswer {
 }
 
 // What the tests before any event find.
-#[derive(Drop)]
+#[derive(Clone, Copy)]
 pub enum FeedTest {
     Passed,
     Failed(Refusal),
 }
 
 // What a feed leaves and answers.
-#[derive(Drop)]
+#[derive(Clone, Copy)]
 pub struct FeedDone {
     pub device: Device,
     pub feed: Feed,

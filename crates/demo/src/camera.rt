@@ -2,7 +2,7 @@
 ghost use Rattle.std.specs.Prelude.{◌≡◌, ◌≤◌, ◌<◌};
 ghost use Rattle.demo.specs.Camera.{rgb, lighter, apart, sky, roof, wall, pane, house_at, town, asphalt, middle_line, pavement, street, car_half, cabin, front, car, traffic, post, sill, scene, camera};
 
-#[derive(Drop)]
+#[derive(Clone, Copy)]
 pub struct Colour {
     pub r: u8,
     pub g: u8,

@@ -1,3 +1,4 @@
+#![tactic(auto)]
 // Draws a picture: feeds a host's bus traffic to a fresh device, draws one frame, mixes each line with a made-up camera's by fast
 // blanking, and writes the frame as a binary PPM. Standard input: a font of 4,608 bytes, then two bytes an event, its kind (0 start,
 // 1 host byte, 2 fetch, 3 stop) and the byte; 65,536 bytes at the most. Where a kind is bad, a line says so and nothing is drawn.
@@ -17,7 +18,7 @@ mod camera;
 const LINES: usize = 216;
 
 // How the traffic ends.
-#[derive(Drop)]
+#[derive(Clone, Copy)]
 enum Traffic {
     // each event was heard; half an event at the end is none yet
     Whole,
@@ -26,7 +27,7 @@ enum Traffic {
 }
 
 // The device after the traffic, up to where it ends.
-#[derive(Drop)]
+#[derive(Clone, Copy)]
 struct Played {
     device: Device,
     traffic: Traffic,

@@ -1,3 +1,4 @@
+#![tactic(auto)]
 // What a depot's programs (font_check, font_unpack, font_pack) say of their input, in one line.
 ghost use Rattle.std.specs.Prelude.{◌≡◌, ◌+◌, ◌%◌, ◌≤◌, ◌<◌, length, set};
 ghost use Rattle.font_file.specs.declared.FileAnswer.TheVariants.{Refused};
@@ -9,7 +10,7 @@ use refusals::FileRefusal;
 // Where the place of a block stands in a line. A place is 0 to 9; the remainder makes a digit of any byte.
 const PLACE_AT: usize = 18;
 
-#[derive(Drop)]
+#[derive(Clone, Copy)]
 pub struct Line {
     pub bytes: [u8; 64],
     pub length: usize,
@@ -21,7 +22,7 @@ fn line_of(text: &[u8]) -> Line
     ensures length_value { (result.length ≡ length text.now) × (length result.bytes ≡ 64) }
 {
     let mut bytes = [0u8; 64];
-    let length = bytes::copy(text, &mut bytes);
+    let length = buffers::copy(text, &mut bytes);
     Line {
         bytes: bytes,
         length: length,

@@ -1,3 +1,4 @@
+#![tactic(auto)]
 // The device that a host uses: the record, and the calls on it. Every call takes any record and slices of any length, and refuses.
 ghost use Rattle.std.specs.Prelude.{◌≡◌, ◌≤◌};
 ghost use Rattle.limits.specs.Limits.{line_max};
@@ -10,7 +11,7 @@ use refusals::Refusal;
 use registers::Registers;
 use walk::Walk;
 
-#[derive(Drop)]
+#[derive(Clone, Copy)]
 pub struct Frame {
     // lines still to draw; 0: no frame, or all its lines drawn
     pub left: u16,
@@ -19,7 +20,7 @@ pub struct Frame {
     pub walk: Walk,
 }
 
-#[derive(Drop)]
+#[derive(Clone, Copy)]
 pub struct Device {
     pub bus: Bus,
     pub registers: Registers,
@@ -28,20 +29,20 @@ pub struct Device {
     pub next: u8,
 }
 
-#[derive(Drop)]
+#[derive(Clone, Copy)]
 pub enum StartAnswer {
     Started,
     Refused(Refusal),
 }
 
-#[derive(Drop)]
+#[derive(Clone, Copy)]
 pub enum DrawAnswer {
     // with the number of RAM cells read
     Drawn(u16),
     Refused(Refusal),
 }
 
-#[derive(Drop)]
+#[derive(Clone, Copy)]
 pub enum CellAnswer {
     Yes,
     No,
@@ -49,19 +50,19 @@ pub enum CellAnswer {
 }
 
 // What a bus event, a frame start and a draw leave and answer.
-#[derive(Drop)]
+#[derive(Clone, Copy)]
 pub struct EventDone {
     pub device: Device,
     pub answer: BusAnswer,
 }
 
-#[derive(Drop)]
+#[derive(Clone, Copy)]
 pub struct StartDone {
     pub device: Device,
     pub answer: StartAnswer,
 }
 
-#[derive(Drop)]
+#[derive(Clone, Copy)]
 pub struct DrawDone {
     pub device: Device,
     pub answer: DrawAnswer,

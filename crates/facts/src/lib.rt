@@ -1,1 +1,2 @@
+#![tactic(auto)]
 // Laws only: what the kit's library lacks and several crates cite.

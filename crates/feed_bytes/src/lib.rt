@@ -1,3 +1,4 @@
+#![tactic(auto)]
 // The events of a chunk on the device record's lent bytes, in place. Data bytes and fetches, nearly all of a capture's events, go in runs.
 ghost use Rattle.std.specs.Prelude.{◌≡◌, false, ◌+◌, ◌*◌, ◌≤◌, ◌<◌, length};
 ghost use Rattle.std.proofs.lemmas.List.Edits.{sets};
@@ -12,7 +13,7 @@ use capture::Feed;
 use refusals::Refusal;
 
 // The feed after a chunk, and the number of output bytes that its events wrote.
-#[derive(Drop)]
+#[derive(Clone, Copy)]
 pub struct Taken {
     pub feed: Feed,
     pub written: u16,

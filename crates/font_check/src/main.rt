@@ -1,3 +1,4 @@
+#![tactic(auto)]
 // Tests a font file (document 02, K8) on standard input, and prints one line: good, or which block and what is wrong.
 // The stored input and output come from tests/depot.py; tests/depot_runs.py runs it over every kind of file.
 

@@ -1,3 +1,4 @@
+#![tactic(auto)]
 // Font files (document 02, K8): a font in ten blocks that can be checked. specs/FontFile.antt has the format.
 ghost use Rattle.std.specs.Prelude.{◌≡◌, ◌+◌, ◌%◌, ◌≤◌, ◌<◌, length, take, drop};
 ghost use Rattle.std.proofs.lemmas.List.Edits.{sets};
@@ -28,21 +29,21 @@ const ROWS: u16 = 7;
 
 const COLUMNS: u16 = 72;
 
-#[derive(Drop)]
+#[derive(Clone, Copy)]
 pub enum FileAnswer {
     Done,
     Refused(FileRefusal),
 }
 
 // What stands in a column: the sum, and the sum of each byte times its row, counted from 0.
-#[derive(Drop)]
+#[derive(Clone, Copy)]
 pub struct Column {
     pub sum: u16,
     pub weighted: u16,
 }
 
 // Both checks over a block's bytes 0 to 507.
-#[derive(Drop)]
+#[derive(Clone, Copy)]
 pub struct CheckSums {
     pub sum: u16,
     pub weighted: u16,

@@ -1,3 +1,4 @@
+#![tactic(auto)]
 // Writes the font on standard input as a font file (document 02, K8); or prints that it is no font, and nothing else.
 // The stored input and output come from tests/depot.py; tests/depot_runs.py runs it over fonts and other inputs.
 use font_file::FileAnswer;

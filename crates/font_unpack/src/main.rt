@@ -1,3 +1,4 @@
+#![tactic(auto)]
 // Reads a font file (document 02, K8) on standard input and writes its font; or prints the line of font_check, and nothing else.
 // The stored input and output come from tests/depot.py; tests/depot_runs.py runs it over every kind of file.
 use font_file::FileAnswer;

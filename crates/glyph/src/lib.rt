@@ -1,3 +1,4 @@
+#![tactic(auto)]
 // Character codes and glyphs: which two bytes a code shows in a slice.
 ghost use Rattle.std.specs.Prelude.{◌≡◌, ◌<◌, length};
 ghost use Rattle.limits.specs.Limits.{ram_length};
@@ -40,7 +41,7 @@ pub fn slice_bytes<'a>(ram: &'a [u8], font: &'a [u8], high: u8, slice: Slice) ->
 }
 
 // A code's slice as it lies there, two bytes with PX11 to PX0 in the low bits; how many cells that read; is it the end of line?
-#[derive(Drop)]
+#[derive(Clone, Copy)]
 pub struct Word {
     pub bits: u16,
     pub cells: u32,

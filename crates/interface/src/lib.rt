@@ -1,3 +1,4 @@
+#![tactic(auto)]
 // The calls as C sees them, on the bytes of the record: definitions and claims (specs/Interface.antt), and how an answer is put together.
 ghost use Rattle.std.specs.Prelude.{◌≡◌};
 ghost use Rattle.refusals.specs.Refusals.{refused};

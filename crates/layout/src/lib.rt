@@ -1,3 +1,4 @@
+#![tactic(auto)]
 // The device record in 32 lent bytes, as parts at offsets, and the feed's record in 2 (include/osd.h has the tables). Any bytes are some
 // record.
 ghost use Rattle.std.specs.Prelude.{◌≡◌, cond, ◌∷◌, ◌+◌, ◌≤◌, ◌<◌, length};
@@ -30,7 +31,7 @@ const FRAME_AT: usize = 21;
 const FRAME_LENGTH: usize = 11;
 
 // A strip as its bytes have it.
-#[derive(Drop)]
+#[derive(Clone, Copy)]
 pub struct Packed {
     // 0 spacing; 1 characters, with 2 for ZY and 4 for DE; 8 more with the walk's `plain`
     pub kind: u8,
@@ -141,7 +142,7 @@ fn registers_in(bytes: &[u8]) -> Registers
     ensures { result ≡ registers_in bytes.now }
 {
     let mut copy = [0; REGISTERS_LENGTH];
-    bytes::copy(bytes, &mut copy);
+    buffers::copy(bytes, &mut copy);
     Registers { bytes: copy }
 }
 

@@ -1,3 +1,4 @@
+#![tactic(auto)]
 // Lengths and limits that code tests, each named once, at the width of the test. specs/Limits.antt has those of definitions.
 ghost use Rattle.std.specs.Prelude.{◌≡◌};
 ghost use Rattle.limits.specs.Limits.{bad_line_count};

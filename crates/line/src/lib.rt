@@ -1,3 +1,4 @@
+#![tactic(auto)]
 // One scan line: what it reads, and its pixels.
 ghost use Rattle.std.specs.Prelude.{◌≡◌, ◌+◌, ◌≤◌, ◌<◌, min, ◌++◌, length, drop, replicate};
 ghost use Rattle.limits.specs.Limits.{ram_length, line_max};
@@ -14,7 +15,7 @@ use registers::{Registers, Settings};
 use walk::{Strip, Walk};
 
 // What is the same along a row of characters.
-#[derive(Drop)]
+#[derive(Clone, Copy)]
 pub struct Pen {
     pub slice: Slice,
     // the plain pixel
@@ -24,7 +25,7 @@ pub struct Pen {
 }
 
 // A code: whether it ended the line, how many cells it read, and its character.
-#[derive(Drop)]
+#[derive(Clone, Copy)]
 pub struct Coded {
     pub ended: bool,
     pub cells: u32,
@@ -32,7 +33,7 @@ pub struct Coded {
 }
 
 // The walk after a line, and how many cells the line read.
-#[derive(Drop)]
+#[derive(Clone, Copy)]
 pub struct Line {
     pub walk: Walk,
     pub cells: u16,

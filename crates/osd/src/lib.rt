@@ -1,3 +1,4 @@
+#![tactic(auto)]
 // The device for firmware to link: include/osd.h has each function as C sees it. The device's record crosses as 32 lent bytes, a feed's
 // as 2, a font and its file as they are.
 ghost use Rattle.std.specs.Prelude.{◌≡◌};

@@ -1,10 +1,11 @@
+#![tactic(auto)]
 // The pixels of a character: what a code's low byte draws with, and its twelve columns, four at a time.
 ghost use Rattle.std.specs.Prelude.{◌≡◌, cond, ◌%◌, ◌≤◌, ◌<◌, length, take};
 ghost use Rattle.paint.specs.Pixels.{takes_shadow};
 ghost use Rattle.paint.specs.Tables.{HasMasks, IsPlain, row_table, of_pixel, paint_of, solid, shadowed, four_of, in_fours, column_pixels, CharacterDrawn};
 
 // What a code draws four columns with: a byte for a column.
-#[derive(Drop)]
+#[derive(Clone, Copy)]
 pub struct Paint {
     // background
     pub back: u32,
@@ -15,7 +16,7 @@ pub struct Paint {
 }
 
 // Twelve columns, four in a number, the leftmost in its lowest byte.
-#[derive(Drop)]
+#[derive(Clone, Copy)]
 pub struct Fours {
     pub left: u32,
     pub middle: u32,
@@ -23,7 +24,7 @@ pub struct Fours {
 }
 
 // A character as it is drawn: the bits that it shows, PX11 to PX0, and its twelve columns.
-#[derive(Drop)]
+#[derive(Clone, Copy)]
 pub struct Drawn {
     pub bits: u32,
     pub columns: Fours,

@@ -1,3 +1,4 @@
+#![tactic(auto)]
 // One pixel of a frame, asked for by column and line: document 01 as plainly as it can be read, for the bench. Nothing is kept between
 // calls, so every call walks from the frame's first descriptor. A line is drawn faster by the device's own draw.
 ghost use Rattle.std.specs.Prelude.{◌≡◌, true, ◌+◌, ◌-◌, ◌/◌, ◌<◌, length};
@@ -16,7 +17,7 @@ use refusals::Refusal;
 use registers::Registers;
 
 // Two bytes of RAM at an even address: a descriptor, or a code.
-#[derive(Drop)]
+#[derive(Clone, Copy)]
 pub struct Pair {
     pub low: u8,
     pub high: u8,
@@ -24,14 +25,14 @@ pub struct Pair {
 
 // A line of a frame: the descriptor of its strip, and which line of the strip it is. In the plain rest of a frame it has no strip: a
 // descriptor that is passed over stands for it.
-#[derive(Drop)]
+#[derive(Clone, Copy)]
 pub struct StripLine {
     pub descriptor: Pair,
     pub line: ScanLine,
 }
 
 // What a line of characters draws with.
-#[derive(Drop)]
+#[derive(Clone, Copy)]
 pub struct Row {
     // where its codes start
     pub address: u16,
@@ -42,7 +43,7 @@ pub struct Row {
     pub hidden: bool,
 }
 
-#[derive(Drop)]
+#[derive(Clone, Copy)]
 pub enum PixelAnswer {
     Shown(u8),
     Refused(Refusal),
@@ -72,7 +73,7 @@ fn line_of(descriptor: Pair, number: u32) -> StripLine
 
 // Some descriptors in a row: line y was found in the strip of one of them, or lies past them all, so many lines on. Then the last of
 // them stands for its strip.
-#[derive(Drop)]
+#[derive(Clone, Copy)]
 pub struct Round {
     pub found: bool,
     pub line: StripLine,

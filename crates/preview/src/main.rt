@@ -1,3 +1,4 @@
+#![tactic(auto)]
 // Shows a picture as text: reads a binary PPM as `demo` writes it, and prints a Braille character for every 4 columns of 8 lines. A dot
 // stands for one pixel of every second column and line, and is set where the pixel is bright enough; how bright differs from dot to
 // dot, so that grey shows as some of them.
@@ -5,7 +6,7 @@ ghost use Rattle.std.specs.Prelude.{◌≡◌, ◌+◌, ◌*◌, ◌≤◌, ◌<
 ghost use Rattle.limits.specs.Limits.{line_max};
 ghost use Rattle.preview.specs.Preview.{digit, number, four_bytes, none, shown, size_of, brightness, dot, dots, upper, cell, braille};
 
-#[derive(Drop)]
+#[derive(Clone, Copy)]
 pub struct Size {
     pub width: usize,
     pub height: usize,

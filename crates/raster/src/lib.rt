@@ -1,14 +1,15 @@
+#![tactic(auto)]
 // The geometry of a line: which slice a scan line shows, how wide a line is, where its characters start, and what flashes.
 ghost use Rattle.std.specs.Prelude.{◌≡◌, ◌-◌, ◌*◌, ◌/◌, ◌≤◌, ◌<◌, max};
 ghost use Rattle.raster.specs.Raster.{strip_lines, before_first, following, InStrip, is_last, lines_after, HasNext, unzoomed, interpolated, width_of, first_pixel_of, characters_of, hidden_in};
 ghost use Rattle.raster.specs.Search.{InCharacter, slice_shown, LinesShown, heights_to};
 
 // A scan line of a strip, counted from 1; 0 before the first.
-#[derive(Drop)]
+#[derive(Clone, Copy)]
 pub struct ScanLine(pub u16);
 
 // A slice of a character, 1 to 18. The search for a cell also asks about number 0, which no line shows.
-#[derive(Drop)]
+#[derive(Clone, Copy)]
 pub struct Slice(pub u8);
 
 // What is left of a number after some, or 0.
@@ -107,7 +108,7 @@ fn heights_to(slice: u16) -> u16
 }
 
 // Lines of a strip, from one on, up to another.
-#[derive(Drop)]
+#[derive(Clone, Copy)]
 pub struct SliceLines {
     pub from: u16,
     pub to: u16,

@@ -1,10 +1,11 @@
+#![tactic(auto)]
 // The refusals of document 01's table and of document 02's requests, each with its number.
 ghost use Rattle.std.specs.Prelude.{◌≡◌};
 ghost use Rattle.refusals.specs.declared.Refusal.TheVariants.{NotAcknowledged};
 ghost use Rattle.refusals.specs.Refusals.{number_of, value_in, file_number_of, place_in};
 
 // Why an event is not acknowledged.
-#[derive(Drop)]
+#[derive(Clone, Copy)]
 pub enum Unheard {
     // 5: a host byte or a fetch while idle
     Idle,
@@ -16,7 +17,7 @@ pub enum Unheard {
     Writing,
 }
 
-#[derive(Drop)]
+#[derive(Clone, Copy)]
 pub enum Refusal {
     // 1: the lent RAM is not 1,024 bytes
     RamLength,
@@ -43,7 +44,7 @@ pub enum Refusal {
 }
 
 // The refusals of font files, which no other call gives.
-#[derive(Drop)]
+#[derive(Clone, Copy)]
 pub enum FileRefusal {
     // 15: a font file that is not 5,120 bytes, or the font that goes with it not 4,608
     Length,

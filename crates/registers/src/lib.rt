@@ -1,14 +1,15 @@
+#![tactic(auto)]
 // The sixteen registers, and the settings that a line is drawn by.
 ghost use Rattle.std.specs.Prelude.{◌≡◌, length};
 ghost use Rattle.registers.specs.Registers.{fresh_registers, loaded, stored, fetched, settings_of, page_of};
 
-#[derive(Drop)]
+#[derive(Clone, Copy)]
 pub struct Registers {
     pub bytes: [u8; 16],
 }
 
 // What a line reads of the registers. Written only by `Registers::settings`.
-#[derive(Drop)]
+#[derive(Clone, Copy)]
 pub struct Settings {
     pub ld: u8,
     pub dd: u8,

@@ -1,3 +1,4 @@
+#![tactic(auto)]
 // The bench: from its input to a device, RAM and font, or to a refusal; and the texts that it prints.
 ghost use Rattle.std.specs.Prelude.{◌≡◌, map, ◌+◌, ◌-◌, ◌≤◌, min, length, take, drop};
 ghost use Rattle.buffers.specs.Buffers.{hex_digit};
@@ -18,7 +19,7 @@ const COUNT_AT: usize = FONT_FROM + limits::FONT_LENGTH;
 pub const INPUT_LENGTH: usize = COUNT_AT + 2;
 
 // The device after a line, and the length of the line's text.
-#[derive(Drop)]
+#[derive(Clone, Copy)]
 pub struct LineDone {
     pub device: Device,
     pub length: usize,

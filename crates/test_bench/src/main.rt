@@ -1,3 +1,4 @@
+#![tactic(auto)]
 // Runs inputs at the edges through the bench's functions: 0, 5,649 and 5,651 bytes, then counts of 0, 2,048, 2,049 and 65,535.
 // Prints a refusal, or the heading, the first and the last line, and a digest of all lines.
 // Standard input: the bench's input with the count 0, and one byte more. The stored output comes from tests/model.py

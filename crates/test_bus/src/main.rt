@@ -1,3 +1,4 @@
+#![tactic(auto)]
 // Feeds scripted bus traffic to a device and prints every answer. Standard input: two bytes a step. Kinds 0 to 3 are start, host
 // byte, fetch and stop; kind 4 says how much RAM is lent from then on (0: 1,024 bytes; 1: none; 2: 1,023; 3: 1,025).
 // The stored output comes from tests/model.py, which was written from documents 01 and 02 and not from this code

@@ -1,3 +1,4 @@
+#![tactic(auto)]
 // Feeds captures to a device, in chunks, and prints every answer. Standard input: steps; the first byte of each says which it is.
 //
 //  0              a fresh device, RAM all zero, a feed made anew; 1,024 bytes of RAM are lent from here on
@@ -29,7 +30,7 @@ const DIGEST: Numbers = Numbers {
 };
 
 // What a host keeps from call to call, beside its RAM.
-#[derive(Drop)]
+#[derive(Clone, Copy)]
 struct Host {
     device: Device,
     feed: Feed,
@@ -39,21 +40,21 @@ struct Host {
     written: u64,
 }
 
-#[derive(Drop)]
+#[derive(Clone, Copy)]
 struct Answer {
     refusal: u8,
     value: usize,
 }
 
 // What a chunk leaves and answers.
-#[derive(Drop)]
+#[derive(Clone, Copy)]
 struct Fed {
     host: Host,
     answer: Answer,
 }
 
 // What a capture leaves: the feed's state and the kind that it holds, and the digests of output and RAM.
-#[derive(Drop)]
+#[derive(Clone, Copy)]
 struct Left {
     state: u8,
     held: u8,
@@ -62,7 +63,7 @@ struct Left {
 }
 
 // A capture in three chunks.
-#[derive(Drop)]
+#[derive(Clone, Copy)]
 struct Cut {
     head: Answer,
     empty: Answer,

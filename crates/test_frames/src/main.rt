@@ -1,3 +1,4 @@
+#![tactic(auto)]
 // Makes the calls of a script on one device and prints what they answer. Standard input: four bytes a step, its kind and a, b, c;
 // numbers of several bytes have the high byte first.
 //

@@ -1,3 +1,4 @@
+#![tactic(auto)]
 // Plays a script of calls on one device and prints digests of all answers and bitmaps of the cell question. A list of bus events, draws
 // and cell questions is played twice from the same device, RAM and font: in its own order, and with its draws and questions first.
 // Standard input: four bytes a step, its kind and a, b, c; n is a + 256 b.
@@ -49,7 +50,7 @@ const DIGEST: Numbers = Numbers {
 };
 
 // Where a list begins, where it ends, and where what shows its state ends.
-#[derive(Drop)]
+#[derive(Clone, Copy)]
 struct List {
     from: usize,
     to: usize,
@@ -57,7 +58,7 @@ struct List {
 }
 
 // Which steps of a list are played.
-#[derive(Drop)]
+#[derive(Clone, Copy)]
 enum Which {
     All,
     DrawsAndQuestions,
@@ -65,7 +66,7 @@ enum Which {
     None,
 }
 
-#[derive(Drop)]
+#[derive(Clone, Copy)]
 struct Part {
     from: usize,
     to: usize,
@@ -237,7 +238,7 @@ fn plays(which: Which, kind: u8) -> bool {
 
 // As many bytes as there is room for.
 fn copy(from: &[u8], to: &mut [u8]) {
-    bytes::copy(test_script::first(from, to.len()), to);
+    buffers::copy(test_script::first(from, to.len()), to);
 }
 
 // ---- steps 0 to 7 and 9

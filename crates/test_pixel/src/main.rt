@@ -1,3 +1,4 @@
+#![tactic(auto)]
 // Asks for every pixel of several pages, one by one, and holds each against the line that is drawn; then asks with every fault there is.
 // Standard input:
 //
@@ -42,7 +43,7 @@ const DIGEST: Numbers = Numbers {
 };
 
 // What was counted of a page: digests of what was drawn and asked for, and how many pixels differ.
-#[derive(Drop)]
+#[derive(Clone, Copy)]
 struct Sums {
     drawn: u64,
     asked: u64,

@@ -1,3 +1,4 @@
+#![tactic(auto)]
 // What the test programs share: steps of a script, calls on a device, parts of what is lent, noise and digests, and what is printed.
 ghost use Rattle.std.specs.Prelude.{◌≡◌, ◌<◌, length, take};
 ghost use Rattle.refusals.specs.Refusals.{accepted};
@@ -7,7 +8,7 @@ ghost use Rattle.test_script.specs.Script.{step_at, called_of, outcome_of, drawn
 use bus::Event;
 use device::Device;
 
-#[derive(Drop)]
+#[derive(Clone, Copy)]
 pub struct Step {
     pub kind: u8,
     pub a: u8,
@@ -16,7 +17,7 @@ pub struct Step {
 }
 
 // What a host asks of a device, apart from lines.
-#[derive(Drop)]
+#[derive(Clone, Copy)]
 pub enum Call {
     Hear(Event),
     Start(u32),
@@ -25,7 +26,7 @@ pub enum Call {
 }
 
 // What a call leaves and answers: the refusal's number, and the byte, the read count or 1 for yes.
-#[derive(Drop)]
+#[derive(Clone, Copy)]
 pub struct Called {
     pub device: Device,
     pub refusal: u8,
@@ -33,7 +34,7 @@ pub struct Called {
 }
 
 // Numbers one after the other, each made of the one before: times factor, plus more, modulo last + 1.
-#[derive(Drop)]
+#[derive(Clone, Copy)]
 pub struct Numbers {
     pub factor: u32,
     pub more: u32,

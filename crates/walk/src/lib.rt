@@ -1,3 +1,4 @@
+#![tactic(auto)]
 // The walk of a frame over its descriptors: which strip is on screen, and which of its lines.
 ghost use Rattle.std.specs.Prelude.{◌≡◌, false, length};
 ghost use Rattle.limits.specs.Limits.{ram_length, ram_pairs};
@@ -7,7 +8,7 @@ ghost use Rattle.walk.specs.declared.Strip.TheVariants.{Spacing};
 use raster::ScanLine;
 
 // The strip on screen. One with no line left gives way at the next line: to the next strip, or to the plain rest of the frame.
-#[derive(Drop)]
+#[derive(Clone, Copy)]
 pub enum Strip {
     Spacing {
         // lines still to come
@@ -27,7 +28,7 @@ pub enum Strip {
     },
 }
 
-#[derive(Drop)]
+#[derive(Clone, Copy)]
 pub struct Walk {
     // the address of the next descriptor
     pub descriptor: u16,
@@ -38,7 +39,7 @@ pub struct Walk {
 }
 
 // The walk at the next line, and how many cells that read.
-#[derive(Drop)]
+#[derive(Clone, Copy)]
 pub struct Walked {
     pub walk: Walk,
     pub cells: u16,
@@ -190,7 +191,7 @@ impl Strip {
     }
 
     // How many lines the strip has left.
-    pub fn lines_left_lem(self) -> u16
+    pub fn lines_left(self) -> u16
         ensures { result ≡ lines_left self }
     {
         match self {

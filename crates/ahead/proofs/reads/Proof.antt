@@ -19,7 +19,7 @@ look-strip-requires : tie.Need-look-strip-requires
 look-strip-requires c κs =
     let q = c.before.before.before.seek in
     let s = c.before.before.before.before.before.before.before in
-    (s.requires.0, (q.ensures.2, ((none_kept, far-all s.args.ram.now q.result q.ensures.2), omega (arith, c.before.least.ensures, c.before.before.lines_left_lem.ensures))))
+    (s.requires.0, (q.ensures.2, ((none_kept, far-all s.args.ram.now q.result q.ensures.2), omega (arith, c.before.least.ensures, c.before.before.lines_left.ensures))))
 
 returns-2 : tie.Need-returns-2
 returns-2 c =
@@ -28,7 +28,7 @@ returns-2 c =
     let i = f.before.before.before.before.before in
     let a = i.before.before.before.args in
     let o = sym i.before.in-plain-default.ensures ∙ i.if1.false in
-    let e = f.before.before.least.ensures ∙ ap (λ (x : ℕ). min x a.left) f.before.before.before.lines_left_lem.ensures in
+    let e = f.before.before.least.ensures ∙ ap (λ (x : ℕ). min x a.left) f.before.before.before.lines_left.ensures in
     rw (sym q.ensures.0, sym q.ensures.1) (sym (found_first a.ram.now a.left a.walk q.result _ o e f.look-strip.ensures c.if2.true))
 
 returns-3 : tie.Need-returns-3
@@ -38,7 +38,7 @@ returns-3 c =
     let i = f.before.before.before.before.before in
     let a = i.before.before.before.args in
     let o = sym i.before.in-plain-default.ensures ∙ i.if1.false in
-    let e = f.before.before.least.ensures ∙ ap (λ (x : ℕ). min x a.left) f.before.before.before.lines_left_lem.ensures in
+    let e = f.before.before.least.ensures ∙ ap (λ (x : ℕ). min x a.left) f.before.before.before.lines_left.ensures in
     rw (sym q.ensures.0, sym q.ensures.1)
     (sym (found_later a.ram.now a.left a.walk q.result _ o e f.look-strip.ensures c.before.look-lines.ensures c.before.before.before.if2.false c.if3.true))
 
@@ -50,7 +50,7 @@ returns-4 c =
     let i = f.before.before.before.before.before in
     let a = i.before.before.before.args in
     let o = sym i.before.in-plain-default.ensures ∙ i.if1.false in
-    let e = f.before.before.least.ensures ∙ ap (λ (x : ℕ). min x a.left) f.before.before.before.lines_left_lem.ensures in
+    let e = f.before.before.least.ensures ∙ ap (λ (x : ℕ). min x a.left) f.before.before.before.lines_left.ensures in
     c.any-row.ensures
     ∙ rw (sym q.ensures.0, sym q.ensures.1)
     (found_row a.ram.now a.left a.walk q.result _ o e f.look-strip.ensures c.before.before.before.look-lines.ensures at-if.if2.false c.before.before.if3.false)

@@ -1,10 +1,10 @@
--- `Strip::lines_left_lem`: each arm is a clause of `lines_left`.
+-- `Strip::lines_left`: each arm is a clause of `lines_left`.
 -- Assumes nothing.
 use mathlib.Core.Path.{sym, ap, ◌∙◌}
 use Rattle.walk.specs.Walk.{lines_left}
 use borrow.Author.Rules.{rules}
-use Rattle.walk.proofs.Strip.lines_left_lem.Statement.{statement}
-use Rattle.walk.proofs.Strip.lines_left_lem.Tie as tie
+use Rattle.walk.proofs.Strip.lines_left.Statement.{statement}
+use Rattle.walk.proofs.Strip.lines_left.Tie as tie
 
 returns : tie.Need-returns
 unfolding lines_left
