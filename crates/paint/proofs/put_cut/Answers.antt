@@ -1,7 +1,6 @@
 -- `put_cut`: all twelve columns, and the part of them that fits.
 use mathlib.Core.Path.{ap, ◌∙◌}
 use lib.ListN.{take, length}
-use borrow.Author.Rules.{rules}
 use Rattle.paint.proofs.put_cut.Goals as goal
 
 pub returns : goal.returns
