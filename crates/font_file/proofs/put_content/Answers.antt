@@ -3,7 +3,6 @@ use Prim.Native.Nat.{ℕ, ◌+◌, ◌-◌, ◌/◌, ◌%◌, ◌<◌}
 use mathlib.Core.Path.{◌≡◌, ap, ◌∙◌}
 use mathlib.Core.List.{List, [], ◌∷◌, ◌++◌}
 use native.Mathlib.Omega.{arith}
-use borrow.Author.Rules.{rules}
 use lib.ListN.{length, take, drop, replicate, length-take, length-drop, length-replicate}
 use lib.Seq.{sets}
 use Rattle.facts.proofs.Parts.{put-part, sets-append}
@@ -15,7 +14,6 @@ abbrev heading : ℕ → List ℕ → List ℕ
 heading number font = number ∷ 0 ∷ length font % 256 ∷ length font / 256 ∷ []
 
 -- one behind the other, they are the content
-
 content-put : (block font : List ℕ) (number : ℕ) → number < 256 → length font ≡ used_length number
     → sets (sets (sets block 0 (heading number font)) heading_length font) (heading_length + length font) (replicate (checked_length - (heading_length + length font)) 0)
     ≡ sets block 0 (content_of number font)
@@ -48,7 +46,7 @@ pub returns : goal.returns
 returns c =
     let block = c.args.block.now in
     let font = c.args.font.now in
-    let filled = c.put-2.new.0 in
+    let filled = c.put-2.new.out in
     let at : ℕ = heading_length + length font in
     let k : ℕ = checked_length - at in
     let most = used_most c.args.number in

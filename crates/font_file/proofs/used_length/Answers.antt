@@ -1,6 +1,5 @@
 -- `used_length`: by the number.
 use borrow.Author.Tests.{eq-eqb, ne_eqb}
-use borrow.Author.Rules.{rules}
 use Rattle.font_file.proofs.used_length.Goals as goal
 
 pub returns-then-number-eq-LAST_BLOCK-clause-value : goal.returns-then-number-eq-LAST_BLOCK-clause-value
