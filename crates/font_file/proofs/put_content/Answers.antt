@@ -10,6 +10,7 @@ use Rattle.font_file.specs.FontFile.{block_length, checked_length, heading_lengt
 use Rattle.font_file.proofs.Blocks.{used_most}
 use Rattle.font_file.proofs.put_content.Goals as goal
 
+-- number and used length, as the code has them
 abbrev heading : ℕ → List ℕ → List ℕ
 heading number font = number ∷ 0 ∷ length font % 256 ∷ length font / 256 ∷ []
 
