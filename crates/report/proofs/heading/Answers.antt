@@ -3,7 +3,6 @@ use native.Mathlib.Omega.{arith}
 use Rattle.buffers.specs.Buffers.{bytes_of}
 use Rattle.report.specs.Report.{heading_text}
 use Rattle.report.proofs.Texts.{heading_long, upto_none, upto_part, upto_whole, too_short}
-use borrow.Author.Rules.{rules}
 use Rattle.report.proofs.heading.Goals as goal
 
 pub returns-then-out-places : goal.returns-then-out-places

@@ -3,7 +3,6 @@ use native.Mathlib.Omega.{arith}
 use Rattle.buffers.specs.Buffers.{bytes_of}
 use Rattle.report.specs.Report.{refusal_text}
 use Rattle.report.proofs.Texts.{refusal-long, upto_none, upto_part, upto_whole, too_short}
-use borrow.Author.Rules.{rules}
 use Rattle.report.proofs.refusal_text.Goals as goal
 
 pub returns-then-out-places : goal.returns-then-out-places
