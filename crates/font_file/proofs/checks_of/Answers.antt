@@ -30,10 +30,6 @@ loop-at-init c =
     let b = c.type_inv.block in
     (search rules, omega arith, omega arith, (b 0).fits, (b 1).fits, (b 2).fits, (b 3).fits)
 
-pub overflow_mul-at : goal.overflow_mul-at
-overflow_mul-at c =
-    omega (arith, mul-le-mul {n₁ = c.loop-at.at + 1} {m₁ = c.column_at-column.result.sum} {n₂ = 76} {m₂ = 65535} (omega arith) (omega arith))
-
 pub wrapped-weighted-requires : goal.wrapped-weighted-requires
 wrapped-weighted-requires c =
     omega (arith, mul-le-mul {n₁ = c.loop-at.at + 1} {m₁ = c.column_at-column.result.sum} {n₂ = 76} {m₂ = 65535} (omega arith) (omega arith))

@@ -1,7 +1,6 @@
 -- `column_at`: what is summed up is the column from the row on.
 use Prim.Native.Nat.{◌+◌, ◌-◌, ◌*◌}
-use mathlib.Core.Path.{◌≡◌, refl}
-use native.Mathlib.Nat.{add-zero}
+use mathlib.Core.Path.{refl}
 use native.Mathlib.Omega.{arith}
 use borrow.Author.Rules.{rules}
 use Rattle.font_file.specs.Columns.{column_count, column_sum, column_weighted}
@@ -18,11 +17,3 @@ loop-row-preserved c =
     let a = c.args in
     let up = row_up a.first l.row a.block.now (omega arith) (omega arith) in
     (search rules, omega arith, omega arith, omega (arith, c.type_inv.block (a.first + column_count * (l.row - 1))), search rules)
-
-pub returns : goal.returns
-returns c =
-    let l = c.loop-row in
-    let top : l.row ≡ 0 = omega arith in
-    let s = rw (top, add-zero) at l.invariant.1 in
-    let w = rw (top, add-zero) at l.invariant.2 in
-    λ i. record { sum = s i; weighted = w i }

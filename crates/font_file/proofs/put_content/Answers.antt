@@ -28,21 +28,6 @@ content-put block font number f l =
     (sets-append (sets block 0 (heading number font)) font (replicate (payload_length - used) 0) heading_length
     ∙ sets-append block (heading number font) (font ++ replicate (payload_length - used) 0) 0)
 
-pub overflow_cast-heading-2 : goal.overflow_cast-heading-2
-overflow_cast-heading-2 c = omega (arith, used_most c.args.number)
-
-pub put-requires-2 : goal.put-requires-2
-put-requires-2 c =
-    omega (arith, used_most c.args.number)
-
-pub slice_bounds-fill-count : goal.slice_bounds-fill-count
-slice_bounds-fill-count c =
-    omega (arith, used_most c.args.number)
-
-pub slice_bounds-fill-start : goal.slice_bounds-fill-start
-slice_bounds-fill-start c =
-    omega (arith, used_most c.args.number)
-
 pub returns : goal.returns
 returns c =
     let block = c.args.block.now in

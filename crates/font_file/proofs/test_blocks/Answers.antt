@@ -4,8 +4,6 @@ use mathlib.Core.Path.{◌≡◌, sym, ◌∙◌}
 use mathlib.Core.List.{List}
 use native.Mathlib.Nat.{add-sub_cancel_left}
 use native.Mathlib.Omega.{arith}
-use borrow.Author.Count.{below_more}
-use borrow.Author.Rules.{rules}
 use lib.ListN.{take, drop}
 use Rattle.font_file.specs.declared.FileAnswer.{FileAnswer}
 use Rattle.font_file.specs.FontFile.{block_count, block_length, block_test}
@@ -18,20 +16,12 @@ found : (file : List ℕ) (k : ℕ) (a b : FileAnswer) → a ≡ block_test k (t
     → block_test k (block_at k file) ≡ b
 found file k a b e q = sym (rw (add-sub_cancel_left (block_length * k) block_length) at e) ∙ q
 
-pub loop-place-init : goal.loop-place-init
-loop-place-init c = (search rules, λ q h. absurd (omega arith))
-
 pub returns-in-Refused : goal.returns-in-Refused
 returns-in-Refused c =
     let l = c.loop-place in
     sym
     (first_bad _ block_count 0 l.place l.place _ (omega arith) (omega arith) l.invariant.1
     (found _ l.place _ _ c.test_block-answer.ensures c.in-Refused.is))
-
-pub loop-place-preserved : goal.loop-place-preserved
-loop-place-preserved c =
-    let l = c.loop-place in
-    (search rules, below_more _ l.place l.invariant.1 (found _ l.place _ _ c.test_block-answer.ensures c.in-Done.is))
 
 pub returns : goal.returns
 returns c = sym (all_good _ block_count 0 (λ q h. c.loop-place.invariant.1 q (omega arith)))
