@@ -3,7 +3,6 @@ use mathlib.Core.Path.{sym, ap, ◌∙◌}
 use Rattle.device.specs.Device.{DrawOutcome, draw_outcome}
 use Rattle.report.specs.Report.{text_of}
 use Rattle.report.proofs.Texts.{text-refused, text-drawn}
-use borrow.Author.Rules.{rules}
 use Rattle.report.proofs.draw_text.Goals as goal
 
 pub returns-then-refusal-ne0-clause-text : goal.returns-then-refusal-ne0-clause-text

@@ -9,7 +9,6 @@ use Rattle.limits.specs.Limits.{line_max}
 use Rattle.buffers.proofs.Laws.{filled_front}
 use Rattle.device.specs.Device.{draw_line}
 use Rattle.report.specs.Report.{text_of}
-use borrow.Author.Rules.{rules}
 use Rattle.report.proofs.next_text.Goals as goal
 
 pub slice_bounds-draw_text-end : goal.slice_bounds-draw_text-end

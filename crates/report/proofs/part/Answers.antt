@@ -1,6 +1,5 @@
 -- `part`: the bounds cut to what there is leave the same bytes.
 use Rattle.report.proofs.Texts.{part-is}
-use borrow.Author.Rules.{rules}
 use Rattle.report.proofs.part.Goals as goal
 
 pub returns : goal.returns

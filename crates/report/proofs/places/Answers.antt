@@ -1,5 +1,4 @@
 -- `places`: the tests, in their order, pick the case of `places_of`.
-use borrow.Author.Rules.{rules}
 use borrow.Author.Tests.{lt-ltb, le-ltb}
 use Rattle.report.proofs.places.Goals as goal
 
