@@ -6,8 +6,8 @@ use Rattle.walk.proofs.Strip.is_over.Goals as goal
 
 pub returns-in-Spacing : goal.returns-in-Spacing
 unfolding over
-returns-in-Spacing c = sym (ap over c.self-1.is)
+returns-in-Spacing c = sym (ap over c.in-Spacing.is)
 
 pub returns-in-Characters : goal.returns-in-Characters
 unfolding over
-returns-in-Characters c = c.is_last.ensures ∙ sym (ap over c.self-in-Characters-1.is)
+returns-in-Characters c = c.is_last.ensures ∙ sym (ap over c.in-Characters.is)

@@ -6,8 +6,8 @@ use Rattle.walk.proofs.Strip.lines_left.Goals as goal
 
 pub returns-in-Spacing : goal.returns-in-Spacing
 unfolding lines_left
-returns-in-Spacing c = sym (ap lines_left c.self-1.is)
+returns-in-Spacing c = sym (ap lines_left c.in-Spacing.is)
 
 pub returns-in-Characters : goal.returns-in-Characters
 unfolding lines_left
-returns-in-Characters c = c.lines_after.ensures ∙ sym (ap lines_left c.self-in-Characters-1.is)
+returns-in-Characters c = c.lines_after.ensures ∙ sym (ap lines_left c.in-Characters.is)
