@@ -11,10 +11,10 @@ use Rattle.bus.specs.Bus.{bad_kind}
 use Rattle.capture.specs.declared.Feed.{Feed}
 use Rattle.buffers.specs.Buffers.{Bytes}
 use Rattle.capture.specs.Places.{from}
-use Rattle.capture.proofs.Laws.{from_bad, from_end, from_first, held_one, rest-whole}
+use Rattle.capture.proofs.Laws.{from_bad, from_end, held_one}
 use Rattle.interface.specs.Interface.{lent, bus_calls}
 use Rattle.feed_bytes.specs.Turns.{Place}
-use Rattle.feed_bytes.proofs.Feeds.{from-heard}
+use Rattle.feed_bytes.proofs.Feeds.{from-heard, all_taken}
 use Rattle.feed_bytes.proofs.Runs.{next_place, goes_on, both_run, two_more}
 use Rattle.feed_bytes.proofs.take_events.Goals as goal
 
@@ -39,10 +39,8 @@ pub returns-then-kind-gt-STOP : goal.returns-then-kind-gt-STOP
 returns-then-kind-gt-STOP c =
     let l = c.loop-i in
     let a = c.args in
-    sym (from_bad bus_calls _ a.chunk.now _ l.i l.out _ c.loop-i-test.true (sym (ap bad_kind c.kind_at-kind.ensures) ∙ lt-ltb 3 _ c.if-kind-gt-STOP.true))
-    ∙ l.invariant.9
-    ∙ from_first bus_calls _ a.feed a.chunk.now _ _ _ c.held_kind-held.ensures c.held_bytes-first.ensures c.requires.feed_value
-    ∙ rest-whole bus_calls _ a.feed a.chunk.now a.out.now c.requires.chunk_in_bounds
+    all_taken (lent a.device.now a.ram.now) a.feed a.chunk.now a.out.now _ _ c.held_kind-held.ensures c.held_bytes-first.ensures c.requires.feed_value c.requires.chunk_in_bounds
+    (sym (from_bad bus_calls _ a.chunk.now _ l.i l.out _ c.loop-i-test.true (sym (ap bad_kind c.kind_at-kind.ensures) ∙ lt-ltb 3 _ c.if-kind-gt-STOP.true)) ∙ l.invariant.9)
 
 pub write_run-i-requires-clause-place : goal.write_run-i-requires-clause-place
 write_run-i-requires-clause-place c =
@@ -95,8 +93,7 @@ returns c =
     let a = c.args in
     let kind : ℕ = c.held_kind-held.result in
     let n : ℕ = l.i - (1 - c.held_bytes-first.result) in
-    ap (λ (f : Feed). record { state = lent l.device l.ram; feed = f; out = l.out; written = n }) c.feed_at.ensures
+    all_taken (lent a.device.now a.ram.now) a.feed a.chunk.now a.out.now _ _ c.held_kind-held.ensures c.held_bytes-first.ensures c.requires.feed_value c.requires.chunk_in_bounds
+    (ap (λ (f : Feed). record { state = lent l.device l.ram; feed = f; out = l.out; written = n }) c.feed_at.ensures
     ∙ sym (from_end bus_calls _ a.chunk.now kind l.i l.out n c.loop-i-test.false)
-    ∙ l.invariant.9
-    ∙ from_first bus_calls _ a.feed a.chunk.now _ _ _ c.held_kind-held.ensures c.held_bytes-first.ensures c.requires.feed_value
-    ∙ rest-whole bus_calls _ a.feed a.chunk.now a.out.now c.requires.chunk_in_bounds
+    ∙ l.invariant.9)
