@@ -12,12 +12,6 @@ returns-then-refusal-ne0-clause-text c =
     text-refused (draw_outcome d.result _) out (λ z. c.if-refusal-ne0.true (c.refusal.ensures ∙ z))
     ∙ ap (λ (o : DrawOutcome). text_of o out) d.ensures
 
-pub returns-then-refusal-ne0-clause-pixels : goal.returns-then-refusal-ne0-clause-pixels
-returns-then-refusal-ne0-clause-pixels c =
-    let d = c.draw_line-drawn in
-    let out = c.args.out.now in
-    ap (λ (o : DrawOutcome). o.line) d.ensures
-
 pub returns-clause-text : goal.returns-clause-text
 returns-clause-text c =
     let d = c.draw_line-drawn in
@@ -25,9 +19,3 @@ returns-clause-text c =
     text-drawn (draw_outcome d.result _) out _ (sym c.refusal.ensures ∙ c.if-refusal-ne0.false)
     (rw (← c.cells.ensures) c.line_text.ensures)
     ∙ ap (λ (o : DrawOutcome). text_of o out) d.ensures
-
-pub returns-clause-pixels : goal.returns-clause-pixels
-returns-clause-pixels c =
-    let d = c.draw_line-drawn in
-    let out = c.args.out.now in
-    ap (λ (o : DrawOutcome). o.line) d.ensures

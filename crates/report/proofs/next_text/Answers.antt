@@ -11,9 +11,6 @@ use Rattle.device.specs.Device.{draw_line}
 use Rattle.report.specs.Report.{text_of}
 use Rattle.report.proofs.next_text.Goals as goal
 
-pub slice_bounds-draw_text-end : goal.slice_bounds-draw_text-end
-slice_bounds-draw_text-end c = sym (length-take-le _ _ (omega arith))
-
 pub returns : goal.returns
 returns c =
     let a = c.args in
