@@ -4,7 +4,6 @@ use native.Mathlib.Omega.{arith}
 use Rattle.registers.proofs.Laws.{ld_bound_lem, fbk_bound}
 use Rattle.walk.specs.Walk.{walked}
 use Rattle.line.proofs.Strips.{walked_line, line-drawn, line-cells}
-use borrow.Author.Rules.{rules}
 use Rattle.line.proofs.draw.Goals as goal
 
 pub draw_strip-read-requires-clause-lent : goal.draw_strip-read-requires-clause-lent

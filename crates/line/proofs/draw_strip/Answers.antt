@@ -4,7 +4,6 @@ use mathlib.Core.Path.{refl}
 use native.Mathlib.Omega.{arith}
 use borrow.Author.Tests.{not-true, not-false}
 use Rattle.line.proofs.Strips.{on_strip, on_line, slice_on_lem, strip_off, strip-plain, strip_characters, has_row}
-use borrow.Author.Rules.{rules}
 use Rattle.line.proofs.draw_strip.Goals as goal
 
 pub returns-then-not-settings : goal.returns-then-not-settings
