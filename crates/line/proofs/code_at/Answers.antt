@@ -19,5 +19,5 @@ pub returns : goal.returns
 returns c =
     let w = c.lookup-word in
     let a = c.args in
-    code-shown a.ram.now a.font.now a.at a.pen w.result w.ensures (λ i. (c.shared_slice_known-5-1.given i).fits)
-    (λ i. (c.shared_slice_known-2-1.given i).fits) c.if-word.false _ _ c.character.ensures
+    code-shown a.ram.now a.font.now a.at a.pen w.result w.ensures (λ i. (c.type_inv.ram i).fits) (λ i. (c.type_inv.font i).fits)
+    c.if-word.false _ _ c.character.ensures

@@ -31,7 +31,7 @@ returns-then-not-shows_codes c =
     let s = c.settings-settings in
     rw s.ensures at (not-false s.result.osd c.if-not-settings.false) in
     let line : let a = c.args in c.falls_in-at.result ≡ falls_in a.y a.ram.now (settings_of a.registers).ch (page_of a.registers * 64) a.y = rw (c.page.ensures, c.settings-settings.ensures) at c.falls_in-at.ensures in
-    let none = rw line at (sym c.shows_codes.ensures ∙ not-true _ c.if-not-shows_codes.true) in
+    let none = rw line at (sym c.shows_codes.ensures ∙ c.if-not-shows_codes.true) in
     rw (c.settings-settings.ensures, lit, none)
 
 pub returns-then-x-first : goal.returns-then-x-first
@@ -41,21 +41,23 @@ returns-then-x-first c =
     let s = c.settings-settings in
     rw s.ensures at (not-false s.result.osd c.if-not-settings.false) in
     let line : let a = c.args in c.falls_in-at.result ≡ falls_in a.y a.ram.now (settings_of a.registers).ch (page_of a.registers * 64) a.y = rw (c.page.ensures, c.settings-settings.ensures) at c.falls_in-at.ensures in
-    let codes : shows_codes c.falls_in-at.result.descriptor.high ≡ true = sym c.shows_codes.ensures ∙ not-false _ c.if-not-shows_codes.false in
+    let codes : shows_codes c.falls_in-at.result.descriptor.high ≡ true = sym c.shows_codes.ensures ∙ c.if-not-shows_codes.false in
     let s = c.settings-settings.ensures in
     rw (s, lit, rw line at codes, lt-ltb _ _ (rw (c.first_pixel-first.ensures, s) at c.if-x-first.true))
 
 pub slice_of-requires : goal.slice_of-requires
 slice_of-requires c =
-    let codes : shows_codes c.falls_in-at.result.descriptor.high ≡ true = sym c.shows_codes.ensures ∙ not-false _ c.if-not-shows_codes.false in
+    let codes : shows_codes c.falls_in-at.result.descriptor.high ≡ true = sym c.shows_codes.ensures ∙ c.if-not-shows_codes.false in
     let a = c.args in
     rw c.falls_in-at.ensures
     (falls_shown a.ram.now c.settings-settings.result.ch (c.page.result * 64) a.y (rw c.falls_in-at.ensures at codes))
 
 pub row_pixel-requires-clause-on_screen : goal.row_pixel-requires-clause-on_screen
 row_pixel-requires-clause-on_screen c =
-    let s = c.slice_of.ensures in
-    rw s (slice_range _ _ _ (slice_of-requires c tt))
+    let codes : shows_codes c.falls_in-at.result.descriptor.high ≡ true = sym c.shows_codes.ensures ∙ c.if-not-shows_codes.false in
+    let a = c.args in
+    let shown = falls_shown a.ram.now c.settings-settings.result.ch (c.page.result * 64) a.y (rw c.falls_in-at.ensures at codes) in
+    rw (c.slice_of.ensures, c.falls_in-at.ensures) (slice_range _ _ _ shown)
 
 pub returns : goal.returns
 unfolding pixel_at
@@ -64,7 +66,7 @@ returns c =
     let s = c.settings-settings in
     rw s.ensures at (not-false s.result.osd c.if-not-settings.false) in
     let line : let a = c.args in c.falls_in-at.result ≡ falls_in a.y a.ram.now (settings_of a.registers).ch (page_of a.registers * 64) a.y = rw (c.page.ensures, c.settings-settings.ensures) at c.falls_in-at.ensures in
-    let codes : shows_codes c.falls_in-at.result.descriptor.high ≡ true = sym c.shows_codes.ensures ∙ not-false _ c.if-not-shows_codes.false in
+    let codes : shows_codes c.falls_in-at.result.descriptor.high ≡ true = sym c.shows_codes.ensures ∙ c.if-not-shows_codes.false in
     let s = c.settings-settings.ensures in
     let first = c.first_pixel-first.ensures in
     rw (lit, rw line at codes, le-ltb _ _ (rw (first, s) at c.if-x-first.false))

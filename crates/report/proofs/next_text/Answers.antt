@@ -9,11 +9,7 @@ use Rattle.limits.specs.Limits.{line_max}
 use Rattle.buffers.proofs.Laws.{filled_front}
 use Rattle.device.specs.Device.{draw_line}
 use Rattle.report.specs.Report.{text_of}
-use borrow.Author.Rules.{rules}
 use Rattle.report.proofs.next_text.Goals as goal
-
-pub slice_bounds-draw_text-end : goal.slice_bounds-draw_text-end
-slice_bounds-draw_text-end c = sym (length-take-le _ _ (omega arith))
 
 pub returns : goal.returns
 returns c =
