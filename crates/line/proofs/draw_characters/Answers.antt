@@ -1,10 +1,10 @@
 -- `draw_characters`: the margin, then the row.
-<<<<<<< HEAD
 use Rattle.line.proofs.Strips.{characters_drawn, characters_none}
-=======
-use Rattle.line.proofs.Strips.{characters_none}
->>>>>>> c1cf6a1fcbc3ca7efa8b18416be514281faacb2c
 use Rattle.line.proofs.draw_characters.Goals as goal
+
+pub returns-then-first-w : goal.returns-then-first-w
+returns-then-first-w c =
+    characters_drawn _ _ _ _ _ _ _ _ _ _ c.if-first-w.true c.fill_line.ensures c.draw_row.ensures
 
 pub returns : goal.returns
 returns c = characters_none _ _ _ _ _ _ _ _ c.if-first-w.false c.fill_line-2.ensures

@@ -1,11 +1,6 @@
 -- `draw_row`: each turn draws one more character (`RowUpTo`, `row-drawn`); the row ends at an end of line, at a cut character, or where the room is full.
 use native.Mathlib.Omega.{arith}
-<<<<<<< HEAD
-use lib.ListN.{length-take, length-drop}
-use Rattle.line.proofs.Turns.{row_holds, code-few, row_bound, row-full, Turn, row-drawn, row-ended, row_cut}
-=======
 use Rattle.line.proofs.Turns.{row_holds, code-few, row_bound, row-full, row-drawn, row-ended, row_cut}
->>>>>>> c1cf6a1fcbc3ca7efa8b18416be514281faacb2c
 use Rattle.line.proofs.draw_row.Goals as goal
 
 pub loop-x-init : goal.loop-x-init
