@@ -25,11 +25,6 @@ pub written-more : (all out : List ℕ) (i v d : ℕ) → i < length out → i <
 written-more all out i v d h k e p =
     front-more all out (drop (i + 1) all) i (i + 1) v (omega arith) h (rw (p, add-one, ← drop-cons all i d k) e)
 
--- no room is left
-pub written-part : (all out : List ℕ) (i : ℕ) → i ≡ length out → take i out ++ drop i all ≡ all → out ≡ take (length out) all
-written-part all out i h e =
-    sym (take_at out (drop i all) (length out) refl) ∙ ap (take (length out)) (ap (λ (l : List ℕ). l ++ drop i all) (sym (take_all i out (omega arith))) ∙ e)
-
 -- and nothing more is to be written
 pub written-whole : (all out : List ℕ) (i : ℕ) → i ≡ length out → i ≡ length all → take i out ++ drop i all ≡ all → out ≡ all
 written-whole all out i h k e = front-whole all out i (omega arith) (rw (drop_of_length-le all {i = i} (omega arith)) at e)

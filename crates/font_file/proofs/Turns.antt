@@ -39,10 +39,6 @@ module _ (m n : ℕ) (piece : ℕ → List ℕ → List ℕ) (f : ℕ → ℕ �
 -- ---- what block k has of the font
 
 module _ (k used : ℕ) (h : k < block_count) (u : used ≡ used_length k) where
-  -- it lies in the font
-  pub used_fits : payload_length * k + used ≤ font_length
-  used_fits = omega (arith, used_left k (omega arith))
-
   pub font-part : (font : List ℕ) → length font ≡ font_length → let first : List ℕ = take payload_length (drop (payload_length * k) font) in
       (take (payload_length * k + used - payload_length * k) (drop (payload_length * k) font) ≡ first) × (length first ≡ used_length k)
   font-part font l =

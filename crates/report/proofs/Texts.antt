@@ -18,26 +18,6 @@ use Rattle.report.specs.Report.{places_of, digits, decimal, Put, refusal_text, h
 
 -- ---- parts of the input
 
--- a part cut to what there is
-pub part-is : (l : List ℕ) (start end s e : ℕ) → start ≤ end → e ≡ min end (length l) → s ≡ min start e
-    → take (e - s) (drop s l) ≡ take (end - start) (drop start l)
-part-is l start end s e h p q = by (dec_le start e) (dec_le end (length l))
-  where
-    by : Dec (start ≤ e) → Dec (end ≤ length l) → take (e - s) (drop s l) ≡ take (end - start) (drop start l)
-    by (yes k) (yes m) =
-        let f : e ≡ end = omega arith in
-        let g : s ≡ start = omega arith in
-        ap₂ (λ (x y : ℕ). take (x - y) (drop y l)) f g
-    by (yes k) (no m) =
-        let g : s ≡ start = omega arith in
-        ap (λ (y : ℕ). take (e - y) (drop y l)) g
-        ∙ take_all (e - start) (drop start l) (omega (arith, length-drop start l))
-        ∙ sym (take_all (end - start) (drop start l) (omega (arith, length-drop start l)))
-    by (no k) m =
-        let f : e - s ≡ 0 = omega arith in
-        ap (λ (x : ℕ). take x (drop s l)) f
-        ∙ sym (ap (take (end - start)) (drop_of_length-le l {i = start} (omega arith)) ∙ take-nil (end - start))
-
 -- ---- digits
 
 digits-length : (k n : ℕ) → length (digits k n) ≡ k

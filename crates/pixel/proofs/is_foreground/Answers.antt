@@ -10,6 +10,6 @@ returns-then-low-eq1 c = rw (c.if-hidden.true, eq-eqb _ _ c.if-low-eq1.true)
 pub returns : goal.returns
 returns c =
     elim c.if-hidden.branch [
-      then-hidden+else-low-eq1 w ↦ rw (w.if-hidden.true, ne_eqb _ _ w.if-low-eq1.false)
-    | else-hidden w ↦ rw w.if-hidden.false
+      | then-hidden+else-low-eq1 w ↦ rw (w.if-hidden.true, ne_eqb _ _ w.if-low-eq1.false)
+      | else-hidden w ↦ rw w.if-hidden.false
     ]
