@@ -25,7 +25,7 @@ pub extern "C" fn osd_device_len() -> u32
 
 #[unsafe(no_mangle)]
 pub extern "C" fn osd_fresh(device: &mut [u8]) -> u32
-    ensures { record { device = device.exit.now; answer = result } ≡ fresh_on device.entry.now }
+    ensures { record { device = device.new; answer = result } ≡ fresh_on device.old }
 {
     if device.len() != layout::DEVICE_LENGTH {
         return NOT_TAKEN;
@@ -37,7 +37,7 @@ pub extern "C" fn osd_fresh(device: &mut [u8]) -> u32
 // A reset leaves a fresh device. RAM is not touched: none is lent.
 #[unsafe(no_mangle)]
 pub extern "C" fn osd_reset(device: &mut [u8]) -> u32
-    ensures { record { device = device.exit.now; answer = result } ≡ fresh_on device.entry.now }
+    ensures { record { device = device.new; answer = result } ≡ fresh_on device.old }
 {
     osd_fresh(device)
 }
@@ -46,7 +46,7 @@ pub extern "C" fn osd_reset(device: &mut [u8]) -> u32
 // looked for first.
 #[unsafe(no_mangle)]
 pub extern "C" fn osd_bus(device: &mut [u8], ram: &mut [u8], kind: u8, byte: u8) -> u32
-    ensures { record { device = device.exit.now; ram = ram.new; answer = result } ≡ bus_on device.entry.now ram.old kind byte }
+    ensures { record { device = device.new; ram = ram.new; answer = result } ≡ bus_on device.old ram.old kind byte }
 {
     if device.len() != layout::DEVICE_LENGTH {
         return NOT_TAKEN;
@@ -73,7 +73,7 @@ pub extern "C" fn osd_bus(device: &mut [u8], ram: &mut [u8], kind: u8, byte: u8)
 
 #[unsafe(no_mangle)]
 pub extern "C" fn osd_frame_start(device: &mut [u8], lines: u32) -> u32
-    ensures { record { device = device.exit.now; answer = result } ≡ start_on device.entry.now lines }
+    ensures { record { device = device.new; answer = result } ≡ start_on device.old lines }
 {
     if device.len() != layout::DEVICE_LENGTH {
         return NOT_TAKEN;
@@ -98,7 +98,7 @@ pub extern "C" fn osd_draw<'a>(
     font: &'a [u8],
     line: &mut [u8],
 ) -> u32
-    ensures { record { device = device.exit.now; line = line.new; answer = result } ≡ draw_on device.entry.now ram.now font.now line.old }
+    ensures { record { device = device.new; line = line.new; answer = result } ≡ draw_on device.old ram.now font.now line.old }
 {
     if device.len() != layout::DEVICE_LENGTH {
         return NOT_TAKEN;
@@ -158,7 +158,7 @@ pub extern "C" fn osd_feed_len() -> u32
 // Makes a feed anew.
 #[unsafe(no_mangle)]
 pub extern "C" fn osd_feed_fresh(feed: &mut [u8]) -> u32
-    ensures { record { feed = feed.exit.now; answer = result } ≡ feed_fresh_on feed.entry.now }
+    ensures { record { feed = feed.new; answer = result } ≡ feed_fresh_on feed.old }
 {
     if feed.len() != layout::FEED_LENGTH {
         return NOT_TAKEN;
@@ -175,7 +175,7 @@ pub extern "C" fn osd_feed(
     chunk: &[u8],
     out: &mut [u8],
 ) -> u32
-    ensures { record { device = device.exit.now; feed = feed.new; ram = ram.new; out = out.new; answer = result } ≡ feed_on device.entry.now feed.old ram.old chunk.now out.old }
+    ensures { record { device = device.new; feed = feed.new; ram = ram.new; out = out.new; answer = result } ≡ feed_on device.old feed.old ram.old chunk.now out.old }
 {
     if device.len() != layout::DEVICE_LENGTH {
         return NOT_TAKEN;
@@ -201,7 +201,7 @@ pub extern "C" fn osd_feed(
 
 #[unsafe(no_mangle)]
 pub extern "C" fn osd_font_write(font: &[u8], file: &mut [u8]) -> u32
-    ensures { record { file = file.exit.now; answer = result } ≡ font_write_on font.now file.entry.now }
+    ensures { record { file = file.new; answer = result } ≡ font_write_on font.now file.old }
 {
     let reply = font_file::write(font, file);
     interface::answer(reply.refusal(), reply.value() as u16)
@@ -209,7 +209,7 @@ pub extern "C" fn osd_font_write(font: &[u8], file: &mut [u8]) -> u32
 
 #[unsafe(no_mangle)]
 pub extern "C" fn osd_font_read(file: &[u8], font: &mut [u8]) -> u32
-    ensures { record { font = font.exit.now; answer = result } ≡ font_read_on file.now font.entry.now }
+    ensures { record { font = font.new; answer = result } ≡ font_read_on file.now font.old }
 {
     let reply = font_file::read(file, font);
     interface::answer(reply.refusal(), reply.value() as u16)

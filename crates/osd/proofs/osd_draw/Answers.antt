@@ -10,9 +10,9 @@ returns-then-device-ne-DEVICE_LENGTH c = draw-not _ _ _ _ c.if-device-ne-DEVICE_
 pub returns-in-Drawn : goal.returns-in-Drawn
 returns-in-Drawn c =
     draw-done _ _ _ _ _ _ c.draw_line-done.result c.if-device-ne-DEVICE_LENGTH.false c.device_in-before.ensures c.draw_line-done.ensures _ _
-    c.answer-1.is c.write_frame.ensures
+    c.in-Drawn.is c.write_frame.ensures
 
 pub returns-in-Refused : goal.returns-in-Refused
 returns-in-Refused c =
     draw-refused _ _ _ _ _ _ c.draw_line-done.result c.if-device-ne-DEVICE_LENGTH.false c.device_in-before.ensures c.draw_line-done.ensures _ _
-    c.answer-in-Refused-1.is c.refuse.ensures
+    c.in-Refused.is c.refuse.ensures

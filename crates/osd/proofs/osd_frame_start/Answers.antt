@@ -9,9 +9,9 @@ returns-then-device-ne-DEVICE_LENGTH c = start-not _ _ c.if-device-ne-DEVICE_LEN
 
 pub returns-in-Started : goal.returns-in-Started
 returns-in-Started c =
-    start-done _ _ _ c.start_frame-done.result c.if-device-ne-DEVICE_LENGTH.false c.device_in.ensures c.start_frame-done.ensures _ c.enum_told-1.is
+    start-done _ _ _ c.start_frame-done.result c.if-device-ne-DEVICE_LENGTH.false c.device_in.ensures c.start_frame-done.ensures _ c.in-Started.is
     c.write_start.ensures
 
 pub returns-in-Refused : goal.returns-in-Refused
 returns-in-Refused c =
-    start-refused _ _ _ c.start_frame-done.result c.if-device-ne-DEVICE_LENGTH.false c.device_in.ensures c.start_frame-done.ensures _ _ c.answer-1.is c.refuse.ensures
+    start-refused _ _ _ c.start_frame-done.result c.if-device-ne-DEVICE_LENGTH.false c.device_in.ensures c.start_frame-done.ensures _ _ c.in-Refused.is c.refuse.ensures
