@@ -11,7 +11,6 @@ use Rattle.raster.proofs.Rules.{slice_range}
 use Rattle.walk.specs.Walk.{shows_codes}
 use Rattle.pixel.specs.Pixel.{falls_in, pixel_at}
 use Rattle.pixel.proofs.Laws.{falls_shown}
-use borrow.Author.Rules.{rules}
 use Rattle.pixel.proofs.pixel_at.Goals as goal
 
 pub returns-then-not-settings : goal.returns-then-not-settings
