@@ -15,12 +15,9 @@ returns-then-once c =
 
 pub walk_span-requires-clause-y_lt_frame_lines : goal.walk_span-requires-clause-y_lt_frame_lines
 walk_span-requires-clause-y_lt_frame_lines c =
-    let p = c.requires in
-    let e = c.even_address-start.ensures in
-    let w = c.walk_span-once.ensures in
     let a = c.args in
-    let less : c.walk_span-once.result.left ≤ a.y = rw w (round_less a.ram.now a.ch _ _ a.y) in
-    omega (arith, less, p.y_lt_frame_lines)
+    let less : c.walk_span-once.result.left ≤ a.y = rw c.walk_span-once.ensures (round_less a.ram.now a.ch _ _ a.y) in
+    omega (arith, less, c.requires.y_lt_frame_lines)
 
 pub returns : goal.returns
 returns c =
