@@ -17,9 +17,9 @@ passed c =
     let a = c.args in
     let d = pair_here a.ram.now a.ch c.loop-at.at in
     elim c.if-is_spacing.branch [
-      then-is_spacing+else-left-lines w ↦ omega (arith, lines_spacing a.ch d (sym s ∙ w.if-is_spacing.true))
-    | else-is_spacing+then-zoom+else-left-height w ↦ omega (arith, h, lines_characters a.ch d true (sym s ∙ w.if-is_spacing.false) (sym w.zoom.ensures ∙ w.if-zoom.true))
-    | else-is_spacing+else-zoom+else-left-height-2 w ↦ omega (arith, h, lines_characters a.ch d false (sym s ∙ w.if-is_spacing.false) (sym w.zoom.ensures ∙ w.if-zoom.false))
+      | then-is_spacing+else-left-lines w ↦ omega (arith, lines_spacing a.ch d (sym s ∙ w.if-is_spacing.true))
+      | else-is_spacing+then-zoom+else-left-height w ↦ omega (arith, h, lines_characters a.ch d true (sym s ∙ w.if-is_spacing.false) (sym w.zoom.ensures ∙ w.if-zoom.true))
+      | else-is_spacing+else-zoom+else-left-height-2 w ↦ omega (arith, h, lines_characters a.ch d false (sym s ∙ w.if-is_spacing.false) (sym w.zoom.ensures ∙ w.if-zoom.false))
     ]
 
 pub returns-then-left-lines : goal.returns-then-left-lines
