@@ -16,11 +16,9 @@ returns-then-back-reached c =
 pub returns-then-shown : goal.returns-then-shown
 returns-then-shown c =
     let far : (Far c.args.ram.now c.args.sought c.if-back-near.reached) × (c.if-back-near.reached ≤ codes_to c.args.sought.cell c.args.address) =
-    let ram = c.args.ram.now in
     elim c.if-back-near.branch [
-      | then-back-near+else-back-reached w ↦ (subst (λ (m : ℕ). Far ram c.args.sought m) (sym w.reached-is) (far-starts ram c.args.sought _ w.starts-reached.ensures), omega arith)
-      | else-back-near w ↦ (subst (λ (m : ℕ). Far ram c.args.sought m) (sym w.reached-is) c.requires.kept.1, omega arith)
+      | then-back-near+else-back-reached w ↦ (subst (λ (m : ℕ). Far c.args.ram.now c.args.sought m) (sym w.reached-is) (far-starts c.args.ram.now c.args.sought _ w.starts-reached.ensures), omega arith)
+      | else-back-near w ↦ (subst (λ (m : ℕ). Far c.args.ram.now c.args.sought m) (sym w.reached-is) c.requires.kept.1, omega arith)
     ] in
-    let f = far in
     row_marked c.args.ram.now c.args.sought c.args.shown c.args.address c.args.marks.now _ c.requires.kept.0
-    f.0 f.1 _ c.if-shown.true c.mark.ensures
+    far.0 far.1 _ c.if-shown.true c.mark.ensures

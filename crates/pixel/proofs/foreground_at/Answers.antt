@@ -2,7 +2,6 @@
 use mathlib.Core.Path.{sym}
 use Rattle.pixel.specs.Pixel.{code_of}
 use Rattle.pixel.proofs.Laws.{bits-word}
-use borrow.Author.Rules.{rules}
 use Rattle.pixel.proofs.foreground_at.Goals as goal
 
 pub returns : goal.returns

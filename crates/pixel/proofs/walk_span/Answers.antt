@@ -1,13 +1,11 @@
 -- `walk_span`: each turn finds the line in the strip at hand (`span_here`), or passes all lines of that strip (`passed`, `span-next`).
-use Prim.Native.Nat.{◌+◌, ◌-◌, ◌/◌, ◌≤◌}
-use mathlib.Core.Path.{◌≡◌, refl, sym, ◌∙◌}
+use Prim.Native.Nat.{◌+◌, ◌-◌}
+use mathlib.Core.Path.{◌≡◌, sym, ◌∙◌}
 use mathlib.Core.Bool.{true, false}
 use native.Mathlib.Omega.{arith}
 use Rattle.pixel.specs.Pixel.{lines_of}
-use Rattle.pixel.specs.Rounds.{Span, round_of}
 use Rattle.pixel.proofs.Laws.{lines_spacing, lines_characters}
 use Rattle.pixel.proofs.Rounds.{pair_here, span_here, span-next, span-end}
-use borrow.Author.Rules.{rules}
 use Rattle.pixel.proofs.walk_span.Goals as goal
 use Rattle.pixel.proofs.walk_span.Goals.{then-is_spacing+else-left-lines, else-is_spacing+then-zoom+else-left-height, else-is_spacing+else-zoom+else-left-height-2}
 
@@ -23,9 +21,6 @@ passed c =
       | else-is_spacing+then-zoom+else-left-height w ↦ omega (arith, h, lines_characters a.ch d true (sym s ∙ w.if-is_spacing.false) (sym w.zoom.ensures ∙ w.if-zoom.true))
       | else-is_spacing+else-zoom+else-left-height-2 w ↦ omega (arith, h, lines_characters a.ch d false (sym s ∙ w.if-is_spacing.false) (sym w.zoom.ensures ∙ w.if-zoom.false))
     ]
-
-pub loop-at-init : goal.loop-at-init
-loop-at-init c = (refl, search rules, c.requires.span)
 
 pub returns-then-left-lines : goal.returns-then-left-lines
 returns-then-left-lines c =
