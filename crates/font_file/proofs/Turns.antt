@@ -1,6 +1,6 @@
 -- The turns of the loops over blocks: what is done and what is left are all.
 -- Assumes nothing.
-use Prim.Native.Nat.{ℕ, suc, ◌+◌, ◌-◌, ◌*◌, ◌≤◌, ◌<◌, min}
+use Prim.Native.Nat.{ℕ, suc, ◌+◌, ◌-◌, ◌*◌, ◌<◌, min}
 use mathlib.Core.Path.{◌≡◌, sym, ap, ◌∙◌}
 use mathlib.Core.List.{List, [], ◌∷◌, ◌++◌, append-nil}
 use native.Mathlib.Nat.{add-sub_cancel_left}
@@ -11,7 +11,7 @@ use lib.Seq.{sets, take_at}
 use Rattle.facts.proofs.Parts.{sets-append}
 use Rattle.limits.specs.Limits.{font_length}
 use Rattle.font_file.specs.FontFile.{block_count, payload_length, used_length}
-use Rattle.font_file.proofs.Files.{used_left, first_long, next}
+use Rattle.font_file.proofs.Files.{first_long, next}
 
 -- ---- pieces put in place, one after the other
 

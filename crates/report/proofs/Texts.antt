@@ -1,15 +1,14 @@
 -- The laws of the input's parts, of the decimal digits, and of a text that is written part by part.
 -- Assumes nothing.
-use Prim.Native.Nat.{ℕ, zero, suc, ◌+◌, ◌-◌, ◌/◌, ◌≤◌, ◌<◌, min}
-use mathlib.Core.Path.{◌≡◌, refl, sym, ap, ap₂, ◌∙◌}
+use Prim.Native.Nat.{ℕ, zero, suc, ◌+◌, ◌/◌, ◌≤◌, ◌<◌}
+use mathlib.Core.Path.{◌≡◌, refl, ap, ◌∙◌}
 use mathlib.Core.List.{List, [], ◌++◌}
 use native.Mathlib.Nat.{zero-add}
-use native.Mathlib.Decide.{dec_le}
 use native.Mathlib.Omega.{arith}
 use lib.Dec.{ltb}
 use borrow.Author.Tests.{eq-eqb, ne_eqb, lt-ltb, le-ltb}
-use lib.ListN.{length, take, drop, length-append, length-drop, length-map, drop_of_length-le}
-use lib.Seq.{take_all, take-nil, sets, sets-eq}
+use lib.ListN.{length, length-append, length-map}
+use lib.Seq.{sets, sets-eq}
 use Rattle.facts.proofs.Choice.{either}
 use Rattle.facts.proofs.Parts.{sets-append}
 use Rattle.buffers.specs.Buffers.{bytes_of}
