@@ -1,11 +1,10 @@
 -- `look_lines`: each turn passes a descriptor and its strip; what is marked and what is still to look at add up to the same (`SumSame`).
-use Prim.Native.Nat.{◌*◌, ◌≤◌, ◌<◌}
+use Prim.Native.Nat.{◌≤◌}
 use mathlib.Core.Path.{refl, ap}
 use native.Mathlib.Omega.{arith}
 use borrow.Author.Rules.{rules}
 use Rattle.walk.specs.Walk.{lines_left}
-use Rattle.ahead.specs.Looking.{codes_to, Far, Kept, Posed}
-use Rattle.ahead.proofs.Looks.{SumSame, sum-start, sum_on, lines_here, lines_last, lines_found, lines-over}
+use Rattle.ahead.proofs.Looks.{sum-start, sum_on, lines_here, lines_last, lines_found, lines-over}
 use Rattle.ahead.proofs.look_lines.Goals as goal
 
 pub loop-left-init : goal.loop-left-init
@@ -18,16 +17,6 @@ returns-then-own-p c =
     let l = c.loop-left in
     lines_here l.p l.invariant.3 l.invariant.0 c.requires.posed l.near l.invariant.1 l.invariant.2 c.loop-left-test.true c.if-own-p.true
 
-pub look_strip-requires : goal.look_strip-requires
-look_strip-requires c =
-    let p = c.requires in
-    record {
-      ram_len = p.ram_len;
-      posed = p.posed;
-      kept = (c.loop-left.invariant.1, c.loop-left.invariant.2);
-      k_bound = omega (arith, ap lines_left c.of_descriptor-strip.ensures, c.descriptor_lines-lines.ensures, c.if-left-lines.true);
-    }
-
 pub returns-then-left-lines : goal.returns-then-left-lines
 returns-then-left-lines c =
     let l = c.loop-left in
@@ -35,23 +24,11 @@ returns-then-left-lines c =
     lines_last l.p l.invariant.3 l.invariant.0 c.requires.posed c.of_descriptor-strip.result c.of_descriptor-strip.ensures c.loop-left-test.true
     c.if-own-p.false l.left (omega (arith, shorter)) c.look_strip.ensures shorter
 
-pub look_whole-looked-requires : goal.look_whole-looked-requires
-look_whole-looked-requires c =
-    let p = c.requires in
-    record { ram_len = p.ram_len; posed = p.posed; kept = (c.loop-left.invariant.1, c.loop-left.invariant.2) }
-
 pub returns-then-looked : goal.returns-then-looked
 returns-then-looked c =
     let l = c.loop-left in
     lines_found l.p l.invariant.3 l.invariant.0 c.requires.posed _ refl c.loop-left-test.true c.if-own-p.false _
     (omega (arith, c.descriptor_lines-lines.ensures, c.if-left-lines.false)) c.look_whole-looked.ensures c.if-looked.true
-
-pub loop-left-smaller : goal.loop-left-smaller
-loop-left-smaller c =
-    let l = c.loop-left in
-    let q = c.requires.posed in
-    let e = c.if-own-p.false in
-    omega (arith, q.cell, l.invariant.0, e)
 
 pub loop-left-preserved : goal.loop-left-preserved
 loop-left-preserved c =

@@ -3,9 +3,8 @@
 use Prim.Native.Nat.{ℕ, ◌≤◌}
 use mathlib.Core.Path.{sym, subst}
 use native.Mathlib.Omega.{arith}
-use borrow.Author.Rules.{rules}
 use Rattle.ahead.specs.Looking.{Far, codes_to}
-use Rattle.ahead.proofs.Looks.{far-starts, row_found, row_marked, row-passed}
+use Rattle.ahead.proofs.Looks.{far-starts, row_found, row_marked}
 use Rattle.ahead.proofs.look_row.Goals as goal
 use Rattle.ahead.proofs.look_row.Goals.{then-back-near+else-back-reached, else-back-near}
 
@@ -25,15 +24,3 @@ returns-then-shown c =
     let f = far in
     row_marked c.args.ram.now c.args.sought c.args.shown c.args.address c.args.marks.now _ c.requires.kept.0
     f.0 f.1 _ c.if-shown.true c.mark.ensures
-
-pub returns : goal.returns
-returns c =
-    let far : (Far c.args.ram.now c.args.sought c.if-back-near.reached) × (c.if-back-near.reached ≤ codes_to c.args.sought.cell c.args.address) =
-    let ram = c.args.ram.now in
-    elim c.if-back-near.branch [
-      then-back-near+else-back-reached w ↦ (subst (λ (m : ℕ). Far ram c.args.sought m) (sym w.reached-is) (far-starts ram c.args.sought _ w.starts-reached.ensures), omega arith)
-    | else-back-near w ↦ (subst (λ (m : ℕ). Far ram c.args.sought m) (sym w.reached-is) c.requires.kept.1, omega arith)
-    ] in
-    let f = far in
-    row-passed c.args.ram.now c.args.sought c.args.shown c.args.address c.args.marks.now _ c.requires.kept.0
-    f.0 f.1 c.if-shown.false

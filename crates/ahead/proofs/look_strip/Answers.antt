@@ -1,6 +1,5 @@
 -- `look_strip`: each way through the code is a case of what the rows of a strip read.
 use native.Mathlib.Omega.{arith}
-use borrow.Author.Rules.{rules}
 use Rattle.ahead.proofs.Lines.{lines_in_lem, strip-none, strip_spacing, strip_disabled}
 use Rattle.ahead.proofs.Looks.{none_adds, strip-shown}
 use Rattle.ahead.proofs.look_strip.Goals as goal

@@ -1,6 +1,5 @@
 -- `look_whole`: all lines of the strip of a descriptor (`whole_looked`, `whole_dark`).
 use mathlib.Core.Path.{sym, ◌∙◌}
-use borrow.Author.Rules.{rules}
 use Rattle.ahead.proofs.Looks.{none_adds, whole_dark, whole_looked}
 use Rattle.ahead.proofs.look_whole.Goals as goal
 

@@ -1,8 +1,6 @@
 -- `reads`: nothing in the plain rest; else the strip on screen, the lines from the next descriptor on, and then the marked rows.
 use Prim.Native.Nat.{ℕ, min}
 use mathlib.Core.Path.{sym, ap, ◌∙◌}
-use native.Mathlib.Omega.{arith}
-use borrow.Author.Rules.{rules}
 use Rattle.ahead.proofs.Lines.{plain-unread}
 use Rattle.ahead.proofs.Looks.{far-all, found_first, found_later, found_row}
 use Rattle.ahead.proofs.Marks.{none_kept}
@@ -13,15 +11,8 @@ returns-then-in_plain_rest c =
     let a = c.args in
     sym (plain-unread a.ram.now a.settings a.left a.walk a.cell (sym c.in_plain_rest.ensures ∙ c.if-in_plain_rest.true))
 
-pub look_strip-first-requires : goal.look_strip-first-requires
-look_strip-first-requires c =
-    let q = c.seek-sought in
-    record {
-      ram_len = c.requires.ram_len;
-      posed = q.ensures.2;
-      kept = (none_kept, far-all c.args.ram.now q.result q.ensures.2);
-      k_bound = omega (arith, c.least-k.ensures, c.lines_left.ensures);
-    }
+pub look_strip-first-requires-clause-kept : goal.look_strip-first-requires-clause-kept
+look_strip-first-requires-clause-kept c = (none_kept, far-all c.args.ram.now c.seek-sought.result c.seek-sought.ensures.2)
 
 pub returns-then-first : goal.returns-then-first
 returns-then-first c =

@@ -1,6 +1,6 @@
 -- `user_reads`: each turn passes one code; what is left of the row shows the user character exactly if the row does.
-use Prim.Native.Nat.{◌+◌, ◌-◌, ◌*◌, ◌%◌, ◌≤◌, ◌<◌}
-use mathlib.Core.Path.{◌≡◌, refl, sym, ◌∙◌}
+use Prim.Native.Nat.{◌+◌, ◌-◌, ◌*◌, ◌%◌}
+use mathlib.Core.Path.{◌≡◌, sym, ◌∙◌}
 use mathlib.Core.Bool.{false, cond, ◌||◌}
 use lib.Dec.{eqb}
 use lib.ListN.{get_or}
@@ -9,9 +9,6 @@ use borrow.Author.Tests.{eq-eqb, ne_eqb}
 use Rattle.ahead.specs.Looking.{user_reads}
 use Rattle.ahead.proofs.Marks.{one_more, reads_none}
 use Rattle.ahead.proofs.user_reads.Goals as goal
-
-pub loop-left-init : goal.loop-left-init
-loop-left-init c = (search rules, search rules, refl)
 
 pub returns-then-ends_line : goal.returns-then-ends_line
 returns-then-ends_line c =

@@ -1,6 +1,5 @@
 -- `code_at`: the code ends the line, or its columns are made of the word that was looked up.
 use Rattle.line.proofs.Turns.{word_fits, code-ended, code-shown}
-use borrow.Author.Rules.{rules}
 use Rattle.line.proofs.code_at.Goals as goal
 
 pub returns-then-word : goal.returns-then-word

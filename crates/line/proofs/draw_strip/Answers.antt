@@ -4,7 +4,6 @@ use mathlib.Core.Path.{refl}
 use native.Mathlib.Omega.{arith}
 use borrow.Author.Tests.{not-true, not-false}
 use Rattle.line.proofs.Strips.{on_strip, on_line, slice_on_lem, strip_off, strip-plain, strip_characters, has_row}
-use borrow.Author.Rules.{rules}
 use Rattle.line.proofs.draw_strip.Goals as goal
 
 pub returns-then-not-settings : goal.returns-then-not-settings
@@ -19,16 +18,6 @@ returns-then-not-enabled c =
 
 pub slice-requires : goal.slice-requires
 slice-requires c = on_line _ c.in-Characters.is c.requires.on_line
-
-pub draw_characters-requires-clause-w_in_bounds : goal.draw_characters-requires-clause-w_in_bounds
-draw_characters-requires-clause-w_in_bounds c =
-    let p = c.requires in
-    (omega (arith, c.width-w.ensures, p.ld_bound.2), omega (arith, c.width-w.ensures, p.ld_bound.0))
-
-pub draw_characters-requires-clause-lent : goal.draw_characters-requires-clause-lent
-draw_characters-requires-clause-lent c =
-    let p = c.requires in
-    p.lent
 
 pub draw_characters-requires-clause-on_screen : goal.draw_characters-requires-clause-on_screen
 draw_characters-requires-clause-on_screen c =

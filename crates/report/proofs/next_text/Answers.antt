@@ -1,10 +1,9 @@
 -- `next_text`: the draw into a buffer of W bytes.
-use mathlib.Core.Path.{sym, ap, ◌∙◌}
+use mathlib.Core.Path.{ap, ◌∙◌}
 use mathlib.Core.List.{List}
 use Prim.Native.Nat.{ℕ}
 use native.Mathlib.Omega.{arith}
 use lib.ListN.{replicate}
-use lib.Seq.{length-take-le}
 use Rattle.limits.specs.Limits.{line_max}
 use Rattle.buffers.proofs.Laws.{filled_front}
 use Rattle.device.specs.Device.{draw_line}
