@@ -85,7 +85,7 @@ impl Feed {
     }
 
     // The tests before any event, by the lengths that are lent. Refusals 1, 9, 10.
-    #[tactic(auto, using(crate::proofs::Laws::held_one), unfolding(crate::specs::Capture::feed_verdict))]
+    #[tactic(auto, unfolding(crate::specs::Capture::feed_verdict))]
     pub fn test(self, ram: usize, chunk: usize, out: usize) -> FeedTest
         requires { chunk < 2 ^ 63 }
         ensures { verdict_in result ≡ feed_verdict self ram chunk out }

@@ -23,6 +23,7 @@ pub extern "C" fn osd_device_len() -> u32
     layout::DEVICE_LENGTH as u32
 }
 
+#[tactic(auto, unfolding(interface::specs::Interface::fresh_on))]
 #[unsafe(no_mangle)]
 pub extern "C" fn osd_fresh(device: &mut [u8]) -> u32
     ensures { record { device = device.new; answer = result } ≡ fresh_on device.old }
@@ -71,6 +72,7 @@ pub extern "C" fn osd_bus(device: &mut [u8], ram: &mut [u8], kind: u8, byte: u8)
     bus_bytes::hear(device, ram, kind, byte)
 }
 
+#[tactic(auto, unfolding(interface::specs::Interface::start_on, interface::specs::Interface::started_on))]
 #[unsafe(no_mangle)]
 pub extern "C" fn osd_frame_start(device: &mut [u8], lines: u32) -> u32
     ensures { record { device = device.new; answer = result } ≡ start_on device.old lines }
@@ -91,6 +93,7 @@ pub extern "C" fn osd_frame_start(device: &mut [u8], lines: u32) -> u32
     }
 }
 
+#[tactic(auto, unfolding(interface::specs::Interface::draw_on, interface::specs::Interface::drawn_on))]
 #[unsafe(no_mangle)]
 pub extern "C" fn osd_draw<'a>(
     device: &mut [u8],
@@ -117,6 +120,7 @@ pub extern "C" fn osd_draw<'a>(
     }
 }
 
+#[tactic(auto, unfolding(interface::specs::Interface::cell_on))]
 #[unsafe(no_mangle)]
 pub extern "C" fn osd_cell(device: &[u8], ram: &[u8], cell: u32) -> u32
     ensures { result ≡ cell_on device.now ram.now cell }
@@ -129,6 +133,7 @@ pub extern "C" fn osd_cell(device: &[u8], ram: &[u8], cell: u32) -> u32
 }
 
 // Of the record only the registers are looked at.
+#[tactic(auto, unfolding(interface::specs::Interface::pixel_on))]
 #[unsafe(no_mangle)]
 pub extern "C" fn osd_pixel<'a>(
     device: &[u8],
@@ -156,6 +161,7 @@ pub extern "C" fn osd_feed_len() -> u32
 }
 
 // Makes a feed anew.
+#[tactic(auto, unfolding(interface::specs::Interface::feed_fresh_on))]
 #[unsafe(no_mangle)]
 pub extern "C" fn osd_feed_fresh(feed: &mut [u8]) -> u32
     ensures { record { feed = feed.new; answer = result } ≡ feed_fresh_on feed.old }
@@ -199,6 +205,7 @@ pub extern "C" fn osd_feed(
     }
 }
 
+#[tactic(auto, unfolding(interface::specs::Interface::font_write_on))]
 #[unsafe(no_mangle)]
 pub extern "C" fn osd_font_write(font: &[u8], file: &mut [u8]) -> u32
     ensures { record { file = file.new; answer = result } ≡ font_write_on font.now file.old }
@@ -207,6 +214,7 @@ pub extern "C" fn osd_font_write(font: &[u8], file: &mut [u8]) -> u32
     interface::answer(reply.refusal(), reply.value() as u16)
 }
 
+#[tactic(auto, unfolding(interface::specs::Interface::font_read_on))]
 #[unsafe(no_mangle)]
 pub extern "C" fn osd_font_read(file: &[u8], font: &mut [u8]) -> u32
     ensures { record { font = font.new; answer = result } ≡ font_read_on file.now font.old }

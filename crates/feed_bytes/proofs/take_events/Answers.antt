@@ -1,5 +1,5 @@
 -- `take_events`: a turn is an event, and what is left from the next place on is what was left.
-use Prim.Native.Nat.{ℕ, ◌+◌, ◌-◌, ◌*◌, ◌/◌, ◌%◌, ◌≤◌}
+use Prim.Native.Nat.{ℕ, ◌+◌, ◌-◌}
 use mathlib.Core.List.{List}
 use native.Mathlib.Nat.{le_trans}
 use mathlib.Core.Path.{◌≡◌, refl, sym, ap, ◌∙◌}
@@ -9,7 +9,6 @@ use borrow.Author.Tests.{lt-ltb}
 use lib.ListN.{length}
 use Rattle.bus.specs.Bus.{bad_kind}
 use Rattle.capture.specs.declared.Feed.{Feed}
-use Rattle.buffers.specs.Buffers.{Bytes}
 use Rattle.capture.specs.Places.{from}
 use Rattle.capture.proofs.Laws.{from_bad, from_end, held_one}
 use Rattle.interface.specs.Interface.{lent, bus_calls}

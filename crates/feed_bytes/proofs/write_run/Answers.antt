@@ -1,15 +1,11 @@
 -- `write_run`: the tests, then a turn is a data byte.
-use Prim.Native.Nat.{ℕ, ◌+◌, ◌-◌, ◌%◌, ◌≤◌, ◌<◌}
+use Prim.Native.Nat.{ℕ, ◌+◌, ◌-◌, ◌%◌, ◌<◌}
 use mathlib.Core.Path.{◌≡◌, refl, sym, ap, ◌∙◌}
 use native.Mathlib.Omega.{arith}
 use borrow.Author.Rules.{rules}
-use lib.ListN.{length, set, length-set}
+use lib.ListN.{set, length-set}
 use Rattle.limits.specs.Limits.{address_space}
-use Rattle.bus.specs.declared.BusState.TheVariants.{Write}
-use Rattle.capture.specs.Places.{from}
-use Rattle.layout.specs.Layout.{put_bus}
-use Rattle.interface.specs.Interface.{lent, bus_calls}
-use Rattle.feed_bytes.proofs.Runs.{at, stored_first, stored_on_lem, InRun, in_run, kind_at_lem, kind_before, ran_none, ran_to}
+use Rattle.feed_bytes.proofs.Runs.{stored_first, stored_on_lem, in_run, kind_at_lem, kind_before, ran_none, ran_to}
 use Rattle.feed_bytes.proofs.write_run.Goals as goal
 
 pub returns-then-device-ne-WRITING : goal.returns-then-device-ne-WRITING

@@ -1,7 +1,6 @@
 -- `osd_feed`: the interface's own tests, then what the feed's tests find, pick the case of `feed_on`.
 use mathlib.Core.Path.{sym, ap, ◌∙◌}
 use native.Mathlib.Nat.{not-le_of_lt}
-use borrow.Author.Rules.{rules}
 use lib.ListN.{length}
 use Rattle.capture.specs.declared.Feed.{Feed}
 use Rattle.capture.specs.Capture.{feed_verdict, verdict_in, play_chunk}

@@ -1,10 +1,10 @@
 -- `take_events`: a turn is an event, and what is left from the next place on is what was left.
-use Prim.Native.Nat.{ℕ, ◌+◌, ◌-◌, ◌%◌, ◌≤◌}
+use Prim.Native.Nat.{ℕ, ◌-◌}
 use mathlib.Core.Path.{◌≡◌, refl, sym, ap, ◌∙◌}
 use native.Mathlib.Omega.{arith}
 use borrow.Author.Rules.{rules}
 use borrow.Author.Tests.{lt-ltb, le-ltb}
-use lib.ListN.{length, get_or}
+use lib.ListN.{get_or}
 use Rattle.bus.specs.Bus.{event_of, bad_kind}
 use Rattle.device.specs.Device.{event_outcome, hear_event}
 use Rattle.capture.specs.Capture.{chip, bus_events}
