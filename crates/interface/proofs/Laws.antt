@@ -18,7 +18,7 @@ use Rattle.layout.specs.Layout.{bus_at, record_length, is_deaf, state_byte, devi
 use Rattle.layout.specs.FeedLayout.{feed_length}
 use Rattle.layout.proofs.Laws.{numbered, state-byte}
 use Rattle.interface.specs.Interface as face
-use Rattle.interface.specs.Interface.{value_bound, answer_of, is_accepted, answer_not_taken, is_record, fresh_on, ignored_on, heard_on, bus_on, started_on, start_on, drawn_on, draw_on, cell_on, pixel_on, is_feed, chunk_max, feed_fresh_on, not_fed_on, fed_on_by, verdict_on, lengths_taken, feed_on}
+use Rattle.interface.specs.Interface.{value_bound, answer_of, is_accepted, answer_not_taken, is_record, fresh_on, ignored_on, heard_on, bus_on, start_on, drawn_on, draw_on, cell_on, pixel_on, is_feed, chunk_max, feed_fresh_on, not_fed_on, fed_on_by, verdict_on, lengths_taken, feed_on}
 
 -- what holds of a call that the interface's own tests let through, and of one that they do not, holds of the call
 pub if_taken : {A : Type 0} (P : A → Type 0) (t : Bool) (x y : A) → (t ≡ true → P x) → P y → P (cond t x y)
