@@ -1,5 +1,5 @@
 -- A read behind what is there already makes it longer.
-use Rattle.std.proofs.Common.{rules, arith}
+use Rattle.std.proofs.Common.{rules}
 use Rattle.streams.proofs.Known.{Consumes-behind}
 use Rattle.streams.proofs.read_full.Goals as goal
 

@@ -1,6 +1,6 @@
 -- What a hole of width eight with zeros in front writes.
 use Rattle.std.proofs.Common.{◌≡◌, ℕ, ◌-◌, ◌^◌, [], ◌++◌, false, length, replicate, ap, append-nil, ◌∙◌, List, arith, rules}
-use Rattle.core.specs.Fmt.{digits, char_count, padded_integral, format_spec}
+use Rattle.std.specs.Fmt.{digits, char_count, padded_integral, format_spec}
 use Rattle.streams.specs.Streams.{hexadecimal}
 use Rattle.streams.proofs.write_hexadecimal.Goals as goal
 
