@@ -45,7 +45,7 @@ unfolding log end total AsMade
 counted P m f I g n s [] h i = subst (λ (k : ℕ). I k s) (sym (add-zero n)) i
 counted P m f I g n s (c ∷ cs) h i =
     subst (λ (k : ℕ). I k (end m (m.after s c) cs)) (add_assoc n _ (total f (log m (m.after s c) cs)))
-    (counted P m f I g _ (m.after s c) cs h.1 (g n s c h.0 i))
+    (counted P m f I g (n + f (record { call = c; answer = m.answer s c })) (m.after s c) cs h.1 (g n s c h.0 i))
 
 -- ---- a machine whose states are read as another's
 

@@ -1,0 +1,27 @@
+-- `read_run`: the tests, then a turn is a fetch.
+use Prim.Native.Nat.{ℕ, ◌+◌, ◌-◌, ◌%◌, ◌≤◌, ◌<◌}
+use mathlib.Core.Path.{◌≡◌, refl, sym, ap, ap₂, ◌∙◌}
+use native.Mathlib.Omega.{arith}
+use borrow.Author.Rules.{rules}
+use lib.ListN.{length, set, length-set}
+use Rattle.limits.specs.Limits.{address_space}
+use Rattle.bus.specs.declared.BusState.TheVariants.{Read}
+use Rattle.capture.specs.Places.{from}
+use Rattle.layout.specs.Layout.{put_bus}
+use Rattle.interface.specs.Interface.{lent, bus_calls}
+use Rattle.feed_bytes.proofs.Runs.{at, fetched_first, fetched_on, InRun, in_run, kind_at_lem, kind_before, ran_none, ran_to}
+use Rattle.feed_bytes.proofs.read_run.Given as goal
+
+abbrev pub invariant-loop-k : goal.invariant-loop-k
+invariant-loop-k l =
+    (l.device ≡ l.initial.device)
+    × (length l.device ≡ length l.initial.device)
+    × (length l.out ≡ length l.initial.out)
+    × (l.i ≤ l.k + 1)
+    × ((l.k + 1 - l.i) % 2 ≡ 0)
+    × (l.k + 1 ≤ length l.chunk + 1)
+    × (l.address < address_space)
+    × ((held : ℕ) → from bus_calls (lent (put_bus (at Read l.address) l.device) l.ram) l.chunk held (l.k + 1) l.out (l.k + 1 - l.first) ≡ from bus_calls (lent l.initial.device l.ram) l.chunk held l.i l.initial.out (l.i - l.first))
+
+abbrev pub decreases-loop-k : goal.decreases-loop-k
+decreases-loop-k l = length l.chunk + 1 - l.k

@@ -1,0 +1,20 @@
+-- `column_at`: what is summed up is the column from the row on.
+use Prim.Native.Nat.{◌+◌, ◌-◌, ◌*◌, ◌≤◌}
+use mathlib.Core.Path.{◌≡◌, refl}
+use native.Mathlib.Nat.{add-zero}
+use native.Mathlib.Omega.{arith}
+use borrow.Author.Rules.{rules}
+use Rattle.font_file.specs.Columns.{column_count, row_count, column_sum, column_weighted}
+use Rattle.font_file.proofs.Columns.{rows_from, row_up}
+use Rattle.font_file.proofs.column_at.Given as goal
+
+abbrev pub invariant-loop-row : goal.invariant-loop-row
+invariant-loop-row l =
+    (l.row ≤ row_count)
+    × (l.sum ≡ rows_from column_sum l.first l.row l.block)
+    × (l.by_row ≡ rows_from column_weighted l.first l.row l.block)
+    × (l.sum ≤ 255 * (row_count - l.row))
+    × (l.by_row ≤ 1785 * (row_count - l.row))
+
+abbrev pub decreases-loop-row : goal.decreases-loop-row
+decreases-loop-row l = l.row

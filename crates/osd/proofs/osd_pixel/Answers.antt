@@ -1,0 +1,21 @@
+-- `osd_pixel`: refused, or the answer of the question.
+use Prim.Native.Nat.{ℕ}
+use mathlib.Core.Path.{ap, ap₂, ◌∙◌}
+use borrow.Author.Rules.{rules}
+use Rattle.device.specs.declared.Device.{Device}
+use Rattle.pixel.specs.Ask.{ask_pixel}
+use Rattle.interface.specs.Interface.{answer_of}
+use Rattle.interface.proofs.Laws.{pixel-not, pixel-is}
+use Rattle.osd.proofs.osd_pixel.Goals as goal
+
+pub returns-then-device-ne-DEVICE_LENGTH : goal.returns-then-device-ne-DEVICE_LENGTH
+returns-then-device-ne-DEVICE_LENGTH c = pixel-not _ _ _ _ _ _ _ c.if-device-ne-DEVICE_LENGTH.true
+
+pub returns : goal.returns
+returns c =
+    let a = c.args in
+    c.answer.ensures ∙ ap₂ (λ (r v : ℕ). answer_of (record { refusal = r; value = v })) c.refusal.ensures c.value.ensures
+    ∙ ap answer_of
+    (c.ask-reply.ensures
+    ∙ ap (λ (d : Device). ask_pixel d.registers a.ram.now a.font.now a.lines a.frame a.x a.y) c.device_in.ensures)
+    ∙ pixel-is _ c.if-device-ne-DEVICE_LENGTH.false _ _ _ _ _ _

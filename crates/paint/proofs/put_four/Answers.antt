@@ -1,0 +1,7 @@
+-- `put_four`: four bytes set.
+use Rattle.paint.proofs.Spread.{four_put}
+use borrow.Author.Rules.{rules}
+use Rattle.paint.proofs.put_four.Goals as goal
+
+pub returns : goal.returns
+returns c = four_put c.args.out.now c.args.pixels c.requires

@@ -1,0 +1,14 @@
+-- `begin`: the test on the length picks the case of `bench_start`.
+use borrow.Author.Tests.{eq-eqb, ne_eqb}
+use Rattle.report.specs.Report.{bench_start}
+use borrow.Author.Rules.{rules}
+use Rattle.report.proofs.begin.Goals as goal
+
+pub returns-then-input-ne-INPUT_LENGTH : goal.returns-then-input-ne-INPUT_LENGTH
+unfolding bench_start
+returns-then-input-ne-INPUT_LENGTH c = rw (ne_eqb _ _ c.if-input-ne-INPUT_LENGTH.true, c.fresh.ensures)
+
+pub returns : goal.returns
+unfolding bench_start
+returns c =
+    rw (eq-eqb _ _ c.if-input-ne-INPUT_LENGTH.false, ← c.word_at-lines.ensures, ← c.device_of.ensures) c.start_frame.ensures
