@@ -12,7 +12,7 @@ INTO = .
 
 # the picture: proves, builds and runs it, and shows it as text
 demo:
-	rt check demo preview
+	tools/programs demo preview
 	mkdir -p target/demo
 	target/bin/demo < crates/demo/stdin > target/demo/frame.ppm
 	@echo "the picture: $(CURDIR)/target/demo/frame.ppm"
@@ -20,7 +20,7 @@ demo:
 
 # the depot's programs: proves and builds them, and runs them over good files, bad ones of each kind and wrong lengths
 depot:
-	rt check font_pack font_check font_unpack
+	tools/programs font_pack font_check font_unpack
 	python3 -B tests/depot_runs.py
 
 # fonts in BDF, which font editors read and write: tools/bdf.py both ways
@@ -39,7 +39,7 @@ references:
 unused:
 	@python3 tools/unused.py
 
-# proves osd and all below it, and writes target/staticlib/libosd.a (rt staticlib osd); its module is kept for the ports
+# proves osd and all below it, and writes target/staticlib/libosd.a (rt lib); its module is kept for the ports
 library:
 	ports/library
 

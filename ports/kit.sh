@@ -8,11 +8,10 @@ die() {
 root=$(cd "$(dirname "$0")/.." && pwd -P) || exit 1
 target=$root/target
 kit=$(rt doc 2>/dev/null) || die "rt does not run: the Rattle toolchain is needed"
-kit=${kit%/docs/*}
-machine=$(uname -m)
-toolchain=$kit/on/$machine/toolchain
+kit=${kit%/*}
+toolchain=$kit/toolchain
 clang=$toolchain/bin/clang
-[ -x "$clang" ] || die "the kit at $kit has no clang for this machine, $machine"
+[ -x "$clang" ] || die "the kit at $kit has no clang"
 
 # The kit's clang is LLVM's tools in one file: it does what the name says that it is called by. Makes such a name and prints it.
 tool() { # NAME

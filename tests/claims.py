@@ -5,8 +5,8 @@ A claim is a closed type in a crate's specs/ that says something: an abbreviatio
 plain data (each field a number, a list of numbers or another named type). Each crate with claims has one file proofs/Claims.antt that
 gives each of them a name of exactly its type and nothing else:
 
-    pub one-page : OnePage
-    one-page = proof.one-page
+    pub one_page : OnePage
+    one_page = proof.one_page
 
 so the prover holds each name to the type that specs/ has. Checked here: every claim has its line, every line has the bare name of a
 claim that its own specs/ declares, nothing else stands in the file, and docs/PROMISES.md lists the same lines.
@@ -63,7 +63,7 @@ def named_claims(path, crate):
                 fault(place, 'expected `%s = PROOF`' % waiting)
             waiting = None
         elif use:
-            own = re.match(r'^Rattle·%s·specs\.specs\.(\S+)$' % crate, use.group(1))
+            own = re.match(r'^Rattle\.%s\.specs\.(\S+)$' % crate, use.group(1))
             for name in (use.group(2) or '').split(','):
                 if own and name.strip():
                     brought[name.strip()] = own.group(1)

@@ -5,8 +5,9 @@
     python3 tools/unused.py --wide      also how many lines of each file are wider than 132 characters
     python3 tools/unused.py --copies    also the longest runs of five or more lines that stand in two places
 
-It reads text and proves nothing. Used are, to begin with, what the check looks up (`F-spec` of proofs/F/Proof.antt), the names of
-proofs/Claims.antt, and what the clauses of src/ and the must-fail edits name; then what a used declaration names, bare or behind a
+It reads text and proves nothing. Used are, to begin with, what the check looks up (`F_spec` of proofs/F/Proof.antt, and what is public in
+proofs/F/Answers.antt and Invariants.antt), the names of proofs/Claims.antt, and what the clauses and the tactics' lists of src/ and the
+must-fail edits name; then what a used declaration names, bare or behind a
 module, in its signature, its `unfolding` line or its clauses. A type is used by its constructors too; constructors and fields are
 not asked for one by one. A helper below a `where` is asked for in its clause alone. A bound variable counts as a use of the name
 that it covers, so what is listed is unused, and something unused may be missing.
@@ -26,7 +27,7 @@ COMMENT = re.compile(r'"(?:\\.|[^"\\])*"|(?<![^\s(){}.;,@])--[^\n]*|\{-.*?-\}', 
 MARKS = {'unfoldable', 'abbrev', 'pub', 'axiom'}
 USE = re.compile(r'((?:unfoldable |pub )*)use (?:package\.)?([^\s{]+?)(?:\.\{(.*)\})?(?: as (\S+))?')
 # a module of a crate, as the crate itself and as others write it
-MODULE = re.compile(r'Rattle·(\w+)(?:·\w+)?\.((?:specs|proofs)\b.*)')
+MODULE = re.compile(r'Rattle\.(\w+)\.((?:specs|proofs)\b.*)')
 RUST_COMMENT = re.compile(r'\'(?:\\.|[^\'\\])\'|"(?:\\.|[^"\\])*"|//[^\n]*|/\*.*?\*/', re.S)
 RUST_USE = re.compile(r'^[ \t]*((?:pub |ghost )?)use ([^;]*);', re.M)
 RUST_NAME = re.compile(r'(?<![\w.])(?<!::)[A-Za-z_]\w*')
@@ -50,16 +51,16 @@ def words(text):
 
 def operator(name):
     """The parts that an operator is used by."""
-    return {part for part in name.split('_') if part} if '_' in name and '«' not in name else set()
+    return {part for part in name.split('◌') if part} if '◌' in name and '«' not in name else set()
 
 
 def spellings(name):
     """What a use of a name looks like. A `do` block does not show the two operators that it uses."""
-    return {name} | operator(name) | ({'do'} if name in ('_>>=_', '_>>_') else set())
+    return {name} | operator(name) | ({'do'} if name in ('◌>>=◌', '◌>>◌') else set())
 
 
 def heads(said):
-    """What names and paths begin with; a section, as `(_+ 1)`, also with its operator."""
+    """What names and paths begin with; a section, as `(◌+ 1)`, also with its operator."""
     found = {re.match(NAME, word).group() for word in said if re.match(NAME, word)}
     return found.union(*map(operator, found))
 
@@ -121,7 +122,8 @@ class Proofs:
 
     def __init__(self, path):
         self.path, self.module = path, '.'.join(part for part in path.with_suffix('').parts[1:] if part != 'Lib')
-        self.spec = path.name == 'Proof.antt' and path.parent.name.replace('_', '-') + '-spec'
+        self.spec = path.name == 'Proof.antt' and path.parent.name + '_spec'
+        self.answers = path.name in ('Answers.antt', 'Invariants.antt')
         self.lines = path.read_text().split('\n')
         self.brought, self.brought_in_code, self.declared, self.idle_helpers, self.loose = [], [], {}, [], set()
         self.read(enumerate(cut(COMMENT, '\n'.join(self.lines)).split('\n'), 1), set(), self.declared)
@@ -190,6 +192,9 @@ class Source:
                 end += 1
             clauses.append(text[start:end])
         self.loose = {word for clause in clauses for word in words(clause)}
+        # what `#[tactic(auto, using(crate::proofs::M::name))]` names: its crate, empty for the file's own, and the name
+        self.listed = {('' if crate == 'crate' else crate, name)
+                       for found in re.findall(r'#!?\[tactic\((.*?)\)\]', text, re.S) for crate, name in re.findall(r'(\w+)::[\w:]*::(\w+)', found)}
         for clause in clauses:
             # what stands in a bracket is code
             text = text.replace(clause, ' '.join(re.findall('⟦(.*?)⟧', clause, re.S)))
@@ -213,6 +218,7 @@ def edited():
 def citations(files):
     """Each declaration with those that name it; None stands for whatever else does."""
     modules, cited = {file.module: file for file in files}, {d: set() for file in files for d in file.declared.values()}
+    listed = {(crate or file.path.parts[1], name) for file in files if isinstance(file, Source) for crate, name in file.listed}
 
     def meant(word, scope):
         """The declarations that a name or a path can mean."""
@@ -243,7 +249,8 @@ def citations(files):
                     if d is not by:
                         cited[d].add(by)
         for d in file.declared.values():
-            if d.name == file.spec or file.path.name == 'Claims.antt':
+            answer = isinstance(file, Proofs) and file.answers and re.match(r'(?:abbrev |unfoldable )*pub ', file.lines[d.line - 1])
+            if d.name == file.spec or answer or file.path.name == 'Claims.antt' or (file.path.parts[1], d.name) in listed:
                 cited[d].add(None)
     return cited
 

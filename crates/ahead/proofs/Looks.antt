@@ -75,10 +75,6 @@ module _ (ram : List ℕ) (q : Sought) (shown : Bool) (a : ℕ) (marks : List �
         (m.more ram q.cell q.codes
         ∙ ap (λ (x : Bool). sofar ram q marks || x) (sym (passed ∙ ap (λ (x : Bool). x && user_reads ram q.cell q.codes a) e)))
 
-    pub row-passed : shown ≡ false → Adds ram q (row_read ram q shown a) marks marks (record { found = false; near = near })
-    row-passed e =
-        none_adds ram q (row_read ram q shown a) marks near k f (passed ∙ ap (λ (x : Bool). x && user_reads ram q.cell q.codes a) e)
-
 -- ---- the strip on screen
 
 pub strip-shown : (ram : List ℕ) (q : Sought) (strip : Strip) (lines : ℕ) (marks marks' : List ℕ) (r : Looked) → Bytes ram → Posed q

@@ -107,9 +107,6 @@ module _ (low : Passed) (h : ℕ) (fits : low.rest < 2 ^ 32) where
           let f : j ≡ low.zeros + (j - low.zeros) = omega arith in
           ap (λ (i : ℕ). digit i x) f ∙ sym (z.after (j - low.zeros)) ∙ low_zeros h low.rest none (j - low.zeros) (omega arith)
 
-  pub zeros_stay : (low.rest / 2 ^ h * 2 ^ h % 2 ^ 32 ≡ low.rest → ⊥) → (x : ℕ) → ZerosOf x (h + h) low → ZerosOf x h low
-  zeros_stay e x z = record { zeros = z.zeros; after = z.after; some = λ f. e (omega (arith, there_and_back, f)) }
-
 pub no_zeros : (x : ℕ) → x < 2 ^ 32 → (x ≡ 0 → ⊥) → ZerosOf x 32 (record { zeros = 0; rest = x })
 no_zeros x l e =
     record {
@@ -334,10 +331,6 @@ pub row_shows : (ram : List ℕ) (c n : ℕ) (marks : List ℕ) (row own : ℕ) 
     → user_reads ram c own (2 * row) ≡ true → true ≡ any_row ram c n marks
 row_shows ram c n marks row own l h m e =
     iff true (any_row ram c n marks) (λ _. any_at ram c n marks 512 row h m (user-more ram c own n (2 * row) l (rw e tt))) (λ _. tt)
-
-pub none_showing : (ram : List ℕ) (c n : ℕ) (marks : List ℕ) (row : ℕ) → 512 ≤ row → (T (any_row ram c n marks) → Showing ram c n marks row)
-    → false ≡ any_row ram c n marks
-none_showing ram c n marks row h f = iff false (any_row ram c n marks) absurd (λ t. let s = f t in omega (arith, s.from, s.below))
 
 -- ---- the turns along a row
 

@@ -38,7 +38,7 @@ fn least(a: u16, b: u16) -> u16
 }
 
 // The codes that a line reads at the most.
-pub fn most_codes(settings: Settings) -> u16
+fn most_codes(settings: Settings) -> u16
     ensures { result ≡ codes_at_most settings }
 {
     if settings.osd {
@@ -48,7 +48,7 @@ pub fn most_codes(settings: Settings) -> u16
 }
 
 // Back from the cell's pair, up to a code that ends a line: rows that start there read the cell.
-pub fn starts(ram: &[u8], n: u16, cell: u16) -> u16
+fn starts(ram: &[u8], n: u16, cell: u16) -> u16
     requires ram_len { length ram.now ≡ ram_length }
     requires cell_lt_ram_length { cell < ram_length }
     ensures { Starts ram.now cell n result }
@@ -77,7 +77,7 @@ fn user_shown(line: ScanLine, k: u16, height: u8, zoom: bool, cell: u16) -> bool
 }
 
 // Rows are marked by a bit each.
-pub fn mark(marks: &mut [u32; 16], address: u16)
+fn mark(marks: &mut [u32; 16], address: u16)
     requires { Kept marks.old }
     ensures { Marks marks.old address marks.new }
 {
@@ -237,7 +237,7 @@ fn look_lines(
 }
 
 // Do the codes of a row, n at the most, show the cell's user character?
-pub fn user_reads(ram: &[u8], row: usize, n: usize, cell: u16) -> bool
+fn user_reads(ram: &[u8], row: usize, n: usize, cell: u16) -> bool
     requires ram_len { length ram.now ≡ ram_length }
     requires row_lt_ram_pairs { (row < ram_pairs) × (cell < ram_length) }
     ensures { result ≡ user_reads ram.now cell n (2 * row) }

@@ -19,7 +19,7 @@ use Rattle.bus.specs.declared.Step.{Step}
 use Rattle.bus.specs.declared.Event.{Event}
 use Rattle.bus.specs.declared.Effect.{Effect}
 use Rattle.bus.specs.declared.Effect.TheVariants.{Acknowledge, Ignore, Store, Load}
-use Rattle.bus.specs.Bus.{BusOutcome, bus_event, step, byte_at, fetch_at, ram_with, registers_with, answer_to, bus_reply, taken, is_ram, is_register}
+use Rattle.bus.specs.Bus.{BusOutcome, bus_event, step, byte_at, ram_with, registers_with, answer_to, bus_reply, taken, is_ram, is_register}
 
 with_length : (f : Effect) (ram : List ℕ) → length (ram_with f ram) ≡ length ram
 unfolding ram_with
@@ -68,9 +68,6 @@ value-byte b r ram e h k =
 -- a state that is known to be s does what s does
 pub byte_at_lem : (b : Bus) (x : ℕ) {s : BusState} → b.state ≡ s → byte_at s b x ≡ byte_at b.state b x
 byte_at_lem b x e = ap (λ (s : BusState). byte_at s b x) (sym e)
-
-pub fetch_at_lem : (b : Bus) {s : BusState} → b.state ≡ s → fetch_at s b ≡ fetch_at b.state b
-fetch_at_lem b e = ap (λ (s : BusState). fetch_at s b) (sym e)
 
 -- ---- a whole event
 

@@ -113,6 +113,7 @@ impl Bus {
     }
 
     // The bus part of an event, apart from registers and RAM, so that only these few bytes go in and out by value.
+    #[tactic(auto, unfolding(crate::specs::Bus::step))]
     pub fn take(self, event: Event) -> Step
         ensures { result ≡ step self event }
     {
@@ -216,6 +217,7 @@ pub fn next_address(a: u16) -> u16
 }
 
 // One bus event, on the whole of what it can touch. Refusals in the order 1; then 5, 12, 13 or 14.
+#[tactic(auto, unfolding(crate::specs::Bus::bus_event, crate::specs::Bus::taken, crate::specs::Bus::registers_with, crate::specs::Bus::ram_with, crate::specs::Bus::answer_to))]
 pub fn hear(bus: Bus, registers: Registers, ram: &mut [u8], event: Event) -> Heard
     ensures { outcome_of result ram.new ≡ bus_event bus registers ram.old event }
 {
@@ -260,6 +262,7 @@ pub fn hear(bus: Bus, registers: Registers, ram: &mut [u8], event: Event) -> Hea
 }
 
 // A byte to an address: a RAM cell, a register, or nothing.
+#[tactic(auto, unfolding(crate::specs::Bus::registers_with, crate::specs::Bus::ram_with))]
 fn store(registers: Registers, ram: &mut [u8], address: u16, x: u8) -> Registers
     requires { length ram.old ≡ ram_length }
     ensures registers { result ≡ registers_with (Effect.Store address x) registers }

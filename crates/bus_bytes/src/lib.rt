@@ -15,6 +15,7 @@ use refusals::Refusal;
 use registers::Registers;
 
 // A byte to an address: a RAM cell, a register in its place, or nothing.
+#[tactic(auto, unfolding(bus::specs::Bus::ram_with))]
 pub fn store(device: &mut [u8], ram: &mut [u8], address: u16, x: u8)
     requires { (length device.old ≡ record_length) × (length ram.old ≡ ram_length) × (address < address_space) }
     ensures registers { device.new ≡ stored_on address x device.old }
@@ -58,7 +59,7 @@ fn ignore(device: &mut [u8], state: BusState)
 // What the bus asks of the cells, done in place.
 fn apply(device: &mut [u8], ram: &mut [u8], step: Step) -> u32
     requires { (length device.old ≡ record_length) × (length ram.old ≡ ram_length) × InSpace step.effect }
-    ensures { record { device = device.exit.now; ram = ram.new; answer = result } ≡ step_on device.entry.now ram.old step }
+    ensures { record { device = device.new; ram = ram.new; answer = result } ≡ step_on device.old ram.old step }
 {
     let next = step.bus;
     let effect = step.effect;
@@ -88,7 +89,7 @@ fn apply(device: &mut [u8], ram: &mut [u8], step: Step) -> u32
 // A data byte: stored at the counter, which goes up.
 pub fn write_next(device: &mut [u8], ram: &mut [u8], x: u8) -> u32
     requires { (length device.old ≡ record_length) × (length ram.old ≡ ram_length) × (state_byte device.old ≡ state_number Write) }
-    ensures { record { device = device.exit.now; ram = ram.new; answer = result } ≡ event_on device.entry.now ram.old (Byte x) }
+    ensures { record { device = device.new; ram = ram.new; answer = result } ≡ event_on device.old ram.old (Byte x) }
 {
     let address = layout::counter_of(device) % limits::ADDRESS_SPACE;
     let next = Bus {
@@ -103,7 +104,7 @@ pub fn write_next(device: &mut [u8], ram: &mut [u8], x: u8) -> u32
 // A fetch: the byte at the counter, which goes up.
 pub fn read_next(device: &mut [u8], ram: &mut [u8]) -> u32
     requires { (length device.old ≡ record_length) × (length ram.old ≡ ram_length) × (state_byte device.old ≡ state_number Read) }
-    ensures { record { device = device.exit.now; ram = ram.new; answer = result } ≡ event_on device.entry.now ram.old Fetch }
+    ensures { record { device = device.new; ram = ram.new; answer = result } ≡ event_on device.old ram.old Fetch }
 {
     let address = layout::counter_of(device) % limits::ADDRESS_SPACE;
     let next = Bus {
@@ -132,7 +133,7 @@ fn go(device: &mut [u8], state: BusState)
 // Any event. A start and a stop leave the counter and are written at once; the others go by the step of the bus.
 pub fn hear(device: &mut [u8], ram: &mut [u8], kind: u8, byte: u8) -> u32
     requires { (length device.old ≡ record_length) × (length ram.old ≡ ram_length) × (kind ≤ last_kind) }
-    ensures { record { device = device.exit.now; ram = ram.new; answer = result } ≡ bus_on device.entry.now ram.old kind byte }
+    ensures { record { device = device.new; ram = ram.new; answer = result } ≡ bus_on device.old ram.old kind byte }
 {
     if kind == bus::START {
         go(device, BusState::Slave);

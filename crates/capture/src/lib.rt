@@ -85,6 +85,7 @@ impl Feed {
     }
 
     // The tests before any event, by the lengths that are lent. Refusals 1, 9, 10.
+    #[tactic(auto, unfolding(crate::specs::Capture::feed_verdict))]
     pub fn test(self, ram: usize, chunk: usize, out: usize) -> FeedTest
         requires { chunk < 2 ^ 63 }
         ensures { verdict_in result ≡ feed_verdict self ram chunk out }
@@ -102,6 +103,7 @@ impl Feed {
     }
 
     // Takes a chunk. Refusals 1, 9, 10; then 9 for a bad kind.
+    #[tactic(auto, using(crate::proofs::Laws::passed_takes), unfolding(crate::specs::Capture::feed_by, crate::specs::Capture::feed_chunk))]
     pub fn take(self, device: Device, ram: &mut [u8], chunk: &[u8], out: &mut [u8]) -> FeedDone
         ensures { feed_outcome result ram.new out.new ≡ feed_chunk (chip device ram.old) self chunk.now out.old }
     {

@@ -1,13 +1,13 @@
 -- A list that is written one number a turn: what is written and what is left are all of it.
 -- Assumes nothing.
 use Prim.Native.Nat.{ℕ, zero, suc, ◌+◌, ◌-◌, ◌/◌, ◌≤◌, ◌<◌}
-use mathlib.Core.Path.{◌≡◌, refl, sym, ap, ◌∙◌}
+use mathlib.Core.Path.{◌≡◌, sym, ap, ◌∙◌}
 use mathlib.Core.List.{List, [], ◌∷◌, ◌++◌, append-nil, append_assoc}
 use native.Mathlib.Nat.{not-suc-le-zero}
 use native.Mathlib.Numerals.{add-one, sub-one}
 use native.Mathlib.Omega.{arith}
 use lib.ListN.{length, get_or, take, drop, set, length-set, drop_of_length-le}
-use lib.Seq.{take_all, take_at, drop-cons, take-suc-set, drop-set-lt, get_or-set_same}
+use lib.Seq.{take_all, drop-cons, take-suc-set, drop-set-lt, get_or-set_same}
 
 -- ---- from the front
 
@@ -24,11 +24,6 @@ pub written-more : (all out : List ℕ) (i v d : ℕ) → i < length out → i <
     → take (i + 1) (set out i v) ++ drop (i + 1) all ≡ all
 written-more all out i v d h k e p =
     front-more all out (drop (i + 1) all) i (i + 1) v (omega arith) h (rw (p, add-one, ← drop-cons all i d k) e)
-
--- no room is left
-pub written-part : (all out : List ℕ) (i : ℕ) → i ≡ length out → take i out ++ drop i all ≡ all → out ≡ take (length out) all
-written-part all out i h e =
-    sym (take_at out (drop i all) (length out) refl) ∙ ap (take (length out)) (ap (λ (l : List ℕ). l ++ drop i all) (sym (take_all i out (omega arith))) ∙ e)
 
 -- and nothing more is to be written
 pub written-whole : (all out : List ℕ) (i : ℕ) → i ≡ length out → i ≡ length all → take i out ++ drop i all ≡ all → out ≡ all

@@ -1,8 +1,8 @@
 -- A chunk's events on the bytes: an answer's two bytes, a turn of the loop, and the cases of a feed.
 -- Assumes nothing.
-use Prim.Native.Nat.{ℕ, suc, ◌%◌, ◌≤◌, ◌<◌}
+use Prim.Native.Nat.{ℕ, suc, ◌-◌, ◌*◌, ◌%◌, ◌≤◌, ◌<◌}
 use mathlib.Core.Path.{◌≡◌, refl, sym, ap, ap₂, ◌∙◌}
-use mathlib.Core.Bool.{Bool, cond}
+use mathlib.Core.Bool.{Bool, false, cond}
 use mathlib.Core.List.{List, [], ◌∷◌}
 use native.Mathlib.Omega.{arith}
 use borrow.Author.Tests.{le-ltb}
@@ -13,9 +13,10 @@ use Rattle.refusals.specs.Refusals.{Reply, refused, Verdict, passed, failed}
 use Rattle.bus.specs.Bus.{event_of, bad_kind, last_kind}
 use Rattle.buffers.specs.Buffers.{Bytes}
 use Rattle.device.specs.Device.{hear_event}
-use Rattle.capture.specs.Capture.{output_of, taken_reply, Played, play_chunk}
+use Rattle.capture.specs.declared.Feed.{Feed}
+use Rattle.capture.specs.Capture.{output_of, is_shut, held_bytes, held_kind, would_complete, taken_reply, Played, play_chunk}
 use Rattle.capture.specs.Places.{kind_at, from}
-use Rattle.capture.proofs.Laws.{from-event}
+use Rattle.capture.proofs.Laws.{from-event, from_first, rest-whole}
 use Rattle.layout.specs.Layout.{record_length, device_in}
 use Rattle.interface.specs.Interface.{answer_of, is_accepted, BusDone, heard_on, bus_on, chunk_max, ChipBytes, lent, bus_calls, FeedDone, not_fed_on, played_on, chunk_fed_on, fed_on_by, verdict_on, feed_on}
 use Rattle.layout.specs.FeedLayout.{feed_length, feed_bytes, feed_in}
@@ -58,6 +59,11 @@ from-heard xs ram chunk held i out n {o} {out'} {kind} l h k m p b q u j v =
     let written = u ∙ ap (sets out n) two in
     (λ z. from bus_calls (lent o.device o.ram) chunk held (j z) (written z) (v z))
     ∙ sym (turn xs ram chunk held i out n kind m (sym p) b (sym q) refl)
+
+-- what a chunk's events leave, by what is left of it at its first place
+pub all_taken : (c : ChipBytes) (f : Feed) (chunk out : List ℕ) (kind bytes : ℕ) {r : Played ChipBytes} → kind ≡ held_kind f → bytes ≡ held_bytes f → is_shut f ≡ false
+    → 2 * would_complete f (length chunk) ≤ length out → r ≡ from bus_calls c chunk kind (1 - bytes) out 0 → r ≡ play_chunk bus_calls c f chunk out
+all_taken c f chunk out kind bytes k b s h e = e ∙ from_first bus_calls c f chunk out kind bytes k b s ∙ rest-whole bus_calls c f chunk out h
 
 -- ---- a feed
 

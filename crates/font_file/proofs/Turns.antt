@@ -1,6 +1,6 @@
 -- The turns of the loops over blocks: what is done and what is left are all.
 -- Assumes nothing.
-use Prim.Native.Nat.{ℕ, suc, ◌+◌, ◌-◌, ◌*◌, ◌≤◌, ◌<◌, min}
+use Prim.Native.Nat.{ℕ, suc, ◌+◌, ◌-◌, ◌*◌, ◌<◌, min}
 use mathlib.Core.Path.{◌≡◌, sym, ap, ◌∙◌}
 use mathlib.Core.List.{List, [], ◌∷◌, ◌++◌, append-nil}
 use native.Mathlib.Nat.{add-sub_cancel_left}
@@ -11,7 +11,7 @@ use lib.Seq.{sets, take_at}
 use Rattle.facts.proofs.Parts.{sets-append}
 use Rattle.limits.specs.Limits.{font_length}
 use Rattle.font_file.specs.FontFile.{block_count, payload_length, used_length}
-use Rattle.font_file.proofs.Files.{used_left, first_long, next}
+use Rattle.font_file.proofs.Files.{first_long, next}
 
 -- ---- pieces put in place, one after the other
 
@@ -39,10 +39,6 @@ module _ (m n : ℕ) (piece : ℕ → List ℕ → List ℕ) (f : ℕ → ℕ �
 -- ---- what block k has of the font
 
 module _ (k used : ℕ) (h : k < block_count) (u : used ≡ used_length k) where
-  -- it lies in the font
-  pub used_fits : payload_length * k + used ≤ font_length
-  used_fits = omega (arith, used_left k (omega arith))
-
   pub font-part : (font : List ℕ) → length font ≡ font_length → let first : List ℕ = take payload_length (drop (payload_length * k) font) in
       (take (payload_length * k + used - payload_length * k) (drop (payload_length * k) font) ≡ first) × (length first ≡ used_length k)
   font-part font l =

@@ -173,7 +173,7 @@ fn write_blocks(font: &[u8], file: &mut [u8])
 
 // Writes the font as a file. Refusal 15.
 pub fn write(font: &[u8], file: &mut [u8]) -> FileAnswer
-    ensures { record { file = file.exit.now; reply = file_reply result } ≡ write_font font.now file.entry.now }
+    ensures { record { file = file.new; reply = file_reply result } ≡ write_font font.now file.old }
 {
     if font.len() != limits::FONT_LENGTH {
         return FileAnswer::Refused(FileRefusal::Length);
@@ -275,7 +275,7 @@ fn copy_font(file: &[u8], font: &mut [u8])
 
 // Reads the font of a file. Refusals 15, then of the first bad block 16 or 17. All blocks are tested before the first byte is written.
 pub fn read(file: &[u8], font: &mut [u8]) -> FileAnswer
-    ensures { record { font = font.exit.now; reply = file_reply result } ≡ read_font file.now font.entry.now }
+    ensures { record { font = font.new; reply = file_reply result } ≡ read_font file.now font.old }
 {
     if font.len() != limits::FONT_LENGTH {
         return FileAnswer::Refused(FileRefusal::Length);

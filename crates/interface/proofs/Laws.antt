@@ -12,13 +12,13 @@ use lib.ListN.{length, set}
 use lib.Seq.{set-get_or}
 use Rattle.refusals.specs.Refusals.{Reply}
 use Rattle.bus.specs.Bus.{event_of, bus_event, last_kind}
-use Rattle.device.specs.Device.{hear_event, start_frame, draw_line, ask_cell}
+use Rattle.device.specs.Device.{hear_event, draw_line, ask_cell}
 use Rattle.pixel.specs.Ask.{ask_pixel}
 use Rattle.layout.specs.Layout.{bus_at, record_length, is_deaf, state_byte, device_in}
 use Rattle.layout.specs.FeedLayout.{feed_length}
 use Rattle.layout.proofs.Laws.{numbered, state-byte}
 use Rattle.interface.specs.Interface as face
-use Rattle.interface.specs.Interface.{value_bound, answer_of, is_accepted, answer_not_taken, is_record, fresh_on, ignored_on, heard_on, bus_on, started_on, start_on, drawn_on, draw_on, cell_on, pixel_on, is_feed, chunk_max, feed_fresh_on, not_fed_on, fed_on_by, verdict_on, lengths_taken, feed_on}
+use Rattle.interface.specs.Interface.{value_bound, answer_of, is_accepted, answer_not_taken, is_record, fresh_on, ignored_on, heard_on, bus_on, start_on, drawn_on, draw_on, cell_on, pixel_on, is_feed, chunk_max, feed_fresh_on, not_fed_on, fed_on_by, verdict_on, lengths_taken, feed_on}
 
 -- what holds of a call that the interface's own tests let through, and of one that they do not, holds of the call
 pub if_taken : {A : Type 0} (P : A → Type 0) (t : Bool) (x y : A) → (t ≡ true → P x) → P y → P (cond t x y)
@@ -114,10 +114,6 @@ module _ (xs ram : List ℕ) (kind byte : ℕ) (h : length xs ≡ record_length)
 -- ---- the other calls, on a record that is one
 
 module _ (xs : List ℕ) (h : length xs ≡ record_length) where
-  pub start_is : (lines : ℕ) → started_on xs (start_frame (device_in xs) lines) ≡ start_on xs lines
-  unfolding start_on
-  start_is lines = rw (eq-eqb _ _ h)
-
   pub draw-is : (ram font line : List ℕ) → drawn_on xs (draw_line (device_in xs) ram font line) ≡ draw_on xs ram font line
   unfolding draw_on
   draw-is ram font line = rw (eq-eqb _ _ h)

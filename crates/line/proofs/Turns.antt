@@ -100,8 +100,8 @@ module _ (ram : List ℕ) (n : ℕ) (s : Slice) (a : ℕ) (p : even a ≡ a) whe
       ≡ 2 + length (cells ram (glyph_of (get_or ram (a + 1) 0) s)) + length (cells ram (codes n s (next a))))
   unfolding codes_by value cells
   on_here e = (
-    rw (value, p, e, value-bind, value-fmap),
-    rw (p, e, cells-bind, cells-fmap, length-append (cells ram (glyph_of (get_or ram (a + 1) 0) s)) _) (omega arith),
+    rw (value, p, e) (value-bind ram (glyph_of (get_or ram (a + 1) 0) s) _ ∙ value-fmap ram _ (codes n s (next a))),
+    rw (p, e, cells-bind ram, cells-fmap ram, length-append (cells ram (glyph_of (get_or ram (a + 1) 0) s)) _) (omega arith),
   )
 
 -- ---- the room of a line

@@ -23,9 +23,10 @@ pub extern "C" fn osd_device_len() -> u32
     layout::DEVICE_LENGTH as u32
 }
 
+#[tactic(auto, unfolding(interface::specs::Interface::fresh_on))]
 #[unsafe(no_mangle)]
 pub extern "C" fn osd_fresh(device: &mut [u8]) -> u32
-    ensures { record { device = device.exit.now; answer = result } ≡ fresh_on device.entry.now }
+    ensures { record { device = device.new; answer = result } ≡ fresh_on device.old }
 {
     if device.len() != layout::DEVICE_LENGTH {
         return NOT_TAKEN;
@@ -37,7 +38,7 @@ pub extern "C" fn osd_fresh(device: &mut [u8]) -> u32
 // A reset leaves a fresh device. RAM is not touched: none is lent.
 #[unsafe(no_mangle)]
 pub extern "C" fn osd_reset(device: &mut [u8]) -> u32
-    ensures { record { device = device.exit.now; answer = result } ≡ fresh_on device.entry.now }
+    ensures { record { device = device.new; answer = result } ≡ fresh_on device.old }
 {
     osd_fresh(device)
 }
@@ -46,7 +47,7 @@ pub extern "C" fn osd_reset(device: &mut [u8]) -> u32
 // looked for first.
 #[unsafe(no_mangle)]
 pub extern "C" fn osd_bus(device: &mut [u8], ram: &mut [u8], kind: u8, byte: u8) -> u32
-    ensures { record { device = device.exit.now; ram = ram.new; answer = result } ≡ bus_on device.entry.now ram.old kind byte }
+    ensures { record { device = device.new; ram = ram.new; answer = result } ≡ bus_on device.old ram.old kind byte }
 {
     if device.len() != layout::DEVICE_LENGTH {
         return NOT_TAKEN;
@@ -71,9 +72,10 @@ pub extern "C" fn osd_bus(device: &mut [u8], ram: &mut [u8], kind: u8, byte: u8)
     bus_bytes::hear(device, ram, kind, byte)
 }
 
+#[tactic(auto, unfolding(interface::specs::Interface::start_on, interface::specs::Interface::started_on))]
 #[unsafe(no_mangle)]
 pub extern "C" fn osd_frame_start(device: &mut [u8], lines: u32) -> u32
-    ensures { record { device = device.exit.now; answer = result } ≡ start_on device.entry.now lines }
+    ensures { record { device = device.new; answer = result } ≡ start_on device.old lines }
 {
     if device.len() != layout::DEVICE_LENGTH {
         return NOT_TAKEN;
@@ -91,6 +93,7 @@ pub extern "C" fn osd_frame_start(device: &mut [u8], lines: u32) -> u32
     }
 }
 
+#[tactic(auto, unfolding(interface::specs::Interface::draw_on, interface::specs::Interface::drawn_on))]
 #[unsafe(no_mangle)]
 pub extern "C" fn osd_draw<'a>(
     device: &mut [u8],
@@ -98,7 +101,7 @@ pub extern "C" fn osd_draw<'a>(
     font: &'a [u8],
     line: &mut [u8],
 ) -> u32
-    ensures { record { device = device.exit.now; line = line.new; answer = result } ≡ draw_on device.entry.now ram.now font.now line.old }
+    ensures { record { device = device.new; line = line.new; answer = result } ≡ draw_on device.old ram.now font.now line.old }
 {
     if device.len() != layout::DEVICE_LENGTH {
         return NOT_TAKEN;
@@ -117,6 +120,7 @@ pub extern "C" fn osd_draw<'a>(
     }
 }
 
+#[tactic(auto, unfolding(interface::specs::Interface::cell_on))]
 #[unsafe(no_mangle)]
 pub extern "C" fn osd_cell(device: &[u8], ram: &[u8], cell: u32) -> u32
     ensures { result ≡ cell_on device.now ram.now cell }
@@ -129,6 +133,7 @@ pub extern "C" fn osd_cell(device: &[u8], ram: &[u8], cell: u32) -> u32
 }
 
 // Of the record only the registers are looked at.
+#[tactic(auto, unfolding(interface::specs::Interface::pixel_on))]
 #[unsafe(no_mangle)]
 pub extern "C" fn osd_pixel<'a>(
     device: &[u8],
@@ -156,9 +161,10 @@ pub extern "C" fn osd_feed_len() -> u32
 }
 
 // Makes a feed anew.
+#[tactic(auto, unfolding(interface::specs::Interface::feed_fresh_on))]
 #[unsafe(no_mangle)]
 pub extern "C" fn osd_feed_fresh(feed: &mut [u8]) -> u32
-    ensures { record { feed = feed.exit.now; answer = result } ≡ feed_fresh_on feed.entry.now }
+    ensures { record { feed = feed.new; answer = result } ≡ feed_fresh_on feed.old }
 {
     if feed.len() != layout::FEED_LENGTH {
         return NOT_TAKEN;
@@ -175,7 +181,7 @@ pub extern "C" fn osd_feed(
     chunk: &[u8],
     out: &mut [u8],
 ) -> u32
-    ensures { record { device = device.exit.now; feed = feed.new; ram = ram.new; out = out.new; answer = result } ≡ feed_on device.entry.now feed.old ram.old chunk.now out.old }
+    ensures { record { device = device.new; feed = feed.new; ram = ram.new; out = out.new; answer = result } ≡ feed_on device.old feed.old ram.old chunk.now out.old }
 {
     if device.len() != layout::DEVICE_LENGTH {
         return NOT_TAKEN;
@@ -199,17 +205,19 @@ pub extern "C" fn osd_feed(
     }
 }
 
+#[tactic(auto, unfolding(interface::specs::Interface::font_write_on))]
 #[unsafe(no_mangle)]
 pub extern "C" fn osd_font_write(font: &[u8], file: &mut [u8]) -> u32
-    ensures { record { file = file.exit.now; answer = result } ≡ font_write_on font.now file.entry.now }
+    ensures { record { file = file.new; answer = result } ≡ font_write_on font.now file.old }
 {
     let reply = font_file::write(font, file);
     interface::answer(reply.refusal(), reply.value() as u16)
 }
 
+#[tactic(auto, unfolding(interface::specs::Interface::font_read_on))]
 #[unsafe(no_mangle)]
 pub extern "C" fn osd_font_read(file: &[u8], font: &mut [u8]) -> u32
-    ensures { record { font = font.exit.now; answer = result } ≡ font_read_on file.now font.entry.now }
+    ensures { record { font = font.new; answer = result } ≡ font_read_on file.now font.old }
 {
     let reply = font_file::read(file, font);
     interface::answer(reply.refusal(), reply.value() as u16)

@@ -1,7 +1,7 @@
 -- The laws of a line's geometry.
 -- Assumes nothing.
-use Prim.Native.Nat.{ℕ, zero, suc, ◌+◌, ◌-◌, ◌*◌, ◌/◌, ◌≤◌, ◌<◌}
-use mathlib.Core.Path.{◌≡◌, refl, sym, ◌∙◌}
+use Prim.Native.Nat.{ℕ, suc, ◌+◌, ◌-◌, ◌*◌, ◌/◌, ◌≤◌, ◌<◌}
+use mathlib.Core.Path.{◌≡◌, sym, ◌∙◌}
 use mathlib.Core.Bool.{Bool, true, false}
 use native.Mathlib.Decide.{dec_le}
 use native.Mathlib.Nat.{div-lt_iff_lt-mul}
@@ -9,7 +9,7 @@ use native.Mathlib.Omega.{arith}
 use borrow.Author.Tests.{leb-false, le-leb, lt-leb, eq-eqb, ne_eqb}
 use lib.Dec.{eqb, leb}
 use Rattle.raster.specs.declared.ScanLine.{ScanLine}
-use Rattle.raster.specs.Raster.{strip_lines, before_first, following, InStrip, is_last, lines_after, HasNext, unzoomed, slice_number, hidden_in}
+use Rattle.raster.specs.Raster.{strip_lines, before_first, following, InStrip, is_last, lines_after, HasNext, unzoomed, slice_number}
 
 -- ---- the scan lines of a strip
 
@@ -82,10 +82,3 @@ in_strip j ch zoom h = (unzoomed_bound j ch zoom h, height_pos j ch zoom h)
 -- another character has room to start exactly while its first pixel is below W
 pub characters_more : (left : ℕ) → 0 < left → (left + 11) / 12 ≡ suc ((left - 12 + 11) / 12)
 characters_more left h = omega arith
-
--- modes other than 0, 1 and 2 are mode 3
-pub hidden_rest : (fl f : ℕ) → (fl ≡ 0 → ⊥) → (fl ≡ 1 → ⊥) → (fl ≡ 2 → ⊥) → hidden_in fl f ≡ leb 48 f
-hidden_rest zero f a b d = absurd (a refl)
-hidden_rest (suc zero) f a b d = absurd (b refl)
-hidden_rest (suc (suc zero)) f a b d = absurd (d refl)
-hidden_rest (suc (suc (suc n))) f a b d = refl

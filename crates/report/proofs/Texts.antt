@@ -1,15 +1,14 @@
 -- The laws of the input's parts, of the decimal digits, and of a text that is written part by part.
 -- Assumes nothing.
-use Prim.Native.Nat.{ℕ, zero, suc, ◌+◌, ◌-◌, ◌/◌, ◌≤◌, ◌<◌, min}
-use mathlib.Core.Path.{◌≡◌, refl, sym, ap, ap₂, ◌∙◌}
+use Prim.Native.Nat.{ℕ, zero, suc, ◌+◌, ◌/◌, ◌≤◌, ◌<◌}
+use mathlib.Core.Path.{◌≡◌, refl, ap, ◌∙◌}
 use mathlib.Core.List.{List, [], ◌++◌}
 use native.Mathlib.Nat.{zero-add}
-use native.Mathlib.Decide.{dec_le}
 use native.Mathlib.Omega.{arith}
 use lib.Dec.{ltb}
 use borrow.Author.Tests.{eq-eqb, ne_eqb, lt-ltb, le-ltb}
-use lib.ListN.{length, take, drop, length-append, length-drop, length-map, drop_of_length-le}
-use lib.Seq.{take_all, take-nil, sets, sets-eq}
+use lib.ListN.{length, length-append, length-map}
+use lib.Seq.{sets, sets-eq}
 use Rattle.facts.proofs.Choice.{either}
 use Rattle.facts.proofs.Parts.{sets-append}
 use Rattle.buffers.specs.Buffers.{bytes_of}
@@ -17,26 +16,6 @@ use Rattle.device.specs.Device.{DrawOutcome}
 use Rattle.report.specs.Report.{places_of, digits, decimal, Put, refusal_text, heading_text, line_text, TextOutcome, write_text, text_outcome, LineOutcome, text_of}
 
 -- ---- parts of the input
-
--- a part cut to what there is
-pub part-is : (l : List ℕ) (start end s e : ℕ) → start ≤ end → e ≡ min end (length l) → s ≡ min start e
-    → take (e - s) (drop s l) ≡ take (end - start) (drop start l)
-part-is l start end s e h p q = by (dec_le start e) (dec_le end (length l))
-  where
-    by : Dec (start ≤ e) → Dec (end ≤ length l) → take (e - s) (drop s l) ≡ take (end - start) (drop start l)
-    by (yes k) (yes m) =
-        let f : e ≡ end = omega arith in
-        let g : s ≡ start = omega arith in
-        ap₂ (λ (x y : ℕ). take (x - y) (drop y l)) f g
-    by (yes k) (no m) =
-        let g : s ≡ start = omega arith in
-        ap (λ (y : ℕ). take (e - y) (drop y l)) g
-        ∙ take_all (e - start) (drop start l) (omega (arith, length-drop start l))
-        ∙ sym (take_all (end - start) (drop start l) (omega (arith, length-drop start l)))
-    by (no k) m =
-        let f : e - s ≡ 0 = omega arith in
-        ap (λ (x : ℕ). take x (drop s l)) f
-        ∙ sym (ap (take (end - start)) (drop_of_length-le l {i = start} (omega arith)) ∙ take-nil (end - start))
 
 -- ---- digits
 

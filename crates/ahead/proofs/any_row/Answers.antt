@@ -1,12 +1,6 @@
 -- `any_row`: a marked row that shows the user character, if there is one, is still to come.
-use Prim.Native.Nat.{◌-◌, ◌≤◌, ◌<◌}
-use mathlib.Core.Bool.{true}
-use mathlib.Core.Path.{◌≡◌, sym, ◌∙◌}
-use native.Mathlib.Omega.{arith}
-use borrow.Author.Rules.{rules}
-use lib.Dec.{T}
-use Rattle.ahead.specs.Looking.{is_marked, any_row}
-use Rattle.ahead.proofs.Marks.{Showing, showing_of, showing_from, showing_next, row_shows, none_showing}
+use mathlib.Core.Path.{sym, ◌∙◌}
+use Rattle.ahead.proofs.Marks.{showing_of, showing_from, showing_next, row_shows}
 use Rattle.ahead.proofs.any_row.Goals as goal
 
 pub loop-row-init : goal.loop-row-init
@@ -14,17 +8,11 @@ loop-row-init c =
     let r = c.next_row-row.ensures in
     (r.most, r.is, λ t. showing_from _ _ _ _ 0 _ r (showing_of _ _ _ _ t))
 
-pub own_codes-own-requires : goal.own_codes-own-requires
-own_codes-own-requires c = omega (arith, c.next_row-next.ensures.from)
-
 pub returns-then-user_reads : goal.returns-then-user_reads
 returns-then-user_reads c =
     let l = c.loop-row in
     let h = c.loop-row-test.true in
     row_shows _ _ _ _ l.row _ c.own_codes-own.ensures.most h (l.invariant.1 h) (sym c.user_reads.ensures ∙ c.if-user_reads.true)
-
-pub loop-row-smaller : goal.loop-row-smaller
-loop-row-smaller c = omega (arith, c.next_row-next.ensures.from, c.loop-row-test.true)
 
 pub loop-row-preserved : goal.loop-row-preserved
 loop-row-preserved c =
@@ -36,6 +24,3 @@ loop-row-preserved c =
           showing_next _ _ _ _ l.row _ r _ c.own_codes-own.ensures
           (sym c.user_reads.ensures ∙ c.if-user_reads.false) (l.invariant.2 t),
     )
-
-pub returns : goal.returns
-returns c = none_showing _ _ _ _ _ c.loop-row-test.false c.loop-row.invariant.2

@@ -1,12 +1,10 @@
 -- `any_row`: a marked row that shows the user character, if there is one, is still to come.
 use Prim.Native.Nat.{◌-◌, ◌≤◌, ◌<◌}
 use mathlib.Core.Bool.{true}
-use mathlib.Core.Path.{◌≡◌, sym, ◌∙◌}
-use native.Mathlib.Omega.{arith}
-use borrow.Author.Rules.{rules}
+use mathlib.Core.Path.{◌≡◌}
 use lib.Dec.{T}
 use Rattle.ahead.specs.Looking.{is_marked, any_row}
-use Rattle.ahead.proofs.Marks.{Showing, showing_of, showing_from, showing_next, row_shows, none_showing}
+use Rattle.ahead.proofs.Marks.{Showing}
 use Rattle.ahead.proofs.any_row.Given as goal
 
 abbrev pub invariant-loop-row : goal.invariant-loop-row

@@ -1,11 +1,7 @@
 -- `look_lines`: each turn passes a descriptor and its strip; what is marked and what is still to look at add up to the same (`SumSame`).
-use Prim.Native.Nat.{◌*◌, ◌≤◌, ◌<◌}
-use mathlib.Core.Path.{refl, ap}
-use native.Mathlib.Omega.{arith}
-use borrow.Author.Rules.{rules}
-use Rattle.walk.specs.Walk.{lines_left}
-use Rattle.ahead.specs.Looking.{codes_to, Far, Kept, Posed}
-use Rattle.ahead.proofs.Looks.{SumSame, sum-start, sum_on, lines_here, lines_last, lines_found, lines-over}
+use Prim.Native.Nat.{◌*◌, ◌<◌}
+use Rattle.ahead.specs.Looking.{codes_to, Far, Kept}
+use Rattle.ahead.proofs.Looks.{SumSame}
 use Rattle.ahead.proofs.look_lines.Given as goal
 
 abbrev pub invariant-loop-left : goal.invariant-loop-left

@@ -1,5 +1,4 @@
 -- `lowest`: as long as no bit was passed that is set, the first that is left is the lowest.
-use borrow.Author.Rules.{rules}
 use Rattle.ahead.proofs.Marks.{no_zeros}
 use Rattle.ahead.proofs.lowest.Goals as goal
 

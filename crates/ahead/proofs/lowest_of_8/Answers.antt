@@ -1,6 +1,5 @@
 -- `lowest_of_8`: after the last pass the first digit left is set.
 use native.Mathlib.Omega.{arith}
-use borrow.Author.Rules.{rules}
 use Rattle.ahead.proofs.Marks.{all-zeros}
 use Rattle.ahead.proofs.lowest_of_8.Goals as goal
 

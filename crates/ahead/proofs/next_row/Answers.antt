@@ -1,18 +1,8 @@
 -- `next_row`: no row passed so far is marked; a word's rest tells of its rows (`word-passed`, `word_next`).
-use Prim.Native.Nat.{ℕ, ◌-◌, ◌≤◌, ◌<◌}
-use mathlib.Core.Path.{◌≡◌}
-use mathlib.Core.Bool.{false}
 use native.Mathlib.Omega.{arith}
 use borrow.Author.Rules.{rules}
-use Rattle.ahead.specs.Looking.{is_marked}
 use Rattle.ahead.proofs.Marks.{word-passed, word_next}
 use Rattle.ahead.proofs.next_row.Goals as goal
-
-pub loop-p-init : goal.loop-p-init
-loop-p-init c = (search rules, search rules, λ i l h. absurd (omega arith))
-
-pub overflow_add-result : goal.overflow_add-result
-overflow_add-result c = omega (arith, c.lowest.ensures.most)
 
 pub returns-then-rest-ne0 : goal.returns-then-rest-ne0
 returns-then-rest-ne0 c =
@@ -23,8 +13,3 @@ pub loop-p-preserved : goal.loop-p-preserved
 loop-p-preserved c =
     let l = c.loop-p in
     (search rules, search rules, word-passed _ _ l.p l.invariant.2 c.if-rest-ne0.false)
-
-pub returns : goal.returns
-returns c =
-    let l = c.loop-p in
-    record { from = omega arith; most = search rules; none = λ i k h. l.invariant.2 i k (omega arith); is = λ h. absurd (omega arith) }

@@ -2,10 +2,7 @@
 use Prim.Native.Nat.{ℕ, ◌-◌, ◌≤◌, ◌<◌}
 use mathlib.Core.Path.{◌≡◌}
 use mathlib.Core.Bool.{false}
-use native.Mathlib.Omega.{arith}
-use borrow.Author.Rules.{rules}
 use Rattle.ahead.specs.Looking.{is_marked}
-use Rattle.ahead.proofs.Marks.{word-passed, word_next}
 use Rattle.ahead.proofs.next_row.Given as goal
 
 abbrev pub invariant-loop-p : goal.invariant-loop-p

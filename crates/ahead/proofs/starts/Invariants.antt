@@ -1,11 +1,6 @@
 -- `starts`: no code passed so far ends a line.
 use Prim.Native.Nat.{ℕ, ◌+◌, ◌-◌, ◌≤◌, ◌<◌}
-use mathlib.Core.Path.{sym, ◌∙◌}
-use mathlib.Core.Bool.{true≢false}
-use native.Mathlib.Omega.{arith}
-use borrow.Author.Count.{below_more}
-use borrow.Author.Rules.{rules}
-use Rattle.ahead.proofs.Rows.{EndsBack, starts_at}
+use Rattle.ahead.proofs.Rows.{EndsBack}
 use Rattle.ahead.proofs.starts.Given as goal
 
 abbrev pub invariant-loop-m : goal.invariant-loop-m

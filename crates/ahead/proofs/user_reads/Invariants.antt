@@ -1,13 +1,7 @@
 -- `user_reads`: each turn passes one code; what is left of the row shows the user character exactly if the row does.
-use Prim.Native.Nat.{◌+◌, ◌-◌, ◌*◌, ◌%◌, ◌≤◌, ◌<◌}
-use mathlib.Core.Path.{◌≡◌, refl, sym, ◌∙◌}
-use mathlib.Core.Bool.{false, cond, ◌||◌}
-use lib.Dec.{eqb}
-use lib.ListN.{get_or}
-use borrow.Author.Rules.{rules}
-use borrow.Author.Tests.{eq-eqb, ne_eqb}
+use Prim.Native.Nat.{◌*◌, ◌≤◌, ◌<◌}
+use mathlib.Core.Path.{◌≡◌}
 use Rattle.ahead.specs.Looking.{user_reads}
-use Rattle.ahead.proofs.Marks.{one_more, reads_none}
 use Rattle.ahead.proofs.user_reads.Given as goal
 
 abbrev pub invariant-loop-left : goal.invariant-loop-left

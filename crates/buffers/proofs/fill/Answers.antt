@@ -1,11 +1,11 @@
 -- `fill`: the bytes before i are filled, the others stay.
-use Prim.Native.Nat.{ℕ, ◌-◌, ◌≤◌}
+use Prim.Native.Nat.{ℕ}
 use mathlib.Core.Path.{◌≡◌, refl, ap, ◌∙◌}
-use mathlib.Core.List.{List, ◌++◌, append-nil}
+use mathlib.Core.List.{List, append-nil}
 use native.Mathlib.Omega.{arith}
 use borrow.Author.Rules.{rules}
 use borrow.Author.Fill.{fill_more}
-use lib.ListN.{length, drop, set, replicate}
+use lib.ListN.{length, set}
 use lib.Seq.{drop-length}
 use Rattle.buffers.proofs.fill.Goals as goal
 

@@ -1,7 +1,6 @@
 -- `hex_digit`: the test on the digit picks the case of `hex_digit`.
 use native.Mathlib.Omega.{arith}
 use borrow.Author.Tests.{lt-ltb, le-ltb}
-use borrow.Author.Rules.{rules}
 use Rattle.buffers.proofs.hex_digit.Goals as goal
 
 pub returns-then-digit-lt10 : goal.returns-then-digit-lt10

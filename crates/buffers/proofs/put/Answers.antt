@@ -1,9 +1,8 @@
 -- `put`: a copy over the part.
 use Prim.Native.Nat.{◌-◌}
 use mathlib.Core.Path.{◌≡◌}
-use lib.ListN.{length, take, drop, length-take, length-drop}
+use lib.ListN.{length, drop, length-take, length-drop}
 use native.Mathlib.Omega.{arith}
-use borrow.Author.Rules.{rules}
 use Rattle.facts.proofs.Parts.{copied}
 use Rattle.buffers.proofs.put.Goals as goal
 

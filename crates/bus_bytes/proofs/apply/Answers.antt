@@ -7,24 +7,24 @@ use Rattle.bus_bytes.proofs.apply.Goals as goal
 
 pub store-requires : goal.store-requires
 store-requires c =
-    (search rules, search rules, subst InSpace c.effect-in-Store-1.is c.requires.2)
+    (search rules, search rules, subst InSpace c.in-Store.is c.requires.2)
 
 pub load-byte-requires : goal.load-byte-requires
 load-byte-requires c =
-    (search rules, search rules, subst InSpace c.effect-in-Load-1.is c.requires.2)
+    (search rules, search rules, subst InSpace c.in-Load.is c.requires.2)
 
 pub returns-in-Acknowledge : goal.returns-in-Acknowledge
-returns-in-Acknowledge c = applied_acknowledge _ _ _ _ c.write_bus.ensures c.enum_told-1.is
+returns-in-Acknowledge c = applied_acknowledge _ _ _ _ c.write_bus.ensures c.in-Acknowledge.is
 
 pub returns-in-Ignore : goal.returns-in-Ignore
-returns-in-Ignore c = applied_ignore _ _ _ _ _ _ c.effect-1.is c.ignore.ensures c.refuse.ensures
+returns-in-Ignore c = applied_ignore _ _ _ _ _ _ c.in-Ignore.is c.ignore.ensures c.refuse.ensures
 
 pub returns-in-Store : goal.returns-in-Store
 returns-in-Store c =
     applied_store _ _ _ _ c.write_bus-in-Store.ensures _ _ _ _
-    c.effect-in-Store-1.is c.store.ensures.registers c.store.ensures.cells
+    c.in-Store.is c.store.ensures.registers c.store.ensures.cells
 
 pub returns-in-Load : goal.returns-in-Load
 returns-in-Load c =
     applied_load _ _ _ _ c.write_bus-in-Load.ensures _ _
-    c.effect-in-Load-1.is c.load-byte.ensures
+    c.in-Load.is c.load-byte.ensures

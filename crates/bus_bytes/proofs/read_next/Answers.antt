@@ -1,5 +1,4 @@
 -- `read_next`: the step of the bus in its reading state.
-use borrow.Author.Rules.{rules}
 use Rattle.bus_bytes.proofs.Events.{fetched-next}
 use Rattle.bus_bytes.proofs.read_next.Goals as goal
 

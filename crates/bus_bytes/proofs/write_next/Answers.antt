@@ -1,5 +1,4 @@
 -- `write_next`: the step of the bus in its writing state.
-use borrow.Author.Rules.{rules}
 use Rattle.bus_bytes.proofs.Events.{written_next}
 use Rattle.bus_bytes.proofs.write_next.Goals as goal
 

@@ -1,23 +1,12 @@
 -- `read_run`: the tests, then a turn is a fetch.
-use Prim.Native.Nat.{ℕ, ◌+◌, ◌-◌, ◌%◌, ◌≤◌, ◌<◌}
+use Prim.Native.Nat.{ℕ, ◌+◌, ◌-◌, ◌%◌, ◌<◌}
 use mathlib.Core.Path.{◌≡◌, refl, sym, ap, ap₂, ◌∙◌}
 use native.Mathlib.Omega.{arith}
 use borrow.Author.Rules.{rules}
-use lib.ListN.{length, set, length-set}
+use lib.ListN.{set, length-set}
 use Rattle.limits.specs.Limits.{address_space}
-use Rattle.bus.specs.declared.BusState.TheVariants.{Read}
-use Rattle.capture.specs.Places.{from}
-use Rattle.layout.specs.Layout.{put_bus}
-use Rattle.interface.specs.Interface.{lent, bus_calls}
-use Rattle.feed_bytes.proofs.Runs.{at, fetched_first, fetched_on, InRun, in_run, kind_at_lem, kind_before, ran_none, ran_to}
+use Rattle.feed_bytes.proofs.Runs.{fetched_first, fetched_on, in_run, kind_at_lem, kind_before, ran_none, ran_to}
 use Rattle.feed_bytes.proofs.read_run.Goals as goal
-
-on : (c : goal.After-load-byte) → let l = c.loop-k in
-    let a = c.args in
-    InRun a.chunk.now a.out.now a.first a.i l.k
-on c =
-    let l = c.loop-k in
-    in_run c.args.chunk.now c.args.out.now c.args.first c.args.i l.k c.requires.place l.invariant.3 l.invariant.4 c.loop-k-test.true
 
 pub returns-then-device-ne-READING : goal.returns-then-device-ne-READING
 returns-then-device-ne-READING c = ran_none _ _ _ _ _
@@ -55,22 +44,13 @@ pub bounds-out-k-in-loop-k : goal.bounds-out-k-in-loop-k
 bounds-out-k-in-loop-k c =
     let l = c.loop-k in
     let a = c.args in
-    rw (length-set l.out (l.k + 1 - a.first) 1, l.invariant.2) (on c).room
-
-pub loop-k-smaller : goal.loop-k-smaller
-loop-k-smaller c =
-    let on : let l = c.loop-k in let a = c.args in InRun a.chunk.now a.out.now a.first a.i l.k =
-    let l = c.loop-k in
-    in_run c.args.chunk.now c.args.out.now c.args.first c.args.i l.k c.requires.place l.invariant.3 l.invariant.4 c.loop-k-test.true in
-    on.less
+    let o = in_run a.chunk.now a.out.now a.first a.i l.k c.requires.place l.invariant.3 l.invariant.4 c.loop-k-test.true in
+    rw (length-set l.out (l.k + 1 - a.first) 1, l.invariant.2) o.room
 
 pub loop-k-preserved : goal.loop-k-preserved
 loop-k-preserved c =
-    let on : let l = c.loop-k in let a = c.args in InRun a.chunk.now a.out.now a.first a.i l.k =
     let l = c.loop-k in
-    in_run c.args.chunk.now c.args.out.now c.args.first c.args.i l.k c.requires.place l.invariant.3 l.invariant.4 c.loop-k-test.true in
-    let l = c.loop-k in
-    let o = on in
+    let o = in_run c.args.chunk.now c.args.out.now c.args.first c.args.i l.k c.requires.place l.invariant.3 l.invariant.4 c.loop-k-test.true in
     let n : ℕ = l.k + 1 - c.args.first in (
       l.invariant.0,
       search rules,

@@ -1,15 +1,13 @@
 -- `read_run`: the tests, then a turn is a fetch.
 use Prim.Native.Nat.{ℕ, ◌+◌, ◌-◌, ◌%◌, ◌≤◌, ◌<◌}
-use mathlib.Core.Path.{◌≡◌, refl, sym, ap, ap₂, ◌∙◌}
-use native.Mathlib.Omega.{arith}
-use borrow.Author.Rules.{rules}
-use lib.ListN.{length, set, length-set}
+use mathlib.Core.Path.{◌≡◌}
+use lib.ListN.{length}
 use Rattle.limits.specs.Limits.{address_space}
 use Rattle.bus.specs.declared.BusState.TheVariants.{Read}
 use Rattle.capture.specs.Places.{from}
 use Rattle.layout.specs.Layout.{put_bus}
 use Rattle.interface.specs.Interface.{lent, bus_calls}
-use Rattle.feed_bytes.proofs.Runs.{at, fetched_first, fetched_on, InRun, in_run, kind_at_lem, kind_before, ran_none, ran_to}
+use Rattle.feed_bytes.proofs.Runs.{at}
 use Rattle.feed_bytes.proofs.read_run.Given as goal
 
 abbrev pub invariant-loop-k : goal.invariant-loop-k

@@ -1,21 +1,10 @@
 -- `take_events`: a turn is an event, and what is left from the next place on is what was left.
-use Prim.Native.Nat.{ℕ, ◌+◌, ◌-◌, ◌*◌, ◌/◌, ◌%◌, ◌≤◌}
-use mathlib.Core.List.{List}
-use native.Mathlib.Nat.{le_trans}
-use mathlib.Core.Path.{◌≡◌, refl, sym, ap, ◌∙◌}
-use native.Mathlib.Omega.{arith}
-use borrow.Author.Rules.{rules}
-use borrow.Author.Tests.{lt-ltb}
+use Prim.Native.Nat.{◌+◌, ◌-◌, ◌*◌, ◌/◌, ◌%◌, ◌≤◌}
+use mathlib.Core.Path.{◌≡◌}
 use lib.ListN.{length}
-use Rattle.bus.specs.Bus.{bad_kind}
-use Rattle.capture.specs.declared.Feed.{Feed}
 use Rattle.buffers.specs.Buffers.{Bytes}
 use Rattle.capture.specs.Places.{from}
-use Rattle.capture.proofs.Laws.{from_bad, from_end, from_first, held_one, rest-whole}
 use Rattle.interface.specs.Interface.{lent, bus_calls}
-use Rattle.feed_bytes.specs.Turns.{Place}
-use Rattle.feed_bytes.proofs.Feeds.{from-heard}
-use Rattle.feed_bytes.proofs.Runs.{next_place, goes_on, both_run, two_more}
 use Rattle.feed_bytes.proofs.take_events.Given as goal
 
 abbrev pub invariant-loop-i : goal.invariant-loop-i

@@ -1,23 +1,12 @@
 -- `write_run`: the tests, then a turn is a data byte.
-use Prim.Native.Nat.{ℕ, ◌+◌, ◌-◌, ◌%◌, ◌≤◌, ◌<◌}
+use Prim.Native.Nat.{ℕ, ◌+◌, ◌-◌, ◌%◌, ◌<◌}
 use mathlib.Core.Path.{◌≡◌, refl, sym, ap, ◌∙◌}
 use native.Mathlib.Omega.{arith}
 use borrow.Author.Rules.{rules}
-use lib.ListN.{length, set, length-set}
+use lib.ListN.{set, length-set}
 use Rattle.limits.specs.Limits.{address_space}
-use Rattle.bus.specs.declared.BusState.TheVariants.{Write}
-use Rattle.capture.specs.Places.{from}
-use Rattle.layout.specs.Layout.{put_bus}
-use Rattle.interface.specs.Interface.{lent, bus_calls}
-use Rattle.feed_bytes.proofs.Runs.{at, stored_first, stored_on_lem, InRun, in_run, kind_at_lem, kind_before, ran_none, ran_to}
+use Rattle.feed_bytes.proofs.Runs.{stored_first, stored_on_lem, in_run, kind_at_lem, kind_before, ran_none, ran_to}
 use Rattle.feed_bytes.proofs.write_run.Goals as goal
-
-on : (c : goal.After-slice_known-in-loop-k-2-1) → let l = c.loop-k in
-    let a = c.args in
-    InRun a.chunk.now a.out.now a.first a.i l.k
-on c =
-    let l = c.loop-k in
-    in_run c.args.chunk.now c.args.out.now c.args.first c.args.i l.k c.requires.place l.invariant.3 l.invariant.4 c.loop-k-test.true
 
 pub returns-then-device-ne-WRITING : goal.returns-then-device-ne-WRITING
 returns-then-device-ne-WRITING c = ran_none _ _ _ _ _
@@ -55,22 +44,13 @@ pub bounds-out-k-in-loop-k : goal.bounds-out-k-in-loop-k
 bounds-out-k-in-loop-k c =
     let l = c.loop-k in
     let a = c.args in
-    rw (length-set l.out (l.k + 1 - a.first) 1, l.invariant.2) (on c).room
-
-pub loop-k-smaller : goal.loop-k-smaller
-loop-k-smaller c =
-    let on : let l = c.loop-k in let a = c.args in InRun a.chunk.now a.out.now a.first a.i l.k =
-    let l = c.loop-k in
-    in_run c.args.chunk.now c.args.out.now c.args.first c.args.i l.k c.requires.place l.invariant.3 l.invariant.4 c.loop-k-test.true in
-    on.less
+    let o = in_run a.chunk.now a.out.now a.first a.i l.k c.requires.place l.invariant.3 l.invariant.4 c.loop-k-test.true in
+    rw (length-set l.out (l.k + 1 - a.first) 1, l.invariant.2) o.room
 
 pub loop-k-preserved : goal.loop-k-preserved
 loop-k-preserved c =
-    let on : let l = c.loop-k in let a = c.args in InRun a.chunk.now a.out.now a.first a.i l.k =
     let l = c.loop-k in
-    in_run c.args.chunk.now c.args.out.now c.args.first c.args.i l.k c.requires.place l.invariant.3 l.invariant.4 c.loop-k-test.true in
-    let l = c.loop-k in
-    let o = on in
+    let o = in_run c.args.chunk.now c.args.out.now c.args.first c.args.i l.k c.requires.place l.invariant.3 l.invariant.4 c.loop-k-test.true in
     let n : ℕ = l.k + 1 - c.args.first in (
       search rules,
       search rules,

@@ -1,15 +1,13 @@
 -- `write_run`: the tests, then a turn is a data byte.
 use Prim.Native.Nat.{ℕ, ◌+◌, ◌-◌, ◌%◌, ◌≤◌, ◌<◌}
-use mathlib.Core.Path.{◌≡◌, refl, sym, ap, ◌∙◌}
-use native.Mathlib.Omega.{arith}
-use borrow.Author.Rules.{rules}
-use lib.ListN.{length, set, length-set}
+use mathlib.Core.Path.{◌≡◌}
+use lib.ListN.{length}
 use Rattle.limits.specs.Limits.{address_space}
 use Rattle.bus.specs.declared.BusState.TheVariants.{Write}
 use Rattle.capture.specs.Places.{from}
 use Rattle.layout.specs.Layout.{put_bus}
 use Rattle.interface.specs.Interface.{lent, bus_calls}
-use Rattle.feed_bytes.proofs.Runs.{at, stored_first, stored_on_lem, InRun, in_run, kind_at_lem, kind_before, ran_none, ran_to}
+use Rattle.feed_bytes.proofs.Runs.{at}
 use Rattle.feed_bytes.proofs.write_run.Given as goal
 
 abbrev pub invariant-loop-k : goal.invariant-loop-k

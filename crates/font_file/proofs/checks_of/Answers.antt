@@ -1,5 +1,5 @@
 -- `checks_of`: what is summed up and what is left are the payload, modulo 65,536; then comes the heading.
-use Prim.Native.Nat.{ℕ, ◌+◌, ◌-◌, ◌*◌, ◌/◌, ◌%◌, ◌<◌}
+use Prim.Native.Nat.{ℕ, ◌+◌, ◌-◌, ◌*◌, ◌/◌, ◌%◌}
 use mathlib.Core.Path.{◌≡◌, sym, ap, ◌∙◌}
 use mathlib.Core.List.{List, ◌∷◌}
 use native.Mathlib.Nat.{mul-le-mul, add-mul-mod_self_left}
@@ -9,16 +9,12 @@ use borrow.Author.Rules.{rules}
 use lib.ListN.{get_or, take, drop, length-drop}
 use lib.Seq.{drop-cons}
 use Rattle.font_file.specs.declared.Column.{Column}
-use Rattle.font_file.specs.FontFile.{checked_length, heading_length, payload_length, sum as whole, weighted_sum}
+use Rattle.font_file.specs.FontFile.{checked_length, heading_length, sum as whole, weighted_sum}
 use Rattle.font_file.specs.Columns.{column_count, row_count, column_sum, column_weighted}
-use Rattle.font_file.proofs.Columns.{across, columns_from, column_next, columns-whole}
+use Rattle.font_file.proofs.Columns.{across, column_next, columns-whole}
 use Rattle.font_file.proofs.checks_of.Goals as goal
 
-abbrev payload : (block : List ℕ) → List ℕ
-payload block = take payload_length (drop heading_length block)
-
--- at the end, that the heading's four numbers are bytes
-
+-- a column goes from what is left to what is summed up: whole times 65,536 make no difference
 moved : (w x u b y v all : ℕ) → (w + (x + u) + column_count * (b + (y + v))) % 65536 ≡ all
     → ((w + x) % 65536 + u + column_count * ((b + y) % 65536 + v)) % 65536 ≡ all
 moved w x u b y v all e =
@@ -31,11 +27,8 @@ pub loop-at-init : goal.loop-at-init
 loop-at-init c =
     let block = c.args.block.now in
     let all = columns-whole row_count (heading_length + 1) (drop heading_length block) (omega (arith, length-drop heading_length block)) in
-    let b = c.shared_slice_known-1.given in
+    let b = c.type_inv.block in
     (search rules, omega arith, omega arith, (b 0).fits, (b 1).fits, (b 2).fits, (b 3).fits)
-
-pub overflow_mul-at : goal.overflow_mul-at
-overflow_mul-at c = omega (arith, wrapped-weighted-requires c tt)
 
 pub wrapped-weighted-requires : goal.wrapped-weighted-requires
 wrapped-weighted-requires c =

@@ -1,19 +1,17 @@
 -- `checks_of`: what is summed up and what is left are the payload, modulo 65,536; then comes the heading.
-use Prim.Native.Nat.{ℕ, ◌+◌, ◌-◌, ◌*◌, ◌/◌, ◌%◌, ◌<◌}
-use mathlib.Core.Path.{◌≡◌, sym, ap, ◌∙◌}
-use mathlib.Core.List.{List, ◌∷◌}
-use native.Mathlib.Nat.{mul-le-mul, add-mul-mod_self_left}
-use native.Mathlib.Numerals.{add-one}
-use native.Mathlib.Omega.{arith}
-use borrow.Author.Rules.{rules}
-use lib.ListN.{get_or, take, drop, length-drop}
-use lib.Seq.{drop-cons}
-use Rattle.font_file.specs.declared.Column.{Column}
-use Rattle.font_file.specs.FontFile.{checked_length, heading_length, payload_length, sum as whole, weighted_sum}
-use Rattle.font_file.specs.Columns.{column_count, row_count, column_sum, column_weighted}
-use Rattle.font_file.proofs.Columns.{across, columns_from, column_next, columns-whole}
+use Prim.Native.Nat.{ℕ, ◌+◌, ◌-◌, ◌*◌, ◌%◌, ◌<◌}
+use mathlib.Core.Path.{◌≡◌}
+use mathlib.Core.List.{List}
+use lib.ListN.{get_or, take, drop}
+use Rattle.font_file.specs.FontFile.{heading_length, payload_length, sum as whole, weighted_sum}
+use Rattle.font_file.specs.Columns.{column_count, column_sum, column_weighted}
+use Rattle.font_file.proofs.Columns.{columns_from}
 use Rattle.font_file.proofs.checks_of.Given as goal
 
+abbrev payload : (block : List ℕ) → List ℕ
+payload block = take payload_length (drop heading_length block)
+
+-- the last four: that the heading's four numbers are bytes
 abbrev pub invariant-loop-at : goal.invariant-loop-at
 invariant-loop-at l =
     (l.by_row < 65536)

@@ -1,7 +1,6 @@
 -- `checks_right`: the two comparisons of `checks_right`.
 use mathlib.Core.Path.{ap}
 use borrow.Author.Tests.{eq-eqb, ne_eqb}
-use borrow.Author.Rules.{rules}
 use Rattle.font_file.specs.FontFile.{checks_right}
 use Rattle.font_file.proofs.checks_right.Goals as goal
 

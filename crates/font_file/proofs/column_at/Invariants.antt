@@ -1,11 +1,8 @@
 -- `column_at`: what is summed up is the column from the row on.
-use Prim.Native.Nat.{◌+◌, ◌-◌, ◌*◌, ◌≤◌}
-use mathlib.Core.Path.{◌≡◌, refl}
-use native.Mathlib.Nat.{add-zero}
-use native.Mathlib.Omega.{arith}
-use borrow.Author.Rules.{rules}
-use Rattle.font_file.specs.Columns.{column_count, row_count, column_sum, column_weighted}
-use Rattle.font_file.proofs.Columns.{rows_from, row_up}
+use Prim.Native.Nat.{◌-◌, ◌*◌, ◌≤◌}
+use mathlib.Core.Path.{◌≡◌}
+use Rattle.font_file.specs.Columns.{row_count, column_sum, column_weighted}
+use Rattle.font_file.proofs.Columns.{rows_from}
 use Rattle.font_file.proofs.column_at.Given as goal
 
 abbrev pub invariant-loop-row : goal.invariant-loop-row

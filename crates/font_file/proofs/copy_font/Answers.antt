@@ -1,27 +1,21 @@
 -- `copy_font`: with the bytes that are left, the buffer is the font in the file.
-use Prim.Native.Nat.{ℕ, ◌+◌, ◌-◌, ◌*◌, ◌≤◌}
+use Prim.Native.Nat.{ℕ, ◌+◌, ◌-◌, ◌*◌}
 use mathlib.Core.Path.{◌≡◌, refl, sym, ◌∙◌}
 use mathlib.Core.List.{List}
 use native.Mathlib.Nat.{add-sub_cancel_left}
 use native.Mathlib.Omega.{arith}
 use borrow.Author.Rules.{rules}
 use lib.ListN.{length, take, drop, length-take, length-drop}
-use lib.Seq.{drop-drop, sets}
-use Rattle.limits.specs.Limits.{font_length}
+use lib.Seq.{drop-drop}
 use Rattle.facts.proofs.Parts.{sets-all}
-use Rattle.font_file.specs.FontFile.{block_count, block_length, heading_length, payload_length, used_length, font_from, font_in}
+use Rattle.font_file.specs.FontFile.{block_count, block_length, heading_length, payload_length, used_length, font_from}
 use Rattle.font_file.proofs.Files.{used_left, font-long}
-use Rattle.font_file.proofs.Turns.{put_turn, used_fits}
+use Rattle.font_file.proofs.Turns.{put_turn}
 use Rattle.font_file.proofs.copy_font.Goals as goal
 
 pub loop-place-init : goal.loop-place-init
 loop-place-init c =
     (search rules, c.requires.1, sets-all c.args.font.now _ (font-long block_count 0 c.args.file.now refl c.requires.0 ∙ sym c.requires.1))
-
-pub put-requires : goal.put-requires
-put-requires c =
-    let l = c.loop-place in
-    simp length-take (omega (arith, used_fits l.place _ (omega arith) c.used_length-used.ensures.value))
 
 pub loop-place-preserved : goal.loop-place-preserved
 unfolding font_from

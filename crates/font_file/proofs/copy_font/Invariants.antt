@@ -1,17 +1,10 @@
 -- `copy_font`: with the bytes that are left, the buffer is the font in the file.
-use Prim.Native.Nat.{ℕ, ◌+◌, ◌-◌, ◌*◌, ◌≤◌}
-use mathlib.Core.Path.{◌≡◌, refl, sym, ◌∙◌}
-use mathlib.Core.List.{List}
-use native.Mathlib.Nat.{add-sub_cancel_left}
-use native.Mathlib.Omega.{arith}
-use borrow.Author.Rules.{rules}
-use lib.ListN.{length, take, drop, length-take, length-drop}
-use lib.Seq.{drop-drop, sets}
+use Prim.Native.Nat.{◌-◌, ◌*◌, ◌≤◌}
+use mathlib.Core.Path.{◌≡◌}
+use lib.ListN.{length, drop}
+use lib.Seq.{sets}
 use Rattle.limits.specs.Limits.{font_length}
-use Rattle.facts.proofs.Parts.{sets-all}
-use Rattle.font_file.specs.FontFile.{block_count, block_length, heading_length, payload_length, used_length, font_from, font_in}
-use Rattle.font_file.proofs.Files.{used_left, font-long}
-use Rattle.font_file.proofs.Turns.{put_turn, used_fits}
+use Rattle.font_file.specs.FontFile.{block_count, block_length, payload_length, font_from, font_in}
 use Rattle.font_file.proofs.copy_font.Given as goal
 
 abbrev pub invariant-loop-place : goal.invariant-loop-place

@@ -4,7 +4,6 @@ use mathlib.Core.Path.{◌≡◌, sym, ap, ◌∙◌}
 use mathlib.Core.List.{List}
 use native.Mathlib.Omega.{arith}
 use borrow.Author.Tests.{eq-eqb, ne_eqb}
-use borrow.Author.Rules.{rules}
 use lib.ListN.{take, drop}
 use Rattle.facts.proofs.Parts.{drop-take}
 use Rattle.font_file.specs.FontFile.{checked_length, heading_length, payload_length, all_zero, format_right}

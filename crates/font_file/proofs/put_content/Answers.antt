@@ -3,7 +3,6 @@ use Prim.Native.Nat.{ℕ, ◌+◌, ◌-◌, ◌/◌, ◌%◌, ◌<◌}
 use mathlib.Core.Path.{◌≡◌, ap, ◌∙◌}
 use mathlib.Core.List.{List, [], ◌∷◌, ◌++◌}
 use native.Mathlib.Omega.{arith}
-use borrow.Author.Rules.{rules}
 use lib.ListN.{length, take, drop, replicate, length-take, length-drop, length-replicate}
 use lib.Seq.{sets}
 use Rattle.facts.proofs.Parts.{put-part, sets-append}
@@ -11,11 +10,11 @@ use Rattle.font_file.specs.FontFile.{block_length, checked_length, heading_lengt
 use Rattle.font_file.proofs.Blocks.{used_most}
 use Rattle.font_file.proofs.put_content.Goals as goal
 
+-- number and used length, as the code has them
 abbrev heading : ℕ → List ℕ → List ℕ
 heading number font = number ∷ 0 ∷ length font % 256 ∷ length font / 256 ∷ []
 
 -- one behind the other, they are the content
-
 content-put : (block font : List ℕ) (number : ℕ) → number < 256 → length font ≡ used_length number
     → sets (sets (sets block 0 (heading number font)) heading_length font) (heading_length + length font) (replicate (checked_length - (heading_length + length font)) 0)
     ≡ sets block 0 (content_of number font)
@@ -29,26 +28,11 @@ content-put block font number f l =
     (sets-append (sets block 0 (heading number font)) font (replicate (payload_length - used) 0) heading_length
     ∙ sets-append block (heading number font) (font ++ replicate (payload_length - used) 0) 0)
 
-pub overflow_cast-heading-2 : goal.overflow_cast-heading-2
-overflow_cast-heading-2 c = omega (arith, used_most c.args.number)
-
-pub put-requires-2 : goal.put-requires-2
-put-requires-2 c =
-    omega (arith, used_most c.args.number)
-
-pub slice_bounds-fill-count : goal.slice_bounds-fill-count
-slice_bounds-fill-count c =
-    omega (arith, used_most c.args.number)
-
-pub slice_bounds-fill-start : goal.slice_bounds-fill-start
-slice_bounds-fill-start c =
-    omega (arith, used_most c.args.number)
-
 pub returns : goal.returns
 returns c =
     let block = c.args.block.now in
     let font = c.args.font.now in
-    let filled = c.put-2.new.0 in
+    let filled = c.put-2.new.out in
     let at : ℕ = heading_length + length font in
     let k : ℕ = checked_length - at in
     let most = used_most c.args.number in

@@ -1,7 +1,6 @@
 -- `read`: the tests on the lengths and what the blocks' tests find pick the case of `read_font`.
 use mathlib.Core.Path.{sym, ◌∙◌}
 use borrow.Author.Tests.{eq-eqb, ne_eqb}
-use borrow.Author.Rules.{rules}
 use Rattle.font_file.specs.FontFile.{read_by, read_font}
 use Rattle.font_file.proofs.read.Goals as goal
 
@@ -16,9 +15,9 @@ returns-then-file-ne-FONT_FILE_LENGTH c = rw (eq-eqb _ _ c.if-font-ne-FONT_LENGT
 pub returns-in-Done : goal.returns-in-Done
 unfolding read_by read_font
 returns-in-Done c =
-    rw (eq-eqb _ _ c.if-font-ne-FONT_LENGTH.false, eq-eqb _ _ c.if-file-ne-FONT_FILE_LENGTH.false, sym c.test_blocks-answer.ensures ∙ c.enum_told-1.is, c.copy_font.ensures)
+    rw (eq-eqb _ _ c.if-font-ne-FONT_LENGTH.false, eq-eqb _ _ c.if-file-ne-FONT_FILE_LENGTH.false, sym c.test_blocks-answer.ensures ∙ c.in-Done.is, c.copy_font.ensures)
 
 pub returns-in-Refused : goal.returns-in-Refused
 unfolding read_by read_font
 returns-in-Refused c =
-    rw (eq-eqb _ _ c.if-font-ne-FONT_LENGTH.false, eq-eqb _ _ c.if-file-ne-FONT_FILE_LENGTH.false, sym c.test_blocks-answer.ensures ∙ c.answer-1.is)
+    rw (eq-eqb _ _ c.if-font-ne-FONT_LENGTH.false, eq-eqb _ _ c.if-file-ne-FONT_FILE_LENGTH.false, sym c.test_blocks-answer.ensures ∙ c.in-Refused.is)

@@ -1,5 +1,4 @@
 -- `test_block`: the two tests of `block_test`.
-use borrow.Author.Rules.{rules}
 use Rattle.font_file.specs.FontFile.{block_test}
 use Rattle.font_file.proofs.test_block.Goals as goal
 

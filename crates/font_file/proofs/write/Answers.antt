@@ -1,6 +1,5 @@
 -- `write`: the tests on the lengths pick the case of `write_font`.
 use borrow.Author.Tests.{eq-eqb, ne_eqb}
-use borrow.Author.Rules.{rules}
 use Rattle.font_file.specs.FontFile.{written_by, write_font}
 use Rattle.font_file.proofs.write.Goals as goal
 

@@ -1,34 +1,22 @@
 -- `write_blocks`: with the blocks that are left, the buffer is the file.
-use Prim.Native.Nat.{ℕ, ◌+◌, ◌-◌, ◌*◌, ◌≤◌}
+use Prim.Native.Nat.{ℕ, ◌+◌, ◌-◌, ◌*◌}
 use mathlib.Core.Path.{◌≡◌, refl, sym, ap, ◌∙◌}
 use mathlib.Core.List.{List}
 use native.Mathlib.Omega.{arith}
 use borrow.Author.Rules.{rules}
-use lib.ListN.{length, take, drop, length-take, length-drop}
-use lib.Seq.{sets}
+use lib.ListN.{length, take, drop}
 use Rattle.limits.specs.Limits.{font_file_length}
 use Rattle.facts.proofs.Parts.{put-part, sets-all}
 use Rattle.font_file.specs.FontFile.{block_count, block_length, payload_length, blocks_of, file_of}
 use Rattle.font_file.proofs.Blocks.{block_of, block_length_lem}
 use Rattle.font_file.proofs.Files.{blocks_read}
-use Rattle.font_file.proofs.Turns.{put_turn, used_fits, font-part}
+use Rattle.font_file.proofs.Turns.{put_turn, font-part}
 use Rattle.font_file.proofs.write_blocks.Goals as goal
 
 pub loop-number-init : goal.loop-number-init
 loop-number-init c =
     let long : length (file_of c.args.font.now) ≡ font_file_length = (blocks_read block_count 0 c.args.font.now refl c.requires.0).0 in
     (search rules, c.requires.1, sets-all c.args.file.now _ (long ∙ sym c.requires.1))
-
-pub slice_bounds-write_block-end-in-loop-number : goal.slice_bounds-write_block-end-in-loop-number
-slice_bounds-write_block-end-in-loop-number c =
-    let l = c.loop-number in
-    omega (arith, used_fits l.number _ (omega arith) c.used_length-used.ensures.value)
-
-pub write_block-requires : goal.write_block-requires
-write_block-requires c =
-    let l = c.loop-number in
-    let (same, long) = font-part l.number c.used_length-used.result (omega arith) c.used_length-used.ensures.value c.args.font.now c.requires.0 in
-    (simp (length-take, length-drop) (omega arith), ap length same ∙ long)
 
 pub loop-number-preserved : goal.loop-number-preserved
 unfolding blocks_of

@@ -1,17 +1,10 @@
 -- `write_blocks`: with the blocks that are left, the buffer is the file.
-use Prim.Native.Nat.{ℕ, ◌+◌, ◌-◌, ◌*◌, ◌≤◌}
-use mathlib.Core.Path.{◌≡◌, refl, sym, ap, ◌∙◌}
-use mathlib.Core.List.{List}
-use native.Mathlib.Omega.{arith}
-use borrow.Author.Rules.{rules}
-use lib.ListN.{length, take, drop, length-take, length-drop}
+use Prim.Native.Nat.{◌-◌, ◌*◌, ◌≤◌}
+use mathlib.Core.Path.{◌≡◌}
+use lib.ListN.{length, drop}
 use lib.Seq.{sets}
 use Rattle.limits.specs.Limits.{font_file_length}
-use Rattle.facts.proofs.Parts.{put-part, sets-all}
 use Rattle.font_file.specs.FontFile.{block_count, block_length, payload_length, blocks_of, file_of}
-use Rattle.font_file.proofs.Blocks.{block_of, block_length_lem}
-use Rattle.font_file.proofs.Files.{blocks_read}
-use Rattle.font_file.proofs.Turns.{put_turn, used_fits, font-part}
 use Rattle.font_file.proofs.write_blocks.Given as goal
 
 abbrev pub invariant-loop-number : goal.invariant-loop-number

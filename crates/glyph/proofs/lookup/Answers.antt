@@ -5,7 +5,6 @@ use mathlib.Core.Bool.{true≢false}
 use native.Mathlib.Omega.{arith}
 use borrow.Author.Tests.{eq-eqb}
 use Rattle.glyph.proofs.Laws.{word_at, word-font, word-user, word_blank}
-use borrow.Author.Rules.{rules}
 use Rattle.glyph.proofs.lookup.Goals as goal
 
 pub slice_bytes-part-requires-clause-lent : goal.slice_bytes-part-requires-clause-lent

@@ -10,7 +10,6 @@ use Rattle.raster.specs.declared.Slice.{Slice}
 use Rattle.raster.specs.Raster.{OnScreen}
 use Rattle.glyph.specs.Glyph.{font_byte, user_cell, slice_part, Lent, HasSlices}
 use Rattle.glyph.proofs.Laws.{slice_part-length}
-use borrow.Author.Rules.{rules}
 use Rattle.glyph.proofs.slice_bytes.Goals as goal
 
 two : (a : ℕ) (l : List ℕ) → take (a + 2 - a) (drop a l) ≡ take 2 (drop a l)

@@ -2,7 +2,6 @@
 use mathlib.Core.Path.{refl}
 use native.Mathlib.Omega.{arith}
 use Rattle.glyph.specs.Cells.{user_slice}
-use borrow.Author.Rules.{rules}
 use Rattle.glyph.proofs.user_slice.Goals as goal
 
 pub returns-clause-slice : goal.returns-clause-slice

@@ -2,7 +2,6 @@
 use Prim.Native.Nat.{ℕ}
 use mathlib.Core.Path.{ap, ◌∙◌}
 use mathlib.Core.List.{List}
-use borrow.Author.Rules.{rules}
 use Rattle.layout.specs.Layout.{frame_at, put, frame_with}
 use Rattle.layout.proofs.write_frame.Goals as goal
 

@@ -1,6 +1,5 @@
 -- `code_at`: the code ends the line, or its columns are made of the word that was looked up.
 use Rattle.line.proofs.Turns.{word_fits, code-ended, code-shown}
-use borrow.Author.Rules.{rules}
 use Rattle.line.proofs.code_at.Goals as goal
 
 pub returns-then-word : goal.returns-then-word
@@ -19,5 +18,5 @@ pub returns : goal.returns
 returns c =
     let w = c.lookup-word in
     let a = c.args in
-    code-shown a.ram.now a.font.now a.at a.pen w.result w.ensures (λ i. (c.shared_slice_known-5-1.given i).fits)
-    (λ i. (c.shared_slice_known-2-1.given i).fits) c.if-word.false _ _ c.character.ensures
+    code-shown a.ram.now a.font.now a.at a.pen w.result w.ensures (λ i. (c.type_inv.ram i).fits) (λ i. (c.type_inv.font i).fits)
+    c.if-word.false _ _ c.character.ensures

@@ -4,32 +4,17 @@ use native.Mathlib.Omega.{arith}
 use Rattle.registers.proofs.Laws.{ld_bound_lem, fbk_bound}
 use Rattle.walk.specs.Walk.{walked}
 use Rattle.line.proofs.Strips.{walked_line, line-drawn, line-cells}
-use borrow.Author.Rules.{rules}
 use Rattle.line.proofs.draw.Goals as goal
-
-pub draw_strip-read-requires-clause-lent : goal.draw_strip-read-requires-clause-lent
-unfolding walked
-draw_strip-read-requires-clause-lent c =
-    let r = c.args.registers in
-    let p = c.requires in
-    let e = c.settings-settings.ensures in
-    p.lent
 
 pub draw_strip-read-requires-clause-on_line : goal.draw_strip-read-requires-clause-on_line
 unfolding walked
-draw_strip-read-requires-clause-on_line c =
-    let r = c.args.registers in
-    let p = c.requires in
-    let e = c.settings-settings.ensures in
-    rw (c.next_line-walked.ensures, e) (walked_line _ _ _)
+draw_strip-read-requires-clause-on_line c = rw (c.next_line-walked.ensures, c.settings-settings.ensures) (walked_line _ _ _)
 
 pub draw_strip-read-requires-clause-ld_bound : goal.draw_strip-read-requires-clause-ld_bound
-unfolding walked
 draw_strip-read-requires-clause-ld_bound c =
     let r = c.args.registers in
-    let p = c.requires in
     let e = c.settings-settings.ensures in
-    (rw e (ld_bound_lem r), rw e (fbk_bound r), rw e p.registers_in_bounds)
+    (rw e (ld_bound_lem r), rw e (fbk_bound r), rw e c.requires.registers_in_bounds)
 
 pub overflow_add-result : goal.overflow_add-result
 overflow_add-result c =

@@ -1,6 +1,5 @@
 -- `draw_characters`: the margin, then the row.
 use Rattle.line.proofs.Strips.{characters_drawn, characters_none}
-use borrow.Author.Rules.{rules}
 use Rattle.line.proofs.draw_characters.Goals as goal
 
 pub returns-then-first-w : goal.returns-then-first-w

@@ -1,10 +1,7 @@
 -- `draw_row`: each turn draws one more character (`RowUpTo`, `row-drawn`); the row ends at an end of line, at a cut character, or where the room is full.
 use Prim.Native.Nat.{◌-◌, ◌%◌, ◌≤◌}
 use mathlib.Core.Path.{◌≡◌}
-use native.Mathlib.Omega.{arith}
-use lib.ListN.{length-take, length-drop}
-use Rattle.line.proofs.Turns.{RowUpTo, row_holds, code-few, row_bound, row-full, Turn, row-drawn, row-ended, row_cut}
-use borrow.Author.Rules.{rules}
+use Rattle.line.proofs.Turns.{RowUpTo}
 use Rattle.line.proofs.draw_row.Given as goal
 
 abbrev pub invariant-loop-x : goal.invariant-loop-x

@@ -1,7 +1,6 @@
 -- `osd_bus`: refused, a data byte or a fetch, or any other event.
 use Prim.Native.Nat.{ℕ}
 use mathlib.Core.Path.{sym, ap}
-use borrow.Author.Rules.{rules}
 use Rattle.interface.proofs.Laws.{bus-not_record, bus-not-kind}
 use Rattle.bus_bytes.proofs.Events.{bus-refused, bus-heard}
 use Rattle.bus.specs.declared.Event.TheVariants.{Byte, Fetch}
@@ -28,6 +27,3 @@ returns-then-state-eq-WRITING c =
     let b = c.args.byte in
     bus-heard _ _ _ b c.if-device-ne-DEVICE_LENGTH.false c.if-kind-gt-STOP.false (Byte b) _
     c.if-ram-ne-RAM_LENGTH.false (ap (λ (n : ℕ). event_of n b) (sym c.if-kind-eq-HOST_BYTE.true)) c.write_next.ensures
-
-pub returns : goal.returns
-returns c = c.hear.ensures

@@ -1,6 +1,5 @@
 -- `all_shadowed`: three numbers of four columns.
 use Rattle.paint.specs.Tables.{in_fours}
-use borrow.Author.Rules.{rules}
 use Rattle.paint.proofs.all_shadowed.Goals as goal
 
 pub returns : goal.returns

@@ -1,6 +1,5 @@
 -- `all_solid`: three numbers of four columns.
 use Rattle.paint.specs.Tables.{in_fours}
-use borrow.Author.Rules.{rules}
 use Rattle.paint.proofs.all_solid.Goals as goal
 
 pub returns : goal.returns

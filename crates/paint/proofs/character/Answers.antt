@@ -1,10 +1,8 @@
 -- `character`: the columns with their shadow or without.
 use mathlib.Core.Path.{sym, ◌∙◌}
 use native.Mathlib.Omega.{arith}
-use borrow.Author.Tests.{not-true, not-false}
 use Rattle.paint.proofs.Tables.{has_masks}
 use Rattle.paint.proofs.Spread.{bits_fit, character-shadowed, character-solid}
-use borrow.Author.Rules.{rules}
 use Rattle.paint.proofs.character.Goals as goal
 
 pub all_solid-requires : goal.all_solid-requires
@@ -14,7 +12,7 @@ all_solid-requires c =
 pub returns-then-not-takes_shadow : goal.returns-then-not-takes_shadow
 returns-then-not-takes_shadow c =
     character-solid _ _ _ _ _ c.requires.plain (omega (arith, c.ranges.low.fits)) _ c.paint_of-paint.ensures _
-    c.all_solid.ensures (sym c.takes_shadow.ensures ∙ not-true _ c.if-not-takes_shadow.true)
+    c.all_solid.ensures (sym c.takes_shadow.ensures ∙ c.if-not-takes_shadow.true)
 
 pub overflow_add-bits : goal.overflow_add-bits
 overflow_add-bits c =
@@ -28,4 +26,4 @@ all_shadowed-requires c =
 pub returns : goal.returns
 returns c =
     character-shadowed _ _ _ _ _ c.requires.plain (omega (arith, c.ranges.low.fits)) _ c.paint_of-paint.ensures _
-    c.all_shadowed.ensures (sym c.takes_shadow.ensures ∙ not-false _ c.if-not-takes_shadow.false)
+    c.all_shadowed.ensures (sym c.takes_shadow.ensures ∙ c.if-not-takes_shadow.false)

@@ -4,7 +4,6 @@ use native.Mathlib.Omega.{arith}
 use lib.Bits.{bit_or}
 use Rattle.paint.specs.Tables.{shadowed}
 use Rattle.paint.proofs.Tables.{casting_at, masks_fit}
-use borrow.Author.Rules.{rules}
 use Rattle.paint.proofs.four_shadowed.Goals as goal
 
 pub bounds-table-i : goal.bounds-table-i

@@ -5,7 +5,6 @@ use native.Mathlib.Omega.{arith}
 use lib.Bits.{bit_and, bit_xor}
 use Rattle.paint.specs.Tables.{solid}
 use Rattle.paint.proofs.Tables.{facing_at, masks_fit}
-use borrow.Author.Rules.{rules}
 use Rattle.paint.proofs.four_solid.Goals as goal
 
 pub bounds-table-i : goal.bounds-table-i

@@ -6,7 +6,6 @@ use native.Mathlib.Omega.{arith}
 use lib.ListN.{length, get_or}
 use Rattle.paint.specs.Tables.{paint_of}
 use Rattle.paint.proofs.Tables.{fore_at, back_at, show_at, table-length}
-use borrow.Author.Rules.{rules}
 use Rattle.paint.proofs.paint_of.Goals as goal
 
 pub bounds-table-low : goal.bounds-table-low

@@ -1,6 +1,5 @@
 -- `put_four`: four bytes set.
 use Rattle.paint.proofs.Spread.{four_put}
-use borrow.Author.Rules.{rules}
 use Rattle.paint.proofs.put_four.Goals as goal
 
 pub returns : goal.returns

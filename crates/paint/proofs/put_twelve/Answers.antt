@@ -1,6 +1,5 @@
 -- `put_twelve`: three parts of four columns.
 use Rattle.paint.proofs.Spread.{twelve-put}
-use borrow.Author.Rules.{rules}
 use Rattle.paint.proofs.put_twelve.Goals as goal
 
 pub returns : goal.returns

@@ -1,6 +1,5 @@
 -- `row_table` is its definition, computed.
 use Rattle.paint.specs.Tables.{tabulate, facing, casting, fores, backs, shows, mask_table, row_table}
-use borrow.Author.Rules.{rules}
 use Rattle.paint.proofs.row_table.Goals as goal
 
 pub returns : goal.returns

@@ -1,14 +1,10 @@
 -- `ended_by`: each turn passes a code that does not end the line.
 use Prim.Native.Nat.{ℕ, suc, ◌-◌}
-use mathlib.Core.Path.{◌≡◌, refl, sym, ap, ◌∙◌}
+use mathlib.Core.Path.{◌≡◌, sym, ap, ◌∙◌}
 use native.Mathlib.Omega.{arith}
 use Rattle.pixel.specs.Pixel.{ended}
 use Rattle.pixel.proofs.Laws.{end_here, end_last, end_later}
-use borrow.Author.Rules.{rules}
 use Rattle.pixel.proofs.ended_by.Goals as goal
-
-pub loop-left-init : goal.loop-left-init
-loop-left-init c = refl
 
 pub returns-then-ends_line : goal.returns-then-ends_line
 returns-then-ends_line c =

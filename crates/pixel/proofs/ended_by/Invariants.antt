@@ -1,10 +1,6 @@
 -- `ended_by`: each turn passes a code that does not end the line.
-use Prim.Native.Nat.{ℕ, suc, ◌-◌}
-use mathlib.Core.Path.{◌≡◌, refl, sym, ap, ◌∙◌}
-use native.Mathlib.Omega.{arith}
+use mathlib.Core.Path.{◌≡◌}
 use Rattle.pixel.specs.Pixel.{ended}
-use Rattle.pixel.proofs.Laws.{end_here, end_last, end_later}
-use borrow.Author.Rules.{rules}
 use Rattle.pixel.proofs.ended_by.Given as goal
 
 abbrev pub invariant-loop-left : goal.invariant-loop-left

@@ -1,13 +1,8 @@
 -- `falls_in`: a round finds the line (`round_line`), or took all its lines (`lines`). Where it has none, there is no strip (`round_none`);
 -- else each turn leaves out a round of lines (`falls_round`), until the line lies in the next round (`round_in`).
-use Prim.Native.Nat.{ℕ, ◌+◌, ◌-◌, ◌≤◌}
-use mathlib.Core.Path.{◌≡◌, sym, ap, ◌∙◌}
-use native.Mathlib.Omega.{arith}
-use Rattle.limits.specs.Limits.{ram_pairs}
-use Rattle.pixel.specs.declared.Round.{Round}
+use Prim.Native.Nat.{◌≤◌}
+use mathlib.Core.Path.{◌≡◌}
 use Rattle.pixel.specs.Pixel.{falls_in}
-use Rattle.pixel.proofs.Rounds.{lines_on, falls_round, round_in, round_left, round_line, round_none}
-use borrow.Author.Rules.{rules}
 use Rattle.pixel.proofs.falls_in.Given as goal
 
 abbrev pub invariant-loop-left : goal.invariant-loop-left

@@ -1,7 +1,6 @@
 -- `row_pixel`: each way through the code is a case of `row_pixel`.
 use mathlib.Core.Path.{sym, ◌∙◌}
 use Rattle.pixel.specs.Pixel.{row_pixel}
-use borrow.Author.Rules.{rules}
 use Rattle.pixel.proofs.row_pixel.Goals as goal
 
 pub returns-then-ended_by : goal.returns-then-ended_by

@@ -1,29 +1,10 @@
 -- `walk_round`: up to the end of RAM (`round_upper`), and then from its start on (`round_lower`).
 use Prim.Native.Nat.{◌≤◌}
-use mathlib.Core.Path.{refl, sym, ap, ◌∙◌}
+use mathlib.Core.Path.{sym, ap, ◌∙◌}
 use native.Mathlib.Omega.{arith}
 use Rattle.pixel.specs.declared.Round.{Round}
 use Rattle.pixel.proofs.Rounds.{round_upper, round_lower, round_less}
-use borrow.Author.Rules.{rules}
 use Rattle.pixel.proofs.walk_round.Goals as goal
-
-pub walk_span-once-requires-clause-ram_len : goal.walk_span-once-requires-clause-ram_len
-walk_span-once-requires-clause-ram_len c =
-    let p = c.requires in
-    let e = c.even_address-start.ensures in
-    p.ram_len
-
-pub walk_span-once-requires-clause-span : goal.walk_span-once-requires-clause-span
-walk_span-once-requires-clause-span c =
-    let p = c.requires in
-    let e = c.even_address-start.ensures in
-    record { order = omega (arith, e); inside = omega arith; paired = (omega (arith, e), refl) }
-
-pub walk_span-once-requires-clause-y_lt_frame_lines : goal.walk_span-once-requires-clause-y_lt_frame_lines
-walk_span-once-requires-clause-y_lt_frame_lines c =
-    let p = c.requires in
-    let e = c.even_address-start.ensures in
-    p.y_lt_frame_lines
 
 pub returns-then-once : goal.returns-then-once
 returns-then-once c =
@@ -32,32 +13,11 @@ returns-then-once c =
     w ∙ round_upper a.ram.now a.ch c.even_address-start.result a.first a.y c.even_address-start.ensures
     (sym (ap (λ (r : Round). r.found) w) ∙ c.if-once.true)
 
-pub walk_span-requires-clause-ram_len : goal.walk_span-requires-clause-ram_len
-walk_span-requires-clause-ram_len c =
-    let p = c.requires in
-    let e = c.even_address-start.ensures in
-    let w = c.walk_span-once.ensures in
-    let a = c.args in
-    let less : c.walk_span-once.result.left ≤ a.y = rw w (round_less a.ram.now a.ch _ _ a.y) in
-    p.ram_len
-
-pub walk_span-requires-clause-span : goal.walk_span-requires-clause-span
-walk_span-requires-clause-span c =
-    let p = c.requires in
-    let e = c.even_address-start.ensures in
-    let w = c.walk_span-once.ensures in
-    let a = c.args in
-    let less : c.walk_span-once.result.left ≤ a.y = rw w (round_less a.ram.now a.ch _ _ a.y) in
-    record { order = omega arith; inside = omega (arith, e); paired = (refl, omega (arith, e)) }
-
 pub walk_span-requires-clause-y_lt_frame_lines : goal.walk_span-requires-clause-y_lt_frame_lines
 walk_span-requires-clause-y_lt_frame_lines c =
-    let p = c.requires in
-    let e = c.even_address-start.ensures in
-    let w = c.walk_span-once.ensures in
     let a = c.args in
-    let less : c.walk_span-once.result.left ≤ a.y = rw w (round_less a.ram.now a.ch _ _ a.y) in
-    omega (arith, less, p.y_lt_frame_lines)
+    let less : c.walk_span-once.result.left ≤ a.y = rw c.walk_span-once.ensures (round_less a.ram.now a.ch _ _ a.y) in
+    omega (arith, less, c.requires.y_lt_frame_lines)
 
 pub returns : goal.returns
 returns c =

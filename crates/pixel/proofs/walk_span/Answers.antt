@@ -1,15 +1,13 @@
 -- `walk_span`: each turn finds the line in the strip at hand (`span_here`), or passes all lines of that strip (`passed`, `span-next`).
-use Prim.Native.Nat.{◌+◌, ◌-◌, ◌/◌, ◌≤◌}
-use mathlib.Core.Path.{◌≡◌, refl, sym, ◌∙◌}
+use Prim.Native.Nat.{◌+◌, ◌-◌}
+use mathlib.Core.Path.{◌≡◌, sym, ◌∙◌}
 use mathlib.Core.Bool.{true, false}
-use mathlib.Core.Logic.{⊎_elim}
 use native.Mathlib.Omega.{arith}
 use Rattle.pixel.specs.Pixel.{lines_of}
-use Rattle.pixel.specs.Rounds.{Span, round_of}
 use Rattle.pixel.proofs.Laws.{lines_spacing, lines_characters}
 use Rattle.pixel.proofs.Rounds.{pair_here, span_here, span-next, span-end}
-use borrow.Author.Rules.{rules}
 use Rattle.pixel.proofs.walk_span.Goals as goal
+use Rattle.pixel.proofs.walk_span.Goals.{then-is_spacing+else-left-lines, else-is_spacing+then-zoom+else-left-height, else-is_spacing+else-zoom+else-left-height-2}
 
 passed : (c : goal.Joined-is_spacing) → let a = c.args in
     c.if-is_spacing.left + lines_of a.ch (pair_here a.ram.now a.ch c.loop-at.at) ≡ c.loop-at.left
@@ -18,13 +16,11 @@ passed c =
     let h = c.height-height.ensures in
     let a = c.args in
     let d = pair_here a.ram.now a.ch c.loop-at.at in
-    ⊎_elim (λ w. omega (arith, w.2.left, w.3, lines_spacing a.ch d (sym s ∙ w.0.taken)))
-    (⊎_elim (λ w. omega (arith, h, w.3.left, w.4, lines_characters a.ch d true (sym s ∙ w.0.left) (sym w.1.ensures ∙ w.2.taken)))
-    (λ w. omega (arith, h, w.3.left, w.4, lines_characters a.ch d false (sym s ∙ w.0.left) (sym w.1.ensures ∙ w.2.left))))
-    c.if-is_spacing.branch
-
-pub loop-at-init : goal.loop-at-init
-loop-at-init c = (refl, search rules, c.requires.span)
+    elim c.if-is_spacing.branch [
+      | then-is_spacing+else-left-lines w ↦ omega (arith, lines_spacing a.ch d (sym s ∙ w.if-is_spacing.true))
+      | else-is_spacing+then-zoom+else-left-height w ↦ omega (arith, h, lines_characters a.ch d true (sym s ∙ w.if-is_spacing.false) (sym w.zoom.ensures ∙ w.if-zoom.true))
+      | else-is_spacing+else-zoom+else-left-height-2 w ↦ omega (arith, h, lines_characters a.ch d false (sym s ∙ w.if-is_spacing.false) (sym w.zoom.ensures ∙ w.if-zoom.false))
+    ]
 
 pub returns-then-left-lines : goal.returns-then-left-lines
 returns-then-left-lines c =
@@ -71,7 +67,7 @@ loop-at-preserved c =
     let a = c.args in
     let r = l.invariant.2 in
     let h = c.loop-at-test.true in (
-      span-next a.ram.now a.ch a.to l.at l.left r h c.if-is_spacing.false (passed c) ∙ l.invariant.0,
+      span-next a.ram.now a.ch a.to l.at l.left r h c.if-is_spacing.left (passed c) ∙ l.invariant.0,
       omega (arith, passed c, l.invariant.1),
       record { order = omega (arith, h, r.paired); inside = r.inside; paired = (omega (arith, r.paired.0), r.paired.1) },
     )

@@ -1,14 +1,7 @@
 -- `walk_span`: each turn finds the line in the strip at hand (`span_here`), or passes all lines of that strip (`passed`, `span-next`).
-use Prim.Native.Nat.{◌+◌, ◌-◌, ◌/◌, ◌≤◌}
-use mathlib.Core.Path.{◌≡◌, refl, sym, ◌∙◌}
-use mathlib.Core.Bool.{true, false}
-use mathlib.Core.Logic.{⊎_elim}
-use native.Mathlib.Omega.{arith}
-use Rattle.pixel.specs.Pixel.{lines_of}
+use Prim.Native.Nat.{◌-◌, ◌/◌, ◌≤◌}
+use mathlib.Core.Path.{◌≡◌}
 use Rattle.pixel.specs.Rounds.{Span, round_of}
-use Rattle.pixel.proofs.Laws.{lines_spacing, lines_characters}
-use Rattle.pixel.proofs.Rounds.{pair_here, span_here, span-next, span-end}
-use borrow.Author.Rules.{rules}
 use Rattle.pixel.proofs.walk_span.Given as goal
 
 abbrev pub invariant-loop-at : goal.invariant-loop-at

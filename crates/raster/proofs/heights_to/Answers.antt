@@ -2,7 +2,6 @@
 use native.Mathlib.Omega.{arith}
 use borrow.Author.Tests.{lt-ltb, le-ltb}
 use Rattle.raster.specs.Search.{heights_to}
-use borrow.Author.Rules.{rules}
 use Rattle.raster.proofs.heights_to.Goals as goal
 
 pub returns-then-slice-lt2 : goal.returns-then-slice-lt2

@@ -1,7 +1,6 @@
 -- `steps_below_18`: sixteen steps or none, and fewer than two are left.
 use native.Mathlib.Nat.{div-le_self}
 use native.Mathlib.Omega.{arith}
-use borrow.Author.Rules.{rules}
 use Rattle.raster.proofs.Steps.{more-steps}
 use Rattle.raster.proofs.steps_below_18.Goals as goal
 

@@ -1,5 +1,4 @@
 -- `steps_below_4`: two steps or none, then one more or none, and less than a step is left.
-use Prim.Native.Nat.{◌+◌}
 use native.Mathlib.Omega.{arith}
 use Rattle.raster.proofs.Steps.{last_steps}
 use Rattle.raster.proofs.steps_below_4.Goals.{then-step-left, else-step-left}

@@ -1,7 +1,6 @@
 -- `steps_below_8`: four steps or none, and fewer than four are left.
 use native.Mathlib.Nat.{div-le_self}
 use native.Mathlib.Omega.{arith}
-use borrow.Author.Rules.{rules}
 use Rattle.raster.proofs.Steps.{more-steps}
 use Rattle.raster.proofs.steps_below_8.Goals as goal
 

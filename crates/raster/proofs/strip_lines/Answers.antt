@@ -1,5 +1,4 @@
 -- `strip_lines`: the test on zoom picks the case.
-use borrow.Author.Rules.{rules}
 use Rattle.raster.proofs.strip_lines.Goals as goal
 
 pub returns-then-zoom : goal.returns-then-zoom

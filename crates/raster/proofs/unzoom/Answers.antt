@@ -1,6 +1,5 @@
 -- `unzoom`: half of the line rounded up, without the sum that could wrap.
 use native.Mathlib.Omega.{arith}
-use borrow.Author.Rules.{rules}
 use Rattle.raster.proofs.unzoom.Goals as goal
 
 pub returns-then-zoom : goal.returns-then-zoom

@@ -1,7 +1,6 @@
 -- `begin`: the test on the length picks the case of `bench_start`.
 use borrow.Author.Tests.{eq-eqb, ne_eqb}
 use Rattle.report.specs.Report.{bench_start}
-use borrow.Author.Rules.{rules}
 use Rattle.report.proofs.begin.Goals as goal
 
 pub returns-then-input-ne-INPUT_LENGTH : goal.returns-then-input-ne-INPUT_LENGTH

@@ -1,19 +1,12 @@
 -- `copy_digits`: the digits that are left and what is written from i on are all the digits.
-use Prim.Native.Nat.{ℕ, ◌+◌, ◌%◌, ◌≤◌}
-use mathlib.Core.Path.{◌≡◌, refl, ap, ◌∙◌}
-use mathlib.Core.List.{List, ◌++◌, append-nil}
+use Prim.Native.Nat.{◌+◌, ◌%◌}
+use mathlib.Core.Path.{refl, ◌∙◌}
 use native.Mathlib.Omega.{arith}
-use lib.ListN.{length, drop, length-set}
-use lib.Seq.{drop-length}
+use lib.ListN.{length-set}
 use Rattle.facts.proofs.Written.{back_more, back_whole}
 use Rattle.report.specs.Report.{digits}
 use borrow.Author.Rules.{rules}
 use Rattle.report.proofs.copy_digits.Goals as goal
-
-pub loop-i-init : goal.loop-i-init
-loop-i-init c =
-    let out = c.args.out.now in
-    (search rules, search rules, ap (λ (l : List ℕ). digits (length out) c.args.number ++ l) (drop-length out) ∙ append-nil _)
 
 pub loop-i-preserved : goal.loop-i-preserved
 loop-i-preserved c =

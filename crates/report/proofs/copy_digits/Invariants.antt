@@ -1,13 +1,9 @@
 -- `copy_digits`: the digits that are left and what is written from i on are all the digits.
-use Prim.Native.Nat.{ℕ, ◌+◌, ◌%◌, ◌≤◌}
-use mathlib.Core.Path.{◌≡◌, refl, ap, ◌∙◌}
-use mathlib.Core.List.{List, ◌++◌, append-nil}
-use native.Mathlib.Omega.{arith}
-use lib.ListN.{length, drop, length-set}
-use lib.Seq.{drop-length}
-use Rattle.facts.proofs.Written.{back_more, back_whole}
+use Prim.Native.Nat.{◌≤◌}
+use mathlib.Core.Path.{◌≡◌}
+use mathlib.Core.List.{◌++◌}
+use lib.ListN.{length, drop}
 use Rattle.report.specs.Report.{digits}
-use borrow.Author.Rules.{rules}
 use Rattle.report.proofs.copy_digits.Given as goal
 
 abbrev pub invariant-loop-i : goal.invariant-loop-i

@@ -1,16 +1,12 @@
 -- `copy_pixels`: what is written and the digits that are left are all of them.
-use Prim.Native.Nat.{◌-◌, ◌≤◌}
-use mathlib.Core.Path.{◌≡◌, refl, sym, ◌∙◌}
-use mathlib.Core.List.{◌++◌, map}
+use mathlib.Core.Path.{sym, ◌∙◌}
+use mathlib.Core.List.{map}
 use native.Mathlib.Omega.{arith}
-use lib.ListN.{length, take, drop, length-set, length-map, get_or-map}
-use Rattle.facts.proofs.Written.{written-more, written-whole}
+use lib.ListN.{length-set, length-map, get_or-map}
+use Rattle.facts.proofs.Written.{written-more}
 use Rattle.buffers.specs.Buffers.{hex_digit}
 use borrow.Author.Rules.{rules}
 use Rattle.report.proofs.copy_pixels.Goals as goal
-
-pub loop-i-init : goal.loop-i-init
-loop-i-init c = (search rules, search rules, refl)
 
 pub loop-i-preserved : goal.loop-i-preserved
 loop-i-preserved c =
@@ -22,9 +18,3 @@ loop-i-preserved c =
       written-more (map hex_digit pixels) l.out l.i _ (hex_digit 0) (omega arith) (omega arith) l.invariant.2
           (c.hex_digit.ensures ∙ sym (get_or-map hex_digit pixels l.i 0)),
     )
-
-pub returns : goal.returns
-returns c =
-    let pixels = c.args.pixels.now in
-    let l = c.loop-i in
-    written-whole (map hex_digit pixels) _ l.i (omega arith) (omega (arith, length-map pixels hex_digit)) l.invariant.2

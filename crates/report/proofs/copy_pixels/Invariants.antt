@@ -1,12 +1,9 @@
 -- `copy_pixels`: what is written and the digits that are left are all of them.
 use Prim.Native.Nat.{◌-◌, ◌≤◌}
-use mathlib.Core.Path.{◌≡◌, refl, sym, ◌∙◌}
+use mathlib.Core.Path.{◌≡◌}
 use mathlib.Core.List.{◌++◌, map}
-use native.Mathlib.Omega.{arith}
-use lib.ListN.{length, take, drop, length-set, length-map, get_or-map}
-use Rattle.facts.proofs.Written.{written-more, written-whole}
+use lib.ListN.{length, take, drop}
 use Rattle.buffers.specs.Buffers.{hex_digit}
-use borrow.Author.Rules.{rules}
 use Rattle.report.proofs.copy_pixels.Given as goal
 
 abbrev pub invariant-loop-i : goal.invariant-loop-i

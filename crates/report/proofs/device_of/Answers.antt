@@ -3,7 +3,6 @@ use native.Mathlib.Omega.{arith}
 use mathlib.Core.Path.{ap, ◌∙◌}
 use lib.ListN.{length, length-take, length-drop}
 use Rattle.report.specs.Report.{bench_device}
-use borrow.Author.Rules.{rules}
 use Rattle.report.proofs.device_of.Goals as goal
 
 pub load-registers-requires : goal.load-registers-requires

@@ -3,7 +3,6 @@ use mathlib.Core.Path.{sym, ap, ◌∙◌}
 use Rattle.device.specs.Device.{DrawOutcome, draw_outcome}
 use Rattle.report.specs.Report.{text_of}
 use Rattle.report.proofs.Texts.{text-refused, text-drawn}
-use borrow.Author.Rules.{rules}
 use Rattle.report.proofs.draw_text.Goals as goal
 
 pub returns-then-refusal-ne0-clause-text : goal.returns-then-refusal-ne0-clause-text
@@ -13,12 +12,6 @@ returns-then-refusal-ne0-clause-text c =
     text-refused (draw_outcome d.result _) out (λ z. c.if-refusal-ne0.true (c.refusal.ensures ∙ z))
     ∙ ap (λ (o : DrawOutcome). text_of o out) d.ensures
 
-pub returns-then-refusal-ne0-clause-pixels : goal.returns-then-refusal-ne0-clause-pixels
-returns-then-refusal-ne0-clause-pixels c =
-    let d = c.draw_line-drawn in
-    let out = c.args.out.now in
-    ap (λ (o : DrawOutcome). o.line) d.ensures
-
 pub returns-clause-text : goal.returns-clause-text
 returns-clause-text c =
     let d = c.draw_line-drawn in
@@ -26,9 +19,3 @@ returns-clause-text c =
     text-drawn (draw_outcome d.result _) out _ (sym c.refusal.ensures ∙ c.if-refusal-ne0.false)
     (rw (← c.cells.ensures) c.line_text.ensures)
     ∙ ap (λ (o : DrawOutcome). text_of o out) d.ensures
-
-pub returns-clause-pixels : goal.returns-clause-pixels
-returns-clause-pixels c =
-    let d = c.draw_line-drawn in
-    let out = c.args.out.now in
-    ap (λ (o : DrawOutcome). o.line) d.ensures

@@ -1,19 +1,14 @@
 -- `next_text`: the draw into a buffer of W bytes.
-use mathlib.Core.Path.{sym, ap, ◌∙◌}
+use mathlib.Core.Path.{ap, ◌∙◌}
 use mathlib.Core.List.{List}
 use Prim.Native.Nat.{ℕ}
 use native.Mathlib.Omega.{arith}
 use lib.ListN.{replicate}
-use lib.Seq.{length-take-le}
 use Rattle.limits.specs.Limits.{line_max}
 use Rattle.buffers.proofs.Laws.{filled_front}
 use Rattle.device.specs.Device.{draw_line}
 use Rattle.report.specs.Report.{text_of}
-use borrow.Author.Rules.{rules}
 use Rattle.report.proofs.next_text.Goals as goal
-
-pub slice_bounds-draw_text-end : goal.slice_bounds-draw_text-end
-slice_bounds-draw_text-end c = sym (length-take-le _ _ (omega arith))
 
 pub returns : goal.returns
 returns c =

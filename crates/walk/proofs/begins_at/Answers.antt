@@ -1,7 +1,6 @@
 -- `begins_at`: the first is passed over, or it is the one (`at_here`).
 use mathlib.Core.Path.{sym, ◌∙◌}
 use Rattle.walk.proofs.Laws.{at_here}
-use borrow.Author.Rules.{rules}
 use Rattle.walk.proofs.begins_at.Goals as goal
 
 pub returns : goal.returns

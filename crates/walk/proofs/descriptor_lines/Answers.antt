@@ -1,7 +1,6 @@
 -- `descriptor_lines`: bit 7 picks the case of `strip_of`.
 use mathlib.Core.Path.{sym, ◌∙◌}
 use Rattle.walk.specs.Walk.{strip_of, lines_left}
-use borrow.Author.Rules.{rules}
 use Rattle.walk.proofs.descriptor_lines.Goals as goal
 
 pub returns-then-is_spacing : goal.returns-then-is_spacing

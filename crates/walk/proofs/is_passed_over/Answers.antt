@@ -1,6 +1,5 @@
 -- `is_passed_over`: bit 7 picks the case.
 use mathlib.Core.Path.{sym, ◌∙◌}
-use borrow.Author.Rules.{rules}
 use Rattle.walk.proofs.is_passed_over.Goals as goal
 
 pub returns-then-is_spacing : goal.returns-then-is_spacing

@@ -1,11 +1,8 @@
 -- `pass_over`: each turn passes a descriptor over (`at_next`), or it begins its strip (`at_here`).
-use Prim.Native.Nat.{ℕ, suc, ◌-◌, ◌≤◌}
-use mathlib.Core.Path.{◌≡◌, refl, sym, ap, ◌∙◌}
-use native.Mathlib.Omega.{arith}
+use Prim.Native.Nat.{◌≤◌}
+use mathlib.Core.Path.{◌≡◌}
 use Rattle.limits.specs.Limits.{ram_pairs}
 use Rattle.walk.specs.Walk.{even, begins_at}
-use Rattle.walk.proofs.Laws.{at_next, at_here, at_none}
-use borrow.Author.Rules.{rules}
 use Rattle.walk.proofs.pass_over.Given as goal
 
 abbrev pub invariant-loop-left : goal.invariant-loop-left

@@ -1,6 +1,5 @@
 -- `shows_codes`: bit 7 picks the case.
 use mathlib.Core.Path.{sym, ◌∙◌}
-use borrow.Author.Rules.{rules}
 use Rattle.walk.proofs.shows_codes.Goals as goal
 
 pub returns-then-is_spacing : goal.returns-then-is_spacing

@@ -1,10 +1,10 @@
 -- `take_events`: a turn is an event, and what is left from the next place on is what was left.
-use Prim.Native.Nat.{ℕ, ◌+◌, ◌-◌, ◌%◌, ◌≤◌}
+use Prim.Native.Nat.{ℕ, ◌-◌}
 use mathlib.Core.Path.{◌≡◌, refl, sym, ap, ◌∙◌}
 use native.Mathlib.Omega.{arith}
 use borrow.Author.Rules.{rules}
 use borrow.Author.Tests.{lt-ltb, le-ltb}
-use lib.ListN.{length, get_or}
+use lib.ListN.{get_or}
 use Rattle.bus.specs.Bus.{event_of, bad_kind}
 use Rattle.device.specs.Device.{event_outcome, hear_event}
 use Rattle.capture.specs.Capture.{chip, bus_events}
@@ -37,10 +37,6 @@ returns-then-kind-gt-STOP c =
     ∙ l.invariant.4
     ∙ from_first bus_events _ a.self a.chunk.now _ _ _ c.held_kind-held.ensures c.held_bytes-first.ensures c.requires.self_value)
 
-pub overflow_add-i : goal.overflow_add-i
-overflow_add-i c =
-    omega (arith, c.loop-i-test.true, c.well-formed.1.1.1.0.1)
-
 pub loop-i-preserved : goal.loop-i-preserved
 loop-i-preserved c =
     let l = c.loop-i in
@@ -49,7 +45,7 @@ loop-i-preserved c =
       search rules,
       search rules,
       search rules,
-      from-heard (chip l.next l.ram) a.chunk.now _ l.i l.out _ {o = event_outcome c.hear-done.result c.hear-done.new.1.0}
+      from-heard (chip l.next l.ram) a.chunk.now _ l.i l.out _ {o = event_outcome c.hear-done.result c.hear-done.new.ram}
           c.loop-i-test.true (sym (ap bad_kind c.kind_at-kind.ensures) ∙ le-ltb 3 _ c.if-kind-gt-STOP.false)
           (c.hear-done.ensures
           ∙ ap (hear_event l.next l.ram) (c.of_kind.ensures ∙ ap (λ (k : ℕ). event_of k (get_or a.chunk.now l.i 0)) c.kind_at-kind.ensures))

@@ -1,15 +1,9 @@
 -- `take_events`: a turn is an event, and what is left from the next place on is what was left.
-use Prim.Native.Nat.{ℕ, ◌+◌, ◌-◌, ◌%◌, ◌≤◌}
-use mathlib.Core.Path.{◌≡◌, refl, sym, ap, ◌∙◌}
-use native.Mathlib.Omega.{arith}
-use borrow.Author.Rules.{rules}
-use borrow.Author.Tests.{lt-ltb, le-ltb}
-use lib.ListN.{length, get_or}
-use Rattle.bus.specs.Bus.{event_of, bad_kind}
-use Rattle.device.specs.Device.{event_outcome, hear_event}
+use Prim.Native.Nat.{◌+◌, ◌-◌, ◌%◌, ◌≤◌}
+use mathlib.Core.Path.{◌≡◌}
+use lib.ListN.{length}
 use Rattle.capture.specs.Capture.{chip, bus_events}
 use Rattle.capture.specs.Places.{from}
-use Rattle.capture.proofs.Laws.{from_bad, from_end, from_first, held_one, from-heard, taken-reply, chunk_fed_lem}
 use Rattle.capture.proofs.Feed.take_events.Given as goal
 
 abbrev pub invariant-loop-i : goal.invariant-loop-i

@@ -11,7 +11,6 @@ use Rattle.registers.specs.Registers.{settings_of}
 use Rattle.ahead.specs.Ahead.{remaining}
 use Rattle.device.specs.declared.Device.{Device}
 use Rattle.device.specs.Device.{ask_cell, cells_left}
-use borrow.Author.Rules.{rules}
 use Rattle.device.proofs.Device.ask.Goals as goal
 
 asked : (d : Device) (ram : List ℕ) (x : ℕ) (s : Settings) (r : Bool) → s ≡ settings_of d.registers

@@ -3,7 +3,6 @@ use Prim.Native.Nat.{◌-◌}
 use borrow.Author.Tests.{eq-eqb, ne_eqb, lt-ltb, le-ltb}
 use Rattle.refusals.specs.Refusals.{accepted}
 use Rattle.device.specs.Device.{draw_verdict, draw_by, draw_line, line_drawn, line_on, pixels_of}
-use borrow.Author.Rules.{rules}
 use Rattle.device.proofs.Device.draw_line.Goals as goal
 
 pub returns-then-ram-ne-RAM_LENGTH : goal.returns-then-ram-ne-RAM_LENGTH
@@ -38,12 +37,6 @@ returns-then-line-width c =
       lt-ltb _ _ (rw c.width.ensures.0 at c.if-line-width.true),
     )
     (λ i. record { device = n.0 i; line = c.args.line.now; reply = n.1 i })
-
-pub draw-drawn-requires-clause-lent : goal.draw-drawn-requires-clause-lent
-draw-drawn-requires-clause-lent c = record { ram-length = c.if-ram-ne-RAM_LENGTH.false; font-length = c.if-font-ne-FONT_LENGTH.false }
-
-pub draw-drawn-requires-clause-registers_in_bounds : goal.draw-drawn-requires-clause-registers_in_bounds
-draw-drawn-requires-clause-registers_in_bounds c = rw c.width.ensures.0 at c.if-line-width.false
 
 pub returns : goal.returns
 unfolding draw_verdict draw_by draw_line line_drawn line_on pixels_of

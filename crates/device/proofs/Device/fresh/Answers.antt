@@ -1,6 +1,5 @@
 -- `Device::fresh` is `fresh_device`, by what its parts promise.
 use Rattle.device.specs.Device.{fresh_device}
-use borrow.Author.Rules.{rules}
 use Rattle.device.proofs.Device.fresh.Goals as goal
 
 pub returns : goal.returns

@@ -2,7 +2,6 @@
 use mathlib.Core.Path.{ap}
 use Rattle.bus.specs.Bus.{BusOutcome}
 use Rattle.device.specs.Device.{EventOutcome, hear_event}
-use borrow.Author.Rules.{rules}
 use Rattle.device.proofs.Device.hear.Goals as goal
 
 pub returns : goal.returns

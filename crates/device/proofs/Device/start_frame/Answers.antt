@@ -1,18 +1,11 @@
 -- `Device::start_frame`: the tests on the lines pick the case of `start_frame`.
 use mathlib.Core.Path.{sym, ◌∙◌}
-use native.Mathlib.Omega.{arith}
-use Rattle.limits.proofs.Laws.{frame_lines_lem}
 use Rattle.device.specs.Device.{start_frame, in_frame}
-use borrow.Author.Rules.{rules}
 use Rattle.device.proofs.Device.start_frame.Goals as goal
 
 pub returns-then-bad_line_count : goal.returns-then-bad_line_count
 unfolding start_frame
 returns-then-bad_line_count c = rw (sym c.bad_line_count.ensures ∙ c.if-bad_line_count.true) c.not_started.ensures
-
-pub overflow_cast-result : goal.overflow_cast-result
-overflow_cast-result c =
-    omega (arith, frame_lines_lem c.args.lines (sym c.bad_line_count.ensures ∙ c.if-bad_line_count.false))
 
 pub returns : goal.returns
 unfolding start_frame in_frame

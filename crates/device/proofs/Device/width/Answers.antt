@@ -1,6 +1,5 @@
 -- `Device::width`: the width of LD, by what its parts promise; LD is below 64.
 use native.Mathlib.Omega.{arith}
-use borrow.Author.Rules.{rules}
 use Rattle.registers.proofs.Laws.{ld_bound_lem}
 use Rattle.device.proofs.Device.width.Goals as goal
 

@@ -1,6 +1,5 @@
 -- `ScanLine::is_last`: the test is that of `is_last`.
 use Rattle.raster.specs.Raster.{is_last}
-use borrow.Author.Rules.{rules}
 use Rattle.raster.proofs.ScanLine.is_last.Goals as goal
 
 pub returns : goal.returns

@@ -1,6 +1,5 @@
 -- `ScanLine::lines_after`: what is left of the strip's lines.
 use Rattle.raster.specs.Raster.{lines_after}
-use borrow.Author.Rules.{rules}
 use Rattle.raster.proofs.ScanLine.lines_after.Goals as goal
 
 pub returns : goal.returns

@@ -6,7 +6,6 @@ use native.Mathlib.Omega.{arith}
 use Rattle.raster.specs.Raster.{unzoomed, slice_number, interpolated}
 use Rattle.raster.proofs.Laws.{steps_bound, in_strip}
 use Rattle.raster.proofs.Steps.{one-step}
-use borrow.Author.Rules.{rules}
 use Rattle.raster.proofs.ScanLine.slice_by_steps.Goals as goal
 
 here : (c : goal.After-unzoom) → let a = c.args in (c.unzoom.result ≤ a.height) × (0 < a.height)

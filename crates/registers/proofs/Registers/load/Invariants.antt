@@ -1,15 +1,10 @@
 -- `Registers::load`: the registers before i are loaded, and with those that are left they are all of them.
-use Prim.Native.Nat.{ℕ, ◌-◌, ◌≤◌}
-use mathlib.Core.Path.{◌≡◌, refl, sym, ap, ◌∙◌}
-use mathlib.Core.List.{List, ◌++◌, zip_with}
-use native.Mathlib.Omega.{arith}
-use borrow.Author.Rules.{rules}
+use Prim.Native.Nat.{◌-◌, ◌≤◌}
+use mathlib.Core.Path.{◌≡◌}
+use mathlib.Core.List.{◌++◌, zip_with}
 use lib.Bits.{bit_and}
-use lib.ListN.{length, take, drop, length-set}
-use Rattle.registers.specs.declared.Registers.{Registers}
-use Rattle.registers.specs.Registers.{kept, loaded}
-use Rattle.registers.proofs.Laws.{zip_length, zip_at}
-use Rattle.facts.proofs.Written.{written-more, written-whole}
+use lib.ListN.{length, take, drop}
+use Rattle.registers.specs.Registers.{kept}
 use Rattle.registers.proofs.Registers.load.Given as goal
 
 abbrev pub invariant-loop-i : goal.invariant-loop-i

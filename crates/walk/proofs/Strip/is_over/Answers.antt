@@ -1,7 +1,6 @@
 -- `Strip::is_over`: each arm is a clause of `over`.
 use mathlib.Core.Path.{sym, ap, ◌∙◌}
 use Rattle.walk.specs.Walk.{over}
-use borrow.Author.Rules.{rules}
 use Rattle.walk.proofs.Strip.is_over.Goals as goal
 
 pub returns-in-Spacing : goal.returns-in-Spacing

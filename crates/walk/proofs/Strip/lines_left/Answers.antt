@@ -1,7 +1,6 @@
 -- `Strip::lines_left`: each arm is a clause of `lines_left`.
 use mathlib.Core.Path.{sym, ap, ◌∙◌}
 use Rattle.walk.specs.Walk.{lines_left}
-use borrow.Author.Rules.{rules}
 use Rattle.walk.proofs.Strip.lines_left.Goals as goal
 
 pub returns-in-Spacing : goal.returns-in-Spacing

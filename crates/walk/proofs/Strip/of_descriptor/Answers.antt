@@ -1,7 +1,6 @@
 -- `Strip::of_descriptor`: bit 7 picks the case of `strip_of`.
 use mathlib.Core.Path.{sym, ◌∙◌}
 use Rattle.walk.specs.Walk.{strip_of}
-use borrow.Author.Rules.{rules}
 use Rattle.walk.proofs.Strip.of_descriptor.Goals as goal
 
 pub returns-then-is_spacing : goal.returns-then-is_spacing

@@ -4,7 +4,6 @@ use native.Mathlib.Omega.{arith}
 use Rattle.limits.specs.Limits.{ram_pairs}
 use Rattle.walk.specs.Walk.{over}
 use Rattle.walk.proofs.Laws.{strip_of-begun, BeginsAt, begins_some, walked_none, walked-strip}
-use borrow.Author.Rules.{rules}
 use Rattle.walk.proofs.Walk.begin.Goals as goal
 
 pub begins_at-at-requires-clause-ram_len : goal.begins_at-at-requires-clause-ram_len

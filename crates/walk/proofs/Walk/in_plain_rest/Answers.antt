@@ -1,5 +1,4 @@
 -- `Walk::in_plain_rest`: `plain` picks the case.
-use borrow.Author.Rules.{rules}
 use Rattle.walk.proofs.Walk.in_plain_rest.Goals as goal
 
 pub returns-then-self : goal.returns-then-self

@@ -1,7 +1,6 @@
 -- `Walk::next_line`: nothing follows the strip (`walked-plain`), the next begins (`walked_begin`), or it goes on (`walked_on`).
 use mathlib.Core.Path.{sym, ◌∙◌}
 use Rattle.walk.proofs.Laws.{walked_on, walked-plain, walked_begin}
-use borrow.Author.Rules.{rules}
 use Rattle.walk.proofs.Walk.next_line.Goals as goal
 
 pub returns-then-self : goal.returns-then-self
