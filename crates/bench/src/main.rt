@@ -1,15 +1,17 @@
 #![tactic(auto)]
 // The bench of document 01: reads RAM, registers, font and a line count, and prints a heading and the lines of frame 0, or a refusal.
 use device::{Device, StartAnswer};
+use std::io;
+use std::io::Write;
 
-fn main() {
+fn main(rt: HostRuntime) -> io::Result<()> {
     // one byte more than an input has, so that a longer one shows
     let mut input = [0u8; report::INPUT_LENGTH + 1];
-    let n = io::read_full(0, &mut input);
-    run(&input[..n]);
+    let n = streams::read_full(&mut rt.stdin(), &mut input)?;
+    run(&mut rt.stdout(), &input[..n])
 }
 
-fn run(input: &[u8]) {
+fn run<W: Write>(out: &mut W, input: &[u8]) -> io::Result<()> {
     let begun = report::begin(input);
     let answer = begun.answer;
     let device = begun.device;
@@ -17,32 +19,43 @@ fn run(input: &[u8]) {
         StartAnswer::Refused(refusal) => {
             let mut text = [0u8; 16];
             let n = report::refusal_text(refusal.number(), &mut text);
-            print(&text, n);
+            print(out, &text, n)?;
         }
         StartAnswer::Started => {
-            show(device, report::ram_part(input), report::font_part(input));
+            show(
+                out,
+                device,
+                report::ram_part(input),
+                report::font_part(input),
+            )?;
         }
     }
+    Ok(())
 }
 
 // A frame that is started: the heading, then every line.
-fn show<'a>(device: Device, ram: &'a [u8], font: &'a [u8]) {
+fn show<'a, W: Write>(
+    out: &mut W,
+    device: Device,
+    ram: &'a [u8],
+    font: &'a [u8],
+) -> io::Result<()> {
     let mut text = [0u8; 1024];
     let frame = device.frame;
-    let mut left = frame.left;
-    let n = report::heading(left, device.width(), &mut text);
-    print(&text, n);
+    let n = report::heading(frame.left, device.width(), &mut text);
+    print(out, &text, n)?;
     let mut next = device;
-    while left > 0 {
+    for _ in 0..frame.left {
         let done = report::next_text(next, ram, font, &mut text);
-        print(&text, done.length);
+        print(out, &text, done.length)?;
         next = done.device;
-        left -= 1;
     }
+    Ok(())
 }
 
-fn print(text: &[u8], n: usize) {
+fn print<W: Write>(out: &mut W, text: &[u8], n: usize) -> io::Result<()> {
     if n <= text.len() {
-        io::write_all(1, &text[..n]);
+        out.write_all(&text[..n])?;
     }
+    Ok(())
 }

@@ -73,6 +73,7 @@ fn pane_at(house: usize, u: usize, v: usize) -> Colour
     wall_of(house)
 }
 
+#[tactic(auto, unfolding(crate::specs::Camera::house_at))]
 fn house_at(house: usize, u: usize, v: usize) -> Colour
     requires { (house < 15) × (u < 26) × (v < 96) }
     ensures { result ≡ house_at house u v }
@@ -86,6 +87,7 @@ fn house_at(house: usize, u: usize, v: usize) -> Colour
     pane_at(house, u, v)
 }
 
+#[tactic(auto, unfolding(crate::specs::Camera::town))]
 fn town_at(x: usize, y: usize) -> Colour
     requires { (x < 384) × (y < 96) }
     ensures { result ≡ town x y }
@@ -123,6 +125,7 @@ fn pavement_at(d: usize) -> Colour
 }
 
 // Line d of the street, e columns from its middle.
+#[tactic(auto, unfolding(crate::specs::Camera::street))]
 fn street_at(e: usize, d: usize) -> Colour
     requires { d < 110 }
     ensures { result ≡ street e d }
@@ -155,6 +158,7 @@ fn car_half(y: usize) -> usize
     0
 }
 
+#[tactic(auto, unfolding(crate::specs::Camera::cabin))]
 fn cabin_at(e: usize, y: usize) -> Colour
     ensures { result ≡ cabin e y }
 {
@@ -167,6 +171,7 @@ fn cabin_at(e: usize, y: usize) -> Colour
     solid(30, 52, 96)
 }
 
+#[tactic(auto, unfolding(crate::specs::Camera::front))]
 fn front_at(e: usize, y: usize) -> Colour
     requires { (e < 384) × (y < 216) }
     ensures { result ≡ front e y }
@@ -180,6 +185,7 @@ fn front_at(e: usize, y: usize) -> Colour
     solid(36, 62, 112)
 }
 
+#[tactic(auto, unfolding(crate::specs::Camera::car))]
 fn car_at(e: usize, y: usize) -> Colour
     requires { (e < 384) × (y < 216) }
     ensures { result ≡ car e y }
@@ -194,6 +200,7 @@ fn car_at(e: usize, y: usize) -> Colour
 }
 
 // The street, and the car on it.
+#[tactic(auto, unfolding(crate::specs::Camera::traffic))]
 fn traffic_at(x: usize, y: usize) -> Colour
     requires { (x < 384) × (96 ≤ y) × (y < 204) }
     ensures { result ≡ traffic x y }
@@ -214,6 +221,7 @@ fn post_at(e: usize) -> Colour
     solid(38, 39, 44)
 }
 
+#[tactic(auto, unfolding(crate::specs::Camera::sill))]
 fn sill_at(x: usize, y: usize) -> Colour
     requires { (x < 384) × (y < 216) }
     ensures { result ≡ sill x y }
@@ -227,6 +235,7 @@ fn sill_at(x: usize, y: usize) -> Colour
     solid(30, 30, 30)
 }
 
+#[tactic(auto, unfolding(crate::specs::Camera::scene))]
 fn scene_at(x: usize, y: usize) -> Colour
     requires { (x < 384) × (y < 216) }
     ensures { result ≡ scene x y }

@@ -12,6 +12,8 @@ ghost use Rattle.demo.specs.Picture.{input_length, host, played, end_of, full, m
 use camera::Colour;
 use capture::{Feed, FeedAnswer};
 use device::Device;
+use std::io;
+use std::io::Write;
 
 mod camera;
 
@@ -33,18 +35,17 @@ struct Played {
     traffic: Traffic,
 }
 
-fn main() {
-    let mut input = io::large_buffer();
-    let n = io::read_full(0, &mut input);
-    run(&input[..n]);
+fn main(rt: HostRuntime) -> io::Result<()> {
+    let mut input = [0u8; 65536];
+    let n = streams::read_full(&mut rt.stdin(), &mut input)?;
+    run(&mut rt.stdout(), &input[..n])
 }
 
-fn run(input: &[u8])
+fn run<W: Write>(out: &mut W, input: &[u8]) -> io::Result<()>
     requires { length input.now ≤ input_length }
 {
     if input.len() < limits::FONT_LENGTH {
-        io::write_all(1, b"demo: the input begins with a font of 4608 bytes\n");
-        return;
+        return out.write_all(b"demo: the input begins with a font of 4608 bytes\n");
     }
     let mut ram = bus::fresh_ram();
     let after = play(Device::fresh(), &mut ram, &input[limits::FONT_LENGTH..]);
@@ -52,11 +53,9 @@ fn run(input: &[u8])
     match traffic {
         Traffic::Whole => {
             let started = after.device.start_frame(LINES as u32);
-            show(started.device, &ram, &input[..limits::FONT_LENGTH]);
+            show(out, started.device, &ram, &input[..limits::FONT_LENGTH])
         }
-        Traffic::BadKind(event) => {
-            tell(event);
-        }
+        Traffic::BadKind(event) => tell(out, event),
     }
 }
 
@@ -86,36 +85,41 @@ fn end_of(answer: FeedAnswer) -> Traffic
     Traffic::BadKind(answer.value() / 2 + 1)
 }
 
-fn tell(event: usize) {
-    io::write_all(1, b"demo: event ");
-    io::print_decimal(1, event as u64);
-    io::write_all(1, b" of the traffic has no kind 0 to 3\n");
+fn tell<W: Write>(out: &mut W, event: usize) -> io::Result<()> {
+    out.write_all(b"demo: event ")?;
+    streams::write_decimal(out, event as u64)?;
+    out.write_all(b" of the traffic has no kind 0 to 3\n")
 }
 
 // The heading of the PPM, then every line.
-fn show<'a>(device: Device, ram: &'a [u8], font: &'a [u8]) {
+fn show<'a, W: Write>(
+    out: &mut W,
+    device: Device,
+    ram: &'a [u8],
+    font: &'a [u8],
+) -> io::Result<()> {
     let width = device.width() as usize;
-    heading(width);
-    let mut out = [0u8; 3 * limits::LINE_MAX];
+    heading(out, width)?;
+    let mut line = [0u8; 3 * limits::LINE_MAX];
     let mut next = device;
-    let mut y = 0;
-    while y < LINES {
-        next = picture_line(next, ram, font, y, &mut out);
-        print(&out, 3 * width);
-        y += 1;
+    for y in 0..LINES {
+        next = picture_line(next, ram, font, y, &mut line);
+        print(out, &line, 3 * width)?;
     }
+    Ok(())
 }
 
-fn heading(width: usize) {
-    io::write_all(1, b"P6\n");
-    io::print_decimal(1, width as u64);
-    io::write_all(1, b" 216\n255\n");
+fn heading<W: Write>(out: &mut W, width: usize) -> io::Result<()> {
+    out.write_all(b"P6\n")?;
+    streams::write_decimal(out, width as u64)?;
+    out.write_all(b" 216\n255\n")
 }
 
-fn print(bytes: &[u8], n: usize) {
+fn print<W: Write>(out: &mut W, bytes: &[u8], n: usize) -> io::Result<()> {
     if n <= bytes.len() {
-        io::write_all(1, &bytes[..n]);
+        out.write_all(&bytes[..n])?;
     }
+    Ok(())
 }
 
 // Draws the frame's next line, which is line y of the picture, and mixes it into the first bytes of out.
@@ -169,6 +173,7 @@ fn mix_line(line: &[u8], y: usize, out: &mut [u8])
 }
 
 // Fast blanking picks the overlay's colour or the camera's pixel.
+#[tactic(auto, unfolding(crate::specs::Picture::mix))]
 fn mix_pixel(pixel: u8, behind: Colour) -> Colour
     ensures { result ≡ mix pixel behind }
 {

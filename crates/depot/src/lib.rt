@@ -1,11 +1,14 @@
 #![tactic(auto)]
 // What a depot's programs (font_check, font_unpack, font_pack) say of their input, in one line.
-ghost use Rattle.std.specs.Prelude.{◌≡◌, ◌+◌, ◌%◌, ◌≤◌, ◌<◌, length, set};
+ghost use Rattle.std.specs.Prelude.{◌≡◌, ◌+◌, ◌%◌, ◌≤◌, ◌<◌, length, set, OnOk};
+ghost use Rattle.std.specs.Io.KnownBytes.{Appends};
 ghost use Rattle.font_file.specs.declared.FileAnswer.TheVariants.{Refused};
 ghost use Rattle.depot.specs.Depot.{place_at, line_of, not_font, text_of};
 
 use font_file::FileAnswer;
 use refusals::FileRefusal;
+use std::io;
+use std::io::Write;
 
 // Where the place of a block stands in a line. A place is 0 to 9; the remainder makes a digit of any byte.
 const PLACE_AT: usize = 18;
@@ -39,6 +42,7 @@ fn line_with(text: &[u8], place: u8) -> Line
     line
 }
 
+#[tactic(auto, unfolding(crate::specs::Depot::line_of, buffers::specs::Buffers::bytes_of))]
 fn refused(refusal: FileRefusal) -> Line
     ensures result_value { text_of result ≡ line_of (Refused refusal) }
     ensures length_in_bounds { result.length ≤ length result.bytes }
@@ -55,6 +59,7 @@ fn refused(refusal: FileRefusal) -> Line
     }
 }
 
+#[tactic(auto, unfolding(crate::specs::Depot::line_of, buffers::specs::Buffers::bytes_of))]
 fn told(answer: FileAnswer) -> Line
     ensures result_value { text_of result ≡ line_of answer }
     ensures length_in_bounds { result.length ≤ length result.bytes }
@@ -66,10 +71,13 @@ fn told(answer: FileAnswer) -> Line
 }
 
 // Printed here, so that font_check and font_unpack say the same.
-pub fn tell(answer: FileAnswer) {
-    print(told(answer));
+pub fn tell<W: Write>(out: &mut W, answer: FileAnswer) -> io::Result<()>
+    ensures { OnOk result (Appends (W.contents out.old) (W.contents out.new) (line_of answer)) }
+{
+    print(out, told(answer))
 }
 
+#[tactic(auto, unfolding(crate::specs::Depot::not_font, buffers::specs::Buffers::bytes_of))]
 fn not_font() -> Line
     ensures result_value { text_of result ≡ not_font }
     ensures length_in_bounds { result.length ≤ length result.bytes }
@@ -77,14 +85,17 @@ fn not_font() -> Line
     line_of(b"refused 15: not 4608 bytes\n")
 }
 
-pub fn tell_not_font() {
-    print(not_font());
+pub fn tell_not_font<W: Write>(out: &mut W) -> io::Result<()>
+    ensures { OnOk result (Appends (W.contents out.old) (W.contents out.new) not_font) }
+{
+    print(out, not_font())
 }
 
-fn print(line: Line)
+fn print<W: Write>(out: &mut W, line: Line) -> io::Result<()>
     requires { line.length ≤ length line.bytes }
+    ensures { OnOk result (Appends (W.contents out.old) (W.contents out.new) (text_of line)) }
 {
     let bytes = line.bytes;
     let length = line.length;
-    io::write_all(1, &bytes[..length]);
+    out.write_all(&bytes[..length])
 }

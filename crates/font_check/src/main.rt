@@ -1,15 +1,17 @@
 #![tactic(auto)]
 // Tests a font file (document 02, K8) on standard input, and prints one line: good, or which block and what is wrong.
 // The stored input and output come from tests/depot.py; tests/depot_runs.py runs it over every kind of file.
+use std::io;
+use std::io::Write;
 
-fn main() {
+fn main(rt: HostRuntime) -> io::Result<()> {
     // one byte more than a file has, so that a longer one shows
     let mut input = [0u8; limits::FONT_FILE_LENGTH + 1];
-    let n = io::read_full(0, &mut input);
-    check(&input[..n]);
+    let n = streams::read_full(&mut rt.stdin(), &mut input)?;
+    check(&mut rt.stdout(), &input[..n])
 }
 
-fn check(file: &[u8]) {
+fn check<W: Write>(out: &mut W, file: &[u8]) -> io::Result<()> {
     let mut font = [0u8; limits::FONT_LENGTH];
-    depot::tell(font_file::read(file, &mut font));
+    depot::tell(out, font_file::read(file, &mut font))
 }

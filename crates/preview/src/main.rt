@@ -2,9 +2,12 @@
 // Shows a picture as text: reads a binary PPM as `demo` writes it, and prints a Braille character for every 4 columns of 8 lines. A dot
 // stands for one pixel of every second column and line, and is set where the pixel is bright enough; how bright differs from dot to
 // dot, so that grey shows as some of them.
-ghost use Rattle.std.specs.Prelude.{◌≡◌, ◌+◌, ◌*◌, ◌≤◌, ◌<◌, length};
+ghost use Rattle.std.specs.Prelude.{◌≡◌, ◌+◌, ◌*◌, ◌≤◌, ◌<◌, length, IfOk};
 ghost use Rattle.limits.specs.Limits.{line_max};
 ghost use Rattle.preview.specs.Preview.{digit, number, four_bytes, none, shown, size_of, brightness, dot, dots, upper, cell, braille};
+
+use std::io;
+use std::io::{Read, Write};
 
 #[derive(Clone, Copy)]
 pub struct Size {
@@ -12,64 +15,75 @@ pub struct Size {
     pub height: usize,
 }
 
-fn main() {
+fn main(rt: HostRuntime) -> io::Result<()> {
     let mut heading = [0u8; 15];
-    io::read_full(0, &mut heading);
+    let mut input = rt.stdin();
+    let mut out = rt.stdout();
+    streams::read_full(&mut input, &mut heading)?;
     let size = size_of(&heading);
     if size.width == 0 {
-        io::write_all(
-            1,
+        return out.write_all(
             b"preview: not a PPM of at most 768 x 999 with sizes in three digits\n",
         );
-        return;
     }
-    show(size.width, size.height / 8);
+    show(&mut input, &mut out, size.width, size.height / 8)
 }
 
-fn show(width: usize, rows: usize)
+fn show<R: Read, W: Write>(input: &mut R, out: &mut W, width: usize, rows: usize) -> io::Result<()>
     requires { width ≤ line_max }
 {
     let mut left = rows;
     while left > 0 {
-        left = next_row(width, left);
+        left = next_row(input, out, width, left)?;
     }
+    Ok(())
 }
 
-fn next_row(width: usize, left: usize) -> usize
+fn next_row<R: Read, W: Write>(
+    input: &mut R,
+    out: &mut W,
+    width: usize,
+    left: usize,
+) -> io::Result<usize>
     requires { (width ≤ line_max) × (0 < left) }
-    ensures { result < left }
+    ensures { IfOk result (λ rows. rows < left) }
 {
     let mut band = [0u8; 24 * limits::LINE_MAX];
-    read_row(&mut band, width, left)
+    read_row(input, out, &mut band, width, left)
 }
 
 // A row of characters, from a band of eight lines. Answers how many rows are left: none where the picture ends early.
-fn read_row(band: &mut [u8], width: usize, left: usize) -> usize
+fn read_row<R: Read, W: Write>(
+    input: &mut R,
+    out: &mut W,
+    band: &mut [u8],
+    width: usize,
+    left: usize,
+) -> io::Result<usize>
     requires { (24 * width ≤ length band.old) × (width ≤ line_max) × (0 < left) }
-    ensures { result < left }
+    ensures { IfOk result (λ rows. rows < left) }
 {
     let n = 24 * width;
-    if io::read_full(0, &mut band[..n]) < n {
-        io::write_all(1, b"preview: the picture is cut short\n");
-        return 0;
+    if streams::read_full(input, &mut band[..n])? < n {
+        out.write_all(b"preview: the picture is cut short\n")?;
+        return Ok(0);
     }
-    show_row(band, width);
-    left - 1
+    show_row(out, band, width)?;
+    Ok(left - 1)
 }
 
-fn show_row(band: &[u8], width: usize)
+fn show_row<W: Write>(out: &mut W, band: &[u8], width: usize) -> io::Result<()>
     requires { (24 * width ≤ length band.now) × (width ≤ line_max) }
 {
-    let mut column = 0;
-    while column < width / 4 {
+    for column in 0..width / 4 {
         let text = braille_of(cell_at(band, 12 * column, 3 * width));
-        io::write_all(1, &text);
-        column += 1;
+        out.write_all(&text)?;
     }
-    io::write_all(1, b"\n");
+    out.write_all(b"\n")
 }
 
 // The size in a heading; 0 × 0 where the picture is not shown.
+#[tactic(auto, unfolding(crate::specs::Preview::size_of))]
 fn size_of(heading: &[u8; 15]) -> Size
     ensures value { result ≡ size_of heading.now }
     ensures width_le_line_max { result.width ≤ line_max }
@@ -93,6 +107,7 @@ fn not_shown() -> Size
     }
 }
 
+#[tactic(auto, unfolding(crate::specs::Preview::shown))]
 fn checked(width: usize, height: usize) -> Size
     ensures value { result ≡ shown width height }
     ensures width_le_line_max { result.width ≤ line_max }
@@ -149,6 +164,7 @@ fn brightness_at(band: &[u8], at: usize) -> usize
 }
 
 // The weight of a dot where its pixel is at least so bright, else 0.
+#[tactic(auto, unfolding(crate::specs::Preview::dot))]
 fn dot_at(band: &[u8], at: usize, least: usize, weight: usize) -> usize
     requires { at + 2 < length band.now }
     ensures value { result ≡ dot band.now at least weight }

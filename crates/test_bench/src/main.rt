@@ -4,6 +4,8 @@
 // Standard input: the bench's input with the count 0, and one byte more. The stored output comes from tests/model.py
 // (tests/test_bench.py).
 use device::{Device, StartAnswer};
+use std::io;
+use std::io::Write;
 use test_script::Numbers;
 
 const DIGEST: Numbers = Numbers {
@@ -12,26 +14,27 @@ const DIGEST: Numbers = Numbers {
     last: 65520,
 };
 
-fn main() {
+fn main(rt: HostRuntime) -> io::Result<()> {
     let mut input = [0u8; 5651];
-    io::read_full(0, &mut input);
-    run(test_script::first(&input, 0));
-    run(test_script::first(&input, 5649));
-    run(&input);
-    run_count(&mut input, 0);
-    run_count(&mut input, 2048);
-    run_count(&mut input, 2049);
-    run_count(&mut input, 65535);
+    streams::read_full(&mut rt.stdin(), &mut input)?;
+    let mut out = rt.stdout();
+    run(&mut out, test_script::first(&input, 0))?;
+    run(&mut out, test_script::first(&input, 5649))?;
+    run(&mut out, &input)?;
+    run_count(&mut out, &mut input, 0)?;
+    run_count(&mut out, &mut input, 2048)?;
+    run_count(&mut out, &mut input, 2049)?;
+    run_count(&mut out, &mut input, 65535)
 }
 
 // The input with a line count, low byte first.
-fn run_count(input: &mut [u8; 5651], lines: u16) {
+fn run_count<W: Write>(out: &mut W, input: &mut [u8; 5651], lines: u16) -> io::Result<()> {
     input[5648] = (lines % 256) as u8;
     input[5649] = (lines / 256) as u8;
-    run(test_script::first(input, 5650));
+    run(out, test_script::first(input, 5650))
 }
 
-fn run(input: &[u8]) {
+fn run<W: Write>(out: &mut W, input: &[u8]) -> io::Result<()> {
     let begun = report::begin(input);
     let answer = begun.answer;
     let device = begun.device;
@@ -39,48 +42,68 @@ fn run(input: &[u8]) {
         StartAnswer::Refused(refusal) => {
             let mut text = [0u8; 16];
             let n = report::refusal_text(refusal.number(), &mut text);
-            io::write_all(1, test_script::first(&text, n));
+            out.write_all(test_script::first(&text, n))?;
         }
         StartAnswer::Started => {
-            show(device, report::ram_part(input), report::font_part(input));
+            show(
+                out,
+                device,
+                report::ram_part(input),
+                report::font_part(input),
+            )?;
         }
     }
+    Ok(())
 }
 
 // A frame that is started.
-fn show<'a>(device: Device, ram: &'a [u8], font: &'a [u8]) {
-    show_heading(device);
-    show_lines(device, ram, font);
+fn show<'a, W: Write>(
+    out: &mut W,
+    device: Device,
+    ram: &'a [u8],
+    font: &'a [u8],
+) -> io::Result<()> {
+    show_heading(out, device)?;
+    show_lines(out, device, ram, font)
 }
 
-fn show_heading(device: Device) {
+fn show_heading<W: Write>(out: &mut W, device: Device) -> io::Result<()> {
     let mut text = [0u8; 32];
     let frame = device.frame;
     let n = report::heading(frame.left, device.width(), &mut text);
-    io::write_all(1, test_script::first(&text, n));
+    out.write_all(test_script::first(&text, n))
 }
 
 // The first and the last line, and the digest.
-fn show_lines<'a>(device: Device, ram: &'a [u8], font: &'a [u8]) {
+fn show_lines<'a, W: Write>(
+    out: &mut W,
+    device: Device,
+    ram: &'a [u8],
+    font: &'a [u8],
+) -> io::Result<()> {
     let mut text = [0u8; 1024];
     let frame = device.frame;
     let lines = frame.left;
     let mut next = device;
-    let mut left = lines;
     let mut sum = 0;
-    while left > 0 {
+    for y in 0..lines {
         let done = report::next_text(next, ram, font, &mut text);
-        sum = told(sum, test_script::first(&text, done.length), left, lines);
+        sum = told(
+            out,
+            sum,
+            test_script::first(&text, done.length),
+            lines - y,
+            lines,
+        )?;
         next = done.device;
-        left -= 1;
     }
-    test_script::print_decimal(sum, b'\n');
+    test_script::print_decimal(out, sum, b'\n')
 }
 
 // The digest with a line, which is printed where it is the first or the last.
-fn told(sum: u64, line: &[u8], left: u16, lines: u16) -> u64 {
+fn told<W: Write>(out: &mut W, sum: u64, line: &[u8], left: u16, lines: u16) -> io::Result<u64> {
     if left == lines || left == 1 {
-        io::write_all(1, line);
+        out.write_all(line)?;
     }
-    test_script::mix_all(sum, line, DIGEST)
+    Ok(test_script::mix_all(sum, line, DIGEST))
 }

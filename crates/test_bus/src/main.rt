@@ -5,31 +5,33 @@
 // (tests/test_bus.py has the script).
 use bus::Event;
 use device::Device;
+use std::io;
+use std::io::Write;
 use test_script::Call;
 
-fn main() {
+fn main(rt: HostRuntime) -> io::Result<()> {
     let mut script = [0u8; 8192];
-    let n = io::read_full(0, &mut script);
+    let n = streams::read_full(&mut rt.stdin(), &mut script)?;
     let mut ram = [0u8; 1025];
-    run(&script[..n], &mut ram);
+    run(&mut rt.stdout(), &script[..n], &mut ram)
 }
 
-fn run(script: &[u8], ram: &mut [u8]) {
+fn run<W: Write>(out: &mut W, script: &[u8], ram: &mut [u8]) -> io::Result<()> {
     let mut device = Device::fresh();
     let mut lent = 1024;
-    let mut i = 0;
-    while i < script.len() / 2 {
+    for i in 0..script.len() / 2 {
         let kind = script[2 * i];
         let byte = script[2 * i + 1];
         lent = lent_from(lent, kind, byte);
         device = heard(
+            out,
             device,
             test_script::first_mut(ram, lent as usize),
             kind,
             byte,
-        );
-        i += 1;
+        )?;
     }
+    Ok(())
 }
 
 // How much RAM is lent from a step on.
@@ -40,35 +42,38 @@ fn lent_from(lent: u16, kind: u8, choice: u8) -> u16 {
     lent
 }
 
-fn heard(device: Device, ram: &mut [u8], kind: u8, byte: u8) -> Device {
+fn heard<W: Write>(
+    out: &mut W,
+    device: Device,
+    ram: &mut [u8],
+    kind: u8,
+    byte: u8,
+) -> io::Result<Device> {
     if kind > bus::STOP {
-        return device;
+        return Ok(device);
     }
     let done = test_script::make(device, ram, Call::Hear(Event::of_kind(kind, byte)));
-    show(kind, byte, done.refusal, done.value);
-    done.device
+    show(out, kind, byte, done.refusal, done.value)?;
+    Ok(done.device)
 }
 
 // The event, the refusal's number in decimal and the byte.
-fn show(kind: u8, byte: u8, refusal: u8, answer: u16) {
-    show_event(kind, byte);
-    io::write_all(1, b": ");
-    test_script::print_decimal(refusal as u64, b' ');
-    test_script::print_hex(answer as u64, 2, b'\n');
+fn show<W: Write>(out: &mut W, kind: u8, byte: u8, refusal: u8, answer: u16) -> io::Result<()> {
+    show_event(out, kind, byte)?;
+    out.write_all(b": ")?;
+    test_script::print_decimal(out, refusal as u64, b' ')?;
+    test_script::print_hex(out, answer as u64, 2, b'\n')
 }
 
-fn show_event(kind: u8, byte: u8) {
+fn show_event<W: Write>(out: &mut W, kind: u8, byte: u8) -> io::Result<()> {
     if kind == bus::START {
-        io::write_all(1, b"start");
-        return;
+        return out.write_all(b"start");
     }
     if kind == bus::FETCH {
-        io::write_all(1, b"fetch");
-        return;
+        return out.write_all(b"fetch");
     }
     if kind == bus::STOP {
-        io::write_all(1, b"stop");
-        return;
+        return out.write_all(b"stop");
     }
     let text = [
         b'b',
@@ -79,5 +84,5 @@ fn show_event(kind: u8, byte: u8) {
         buffers::hex_digit(byte / 16),
         buffers::hex_digit(byte % 16),
     ];
-    io::write_all(1, &text);
+    out.write_all(&text)
 }

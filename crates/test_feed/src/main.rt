@@ -10,11 +10,13 @@
 //
 // The stored output comes from tests/model.py, which was written from request K1's words and not from this code
 // (tests/test_feed.py has the steps).
-ghost use Rattle.std.specs.Prelude.{◌≡◌, ◌*◌, ◌<◌, length, get_or, drop};
+ghost use Rattle.std.specs.Prelude.{◌≡◌, ◌*◌, ◌<◌, length, get_or, drop, IfOk};
 ghost use Rattle.capture.specs.Capture.{would_complete};
 
 use capture::Feed;
 use device::Device;
+use std::io;
+use std::io::Write;
 use test_script::Numbers;
 
 // Cuts are shown one by one where a capture has so many bytes at the most.
@@ -71,42 +73,43 @@ struct Cut {
     left: Left,
 }
 
-fn main() {
+fn main(rt: HostRuntime) -> io::Result<()> {
     let mut script = [0u8; 8192];
-    let n = io::read_full(0, &mut script);
+    let n = streams::read_full(&mut rt.stdin(), &mut script)?;
     let mut ram = [0u8; 1025];
-    run(&script[..n], &mut ram);
+    run(&mut rt.stdout(), &script[..n], &mut ram)
 }
 
 // ---- steps
 
-fn run(script: &[u8], ram: &mut [u8]) {
+fn run<W: Write>(out: &mut W, script: &[u8], ram: &mut [u8]) -> io::Result<()> {
     let mut host = Host::fresh();
     let mut at = 0;
     while at < script.len() {
         let steps = &script[at..];
-        host = make_first(host, ram, steps);
+        host = make_first(out, host, ram, steps)?;
         at += first_length(steps);
     }
+    Ok(())
 }
 
 // Makes the first of the steps.
-fn make_first(host: Host, ram: &mut [u8], steps: &[u8]) -> Host {
+fn make_first<W: Write>(out: &mut W, host: Host, ram: &mut [u8], steps: &[u8]) -> io::Result<Host> {
     let kind = byte_at(steps, 0);
     let bytes = behind(steps, 3);
     match kind {
-        0 => all_fresh(ram),
-        1 => host.anew(),
-        2 => host.lending(byte_at(steps, 1)),
+        0 => Ok(all_fresh(ram)),
+        1 => Ok(host.anew()),
+        2 => Ok(host.lending(byte_at(steps, 1))),
         3 => {
             let chunk = test_script::first(bytes, byte_at(steps, 2) as usize);
-            take_chunk(host, ram, chunk, byte_at(steps, 1))
+            take_chunk(out, host, ram, chunk, byte_at(steps, 1))
         }
         4 => {
-            take_capture(test_script::first(bytes, capture_length(steps)));
-            all_fresh(ram)
+            take_capture(out, test_script::first(bytes, capture_length(steps)))?;
+            Ok(all_fresh(ram))
         }
-        _ => host,
+        _ => Ok(host),
     }
 }
 
@@ -157,10 +160,8 @@ fn all_fresh(ram: &mut [u8]) -> Host {
 }
 
 fn clear(ram: &mut [u8]) {
-    let mut i = 0;
-    while i < ram.len() {
-        ram[i] = 0;
-        i += 1;
+    for byte in ram.iter_mut() {
+        *byte = 0;
     }
 }
 
@@ -251,55 +252,60 @@ fn room_for(feed: Feed, chunk: &[u8]) -> usize
 
 // ---- a chunk
 
-fn take_chunk(host: Host, ram: &mut [u8], chunk: &[u8], room: u8) -> Host {
+fn take_chunk<W: Write>(
+    out: &mut W,
+    host: Host,
+    ram: &mut [u8],
+    chunk: &[u8],
+    room: u8,
+) -> io::Result<Host> {
     let mut space = [MARKER; 255];
-    let out = test_script::first_mut(&mut space, room as usize);
-    let fed = host.take(ram, chunk, out);
+    let written = test_script::first_mut(&mut space, room as usize);
+    let fed = host.take(ram, chunk, written);
     let next = fed.host;
     let feed = next.feed;
-    say(b"chunk ", chunk.len() as u64);
-    say(b" room ", room as u64);
-    show_answer(fed.answer);
-    show_feed(state_of(feed), feed.held_kind());
-    io::write_all(1, b" out ");
-    show_bytes(out);
-    io::write_all(1, b"\n");
-    next
+    say(out, b"chunk ", chunk.len() as u64)?;
+    say(out, b" room ", room as u64)?;
+    show_answer(out, fed.answer)?;
+    show_feed(out, state_of(feed), feed.held_kind())?;
+    out.write_all(b" out ")?;
+    show_bytes(out, written)?;
+    out.write_all(b"\n")?;
+    Ok(next)
 }
 
 // ---- a capture
 
 // Whole, and then in every cut.
-fn take_capture(capture: &[u8]) {
-    let whole = feed_whole(capture);
+fn take_capture<W: Write>(out: &mut W, capture: &[u8]) -> io::Result<()> {
+    let whole = feed_whole(out, capture)?;
     let mut same = 0;
-    let mut place = 0;
-    while place <= capture.len() {
-        same += count_cut(capture, place, whole);
-        place += 1;
+    let cuts = capture.len() + 1;
+    for place in 0..cuts {
+        same += count_cut(out, capture, place, whole)?;
     }
-    show_count(place, same);
+    show_count(out, cuts, same)
 }
 
-fn feed_whole(capture: &[u8]) -> Left {
+fn feed_whole<W: Write>(out: &mut W, capture: &[u8]) -> io::Result<Left> {
     let mut ram = bus::fresh_ram();
     let whole = Host::fresh().take_exactly(&mut ram, capture);
     let left = whole.host.left(&ram);
-    say(b"capture ", capture.len() as u64);
-    show_answer(whole.answer);
-    show_left(left);
-    left
+    say(out, b"capture ", capture.len() as u64)?;
+    show_answer(out, whole.answer)?;
+    show_left(out, left)?;
+    Ok(left)
 }
 
 // 1 where the cut leaves what the whole left.
-fn count_cut(capture: &[u8], place: usize, whole: Left) -> u64
-    ensures { result < 2 }
+fn count_cut<W: Write>(out: &mut W, capture: &[u8], place: usize, whole: Left) -> io::Result<u64>
+    ensures { IfOk result (λ n. n < 2) }
 {
     let cut = feed_cut(capture, place);
     if capture.len() <= SHOWN_CUTS {
-        show_cut(place, cut);
+        show_cut(out, place, cut)?;
     }
-    if same(cut.left, whole) { 1 } else { 0 }
+    Ok(if same(cut.left, whole) { 1 } else { 0 })
 }
 
 // Up to a place, nothing, and from that place on.
@@ -325,58 +331,57 @@ fn same(a: Left, b: Left) -> bool {
 
 // ---- what is printed
 
-fn say(words: &[u8], number: u64) {
-    io::write_all(1, words);
-    io::print_decimal(1, number);
+fn say<W: Write>(out: &mut W, words: &[u8], number: u64) -> io::Result<()> {
+    out.write_all(words)?;
+    streams::write_decimal(out, number)
 }
 
-fn show_answer(answer: Answer) {
-    say(b": refusal ", answer.refusal as u64);
-    say(b" value ", answer.value as u64);
+fn show_answer<W: Write>(out: &mut W, answer: Answer) -> io::Result<()> {
+    say(out, b": refusal ", answer.refusal as u64)?;
+    say(out, b" value ", answer.value as u64)
 }
 
-fn show_feed(state: u8, held: u8) {
-    say(b" feed ", state as u64);
-    io::write_all(1, b" ");
-    show_byte(held);
+fn show_feed<W: Write>(out: &mut W, state: u8, held: u8) -> io::Result<()> {
+    say(out, b" feed ", state as u64)?;
+    out.write_all(b" ")?;
+    show_byte(out, held)
 }
 
-fn show_left(left: Left) {
-    show_feed(left.state, left.held);
-    io::write_all(1, b" out ");
-    test_script::print_hex(left.written, 8, b' ');
-    io::write_all(1, b"ram ");
-    test_script::print_hex(left.ram, 8, b'\n');
+fn show_left<W: Write>(out: &mut W, left: Left) -> io::Result<()> {
+    show_feed(out, left.state, left.held)?;
+    out.write_all(b" out ")?;
+    test_script::print_hex(out, left.written, 8, b' ')?;
+    out.write_all(b"ram ")?;
+    test_script::print_hex(out, left.ram, 8, b'\n')
 }
 
-fn show_cut(place: usize, cut: Cut) {
-    say(b"cut ", place as u64);
-    show_numbers(b": ", cut.head);
-    show_numbers(b", ", cut.empty);
-    show_numbers(b", ", cut.tail);
-    io::write_all(1, b"\n");
+fn show_cut<W: Write>(out: &mut W, place: usize, cut: Cut) -> io::Result<()> {
+    say(out, b"cut ", place as u64)?;
+    show_numbers(out, b": ", cut.head)?;
+    show_numbers(out, b", ", cut.empty)?;
+    show_numbers(out, b", ", cut.tail)?;
+    out.write_all(b"\n")
 }
 
-fn show_numbers(before: &[u8], answer: Answer) {
-    say(before, answer.refusal as u64);
-    say(b" ", answer.value as u64);
+fn show_numbers<W: Write>(out: &mut W, before: &[u8], answer: Answer) -> io::Result<()> {
+    say(out, before, answer.refusal as u64)?;
+    say(out, b" ", answer.value as u64)
 }
 
-fn show_count(cuts: usize, same: u64) {
-    say(b"cuts ", cuts as u64);
-    say(b": ", same);
-    io::write_all(1, b" as the whole\n");
+fn show_count<W: Write>(out: &mut W, cuts: usize, same: u64) -> io::Result<()> {
+    say(out, b"cuts ", cuts as u64)?;
+    say(out, b": ", same)?;
+    out.write_all(b" as the whole\n")
 }
 
-fn show_bytes(bytes: &[u8]) {
-    let mut i = 0;
-    while i < bytes.len() {
-        show_byte(bytes[i]);
-        i += 1;
+fn show_bytes<W: Write>(out: &mut W, bytes: &[u8]) -> io::Result<()> {
+    for byte in bytes {
+        show_byte(out, *byte)?;
     }
+    Ok(())
 }
 
-fn show_byte(byte: u8) {
+fn show_byte<W: Write>(out: &mut W, byte: u8) -> io::Result<()> {
     let text = [buffers::hex_digit(byte / 16), buffers::hex_digit(byte % 16)];
-    io::write_all(1, &text);
+    out.write_all(&text)
 }

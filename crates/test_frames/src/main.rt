@@ -22,6 +22,8 @@
 // (tests/test_frames.py has the script).
 use bus::Event;
 use device::Device;
+use std::io;
+use std::io::Write;
 use test_script::{Call, Numbers, Step};
 
 // What a line buffer holds before a draw.
@@ -48,25 +50,24 @@ const DIGEST: Numbers = Numbers {
     last: 4294967290,
 };
 
-fn main() {
+fn main(rt: HostRuntime) -> io::Result<()> {
     let mut script = [0u8; 131072];
-    let n = io::read_full(0, &mut script);
+    let n = streams::read_full(&mut rt.stdin(), &mut script)?;
     let mut ram = bus::fresh_ram();
     // one byte more than a font has, to be lent too much of it
     let mut font = [0u8; 4609];
-    run(&script[..n], &mut ram, &mut font);
+    run(&mut rt.stdout(), &script[..n], &mut ram, &mut font)
 }
 
-fn run(script: &[u8], ram: &mut [u8], font: &mut [u8]) {
+fn run<W: Write>(out: &mut W, script: &[u8], ram: &mut [u8], font: &mut [u8]) -> io::Result<()> {
     let mut device = Device::fresh();
     let mut kept = [1024, 1024, 4608, 0];
-    let mut i = 0;
-    while i < script.len() / 4 {
+    for i in 0..script.len() / 4 {
         let step = test_script::step_at(script, i);
-        i += 1;
-        set_up(step, ram, font, &mut kept);
-        device = turn(device, step, ram, font, &mut kept);
+        set_up(out, step, ram, font, &mut kept)?;
+        device = turn(out, device, step, ram, font, &mut kept)?;
     }
+    Ok(())
 }
 
 fn word(high: u8, low: u8) -> usize {
@@ -75,21 +76,20 @@ fn word(high: u8, low: u8) -> usize {
 
 // ---- steps 0 to 3, 11 and 14
 
-fn turn(
+fn turn<W: Write>(
+    out: &mut W,
     device: Device,
     step: Step,
     ram: &mut [u8],
     font: &mut [u8],
     kept: &mut [u64; 4],
-) -> Device {
+) -> io::Result<Device> {
     let n = calls_of(step);
     let mut now = device;
-    let mut i = 0;
-    while i < n {
-        now = call(now, step, i, ram, font, kept);
-        i += 1;
+    for i in 0..n {
+        now = call(out, now, step, i, ram, font, kept)?;
     }
-    now
+    Ok(now)
 }
 
 fn calls_of(step: Step) -> usize {
@@ -103,24 +103,25 @@ fn calls_of(step: Step) -> usize {
     }
 }
 
-fn call(
+fn call<W: Write>(
+    out: &mut W,
     device: Device,
     step: Step,
     i: usize,
     ram: &mut [u8],
     font: &mut [u8],
     kept: &mut [u64; 4],
-) -> Device {
+) -> io::Result<Device> {
     if step.kind == 11 {
-        return draw(device, step.c, ram, font, kept);
+        return draw(out, device, step.c, ram, font, kept);
     }
     let done = test_script::make(device, ram, call_of(step, i));
     if step.kind == 14 {
-        show_answer(step, i, done.refusal, done.value);
-        return done.device;
+        show_answer(out, step, i, done.refusal, done.value)?;
+        return Ok(done.device);
     }
-    show(step.kind, done.refusal, done.value);
-    done.device
+    show(out, step.kind, done.refusal, done.value)?;
+    Ok(done.device)
 }
 
 fn call_of(step: Step, i: usize) -> Call {
@@ -146,28 +147,33 @@ fn event_of(step: Step, i: usize) -> Event {
     }
 }
 
-fn show(kind: u8, refusal: u8, byte: u16) {
+fn show<W: Write>(out: &mut W, kind: u8, refusal: u8, byte: u16) -> io::Result<()> {
     if refusal == 0 {
         if byte == 0 {
-            return;
+            return Ok(());
         }
     }
     if kind == 2 {
-        io::write_all(1, b"start ");
-        test_script::print_decimal(refusal as u64, b'\n');
-        return;
+        out.write_all(b"start ")?;
+        return test_script::print_decimal(out, refusal as u64, b'\n');
     }
-    io::write_all(1, b"event ");
-    test_script::print_decimal(refusal as u64, b' ');
-    test_script::print_decimal(byte as u64, b'\n');
+    out.write_all(b"event ")?;
+    test_script::print_decimal(out, refusal as u64, b' ')?;
+    test_script::print_decimal(out, byte as u64, b'\n')
 }
 
-fn show_answer(step: Step, i: usize, refusal: u8, value: u16) {
+fn show_answer<W: Write>(
+    out: &mut W,
+    step: Step,
+    i: usize,
+    refusal: u8,
+    value: u16,
+) -> io::Result<()> {
     if i == 0 {
-        io::write_all(1, b"ask ");
+        out.write_all(b"ask ")?;
     }
-    test_script::print_decimal(refusal as u64, b':');
-    test_script::print_decimal(value as u64, after(step, i));
+    test_script::print_decimal(out, refusal as u64, b':')?;
+    test_script::print_decimal(out, value as u64, after(step, i))
 }
 
 // Between two answers, or behind the last; i is below 256, as c is.
@@ -179,13 +185,20 @@ fn after(step: Step, i: usize) -> u8 {
     }
 }
 
-fn draw<'a>(device: Device, way: u8, ram: &'a [u8], font: &'a [u8], kept: &mut [u64; 4]) -> Device {
+fn draw<'a, W: Write>(
+    out: &mut W,
+    device: Device,
+    way: u8,
+    ram: &'a [u8],
+    font: &'a [u8],
+    kept: &mut [u64; 4],
+) -> io::Result<Device> {
     let mut line = [MARKER; 1024];
     let room = test_script::first_mut(&mut line, kept[LINE] as usize);
     let lent_font = test_script::first(font, kept[FONT] as usize);
     let done = test_script::draw(device, lent(ram, font, kept[RAM] as usize), lent_font, room);
-    told(done.refusal, done.value, way, room, kept);
-    done.device
+    told(out, done.refusal, done.value, way, room, kept)?;
+    Ok(done.device)
 }
 
 // RAM of a length: another one than its own is refused, so the font's bytes serve.
@@ -197,12 +210,18 @@ fn lent<'a>(ram: &'a [u8], font: &'a [u8], n: usize) -> &'a [u8] {
 }
 
 // The refusal, the read count, and the line buffer or its digest, or all of them in the sum.
-fn told(refusal: u8, cells: u16, way: u8, line: &mut [u8], kept: &mut [u64; 4]) {
+fn told<W: Write>(
+    out: &mut W,
+    refusal: u8,
+    cells: u16,
+    way: u8,
+    line: &mut [u8],
+    kept: &mut [u64; 4],
+) -> io::Result<()> {
     if way < 2 {
-        test_script::print_decimal(refusal as u64, b' ');
-        test_script::print_decimal(cells as u64, b' ');
-        show_line(way, line);
-        return;
+        test_script::print_decimal(out, refusal as u64, b' ')?;
+        test_script::print_decimal(out, cells as u64, b' ')?;
+        return show_line(out, way, line);
     }
     let head = test_script::mix(
         test_script::mix(kept[SUM], refusal as u16, DIGEST),
@@ -210,29 +229,27 @@ fn told(refusal: u8, cells: u16, way: u8, line: &mut [u8], kept: &mut [u64; 4]) 
         DIGEST,
     );
     kept[SUM] = test_script::mix_all(head, line, DIGEST);
+    Ok(())
 }
 
-fn show_line(way: u8, line: &mut [u8]) {
+fn show_line<W: Write>(out: &mut W, way: u8, line: &mut [u8]) -> io::Result<()> {
     if way == 0 {
         spell(line);
-        io::write_all(1, line);
-        io::write_all(1, b"\n");
-        return;
+        out.write_all(line)?;
+        return out.write_all(b"\n");
     }
-    show_digest(test_script::mix_all(0, line, DIGEST));
+    show_digest(out, test_script::mix_all(0, line, DIGEST))
 }
 
-fn show_digest(sum: u64) {
-    io::print_hex(1, sum, 8);
-    io::write_all(1, b"\n");
+fn show_digest<W: Write>(out: &mut W, sum: u64) -> io::Result<()> {
+    streams::write_hexadecimal(out, sum)?;
+    out.write_all(b"\n")
 }
 
 // A character for each byte, in its place.
 fn spell(line: &mut [u8]) {
-    let mut i = 0;
-    while i < line.len() {
-        line[i] = character(line[i]);
-        i += 1;
+    for pixel in line.iter_mut() {
+        *pixel = character(*pixel);
     }
 }
 
@@ -245,7 +262,13 @@ fn character(pixel: u8) -> u8 {
 
 // ---- the other steps
 
-fn set_up(step: Step, ram: &mut [u8], font: &mut [u8], kept: &mut [u64; 4]) {
+fn set_up<W: Write>(
+    out: &mut W,
+    step: Step,
+    ram: &mut [u8],
+    font: &mut [u8],
+    kept: &mut [u64; 4],
+) -> io::Result<()> {
     let kind = step.kind;
     match kind {
         4 | 6 | 8 => {
@@ -255,10 +278,11 @@ fn set_up(step: Step, ram: &mut [u8], font: &mut [u8], kept: &mut [u64; 4]) {
             change(step, font);
         }
         10 | 12 | 13 => {
-            tell(step, kept);
+            tell(out, step, kept)?;
         }
         _ => {}
     }
+    Ok(())
 }
 
 // Steps on RAM or font: one byte, noise, or all bytes alike.
@@ -279,27 +303,25 @@ fn change(step: Step, bytes: &mut [u8]) {
 }
 
 fn fill(bytes: &mut [u8], value: u8) {
-    let mut i = 0;
-    while i < bytes.len() {
-        bytes[i] = value;
-        i += 1;
+    for byte in bytes.iter_mut() {
+        *byte = value;
     }
 }
 
 // Steps that lend other lengths from then on, or print.
-fn tell(step: Step, kept: &mut [u64; 4]) {
+fn tell<W: Write>(out: &mut W, step: Step, kept: &mut [u64; 4]) -> io::Result<()> {
     let kind = step.kind;
     if kind == 10 {
         kept[LINE] = word(step.a, step.b) as u64;
         kept[RAM] = test_script::length(1024, step.c % 4) as u64;
         kept[FONT] = test_script::length(4608, step.c / 4) as u64;
-        return;
+        return Ok(());
     }
     if kind == 12 {
-        show_digest(kept[SUM]);
+        show_digest(out, kept[SUM])?;
         kept[SUM] = 0;
-        return;
+        return Ok(());
     }
     let text = [step.a, step.b, step.c];
-    io::write_all(1, &text);
+    out.write_all(&text)
 }

@@ -24,6 +24,8 @@ ghost use Rattle.std.specs.Prelude.{◌<◌};
 use bus::Event;
 use device::Device;
 use registers::Registers;
+use std::io;
+use std::io::Write;
 use test_script::{Call, Numbers, Step};
 
 // What is kept from step to step: digests of the answers, those of draws with their line buffers; and the latest answer.
@@ -73,15 +75,15 @@ struct Part {
     which: Which,
 }
 
-fn main() {
-    let mut script = io::large_buffer();
-    let n = io::read_full(0, &mut script);
+fn main(rt: HostRuntime) -> io::Result<()> {
+    let mut script = [0u8; 65536];
+    let n = streams::read_full(&mut rt.stdin(), &mut script)?;
     let mut ram = bus::fresh_ram();
     let mut font = [0u8; 4608];
-    run(&script[..n], &mut ram, &mut font);
+    run(&mut rt.stdout(), &script[..n], &mut ram, &mut font)
 }
 
-fn run(script: &[u8], ram: &mut [u8], font: &mut [u8]) {
+fn run<W: Write>(out: &mut W, script: &[u8], ram: &mut [u8], font: &mut [u8]) -> io::Result<()> {
     let mut device = Device::fresh();
     let mut kept = [1, 1, 1, 0, 0];
     let steps = script.len() / 4 % 65536;
@@ -89,10 +91,11 @@ fn run(script: &[u8], ram: &mut [u8], font: &mut [u8]) {
     while i < steps {
         let step = test_script::step_at(script, i);
         let next = i + 1 + skipped(step);
-        look(device, step, script, i, ram, font, &mut kept);
+        look(out, device, step, script, i, ram, font, &mut kept)?;
         device = turn(device, step, ram, font, &mut kept);
         i = next;
     }
+    Ok(())
 }
 
 // The steps of a list are played with it.
@@ -106,7 +109,8 @@ fn skipped(step: Step) -> usize
 }
 
 // Steps 8 and 10 to 16: the device stays as it is.
-fn look(
+fn look<W: Write>(
+    out: &mut W,
     device: Device,
     step: Step,
     script: &[u8],
@@ -114,14 +118,14 @@ fn look(
     ram: &mut [u8],
     font: &mut [u8],
     kept: &mut [u64; 5],
-) {
+) -> io::Result<()> {
     if step.kind == 16 {
-        both(device, list_of(step, i), script, ram, font);
+        both(out, device, list_of(step, i), script, ram, font)?;
         clear(kept);
-        return;
+        return Ok(());
     }
     set_up(step, ram, font);
-    show(device, step, ram, kept);
+    show(out, device, step, ram, kept)
 }
 
 fn number(step: Step) -> u32 {
@@ -141,29 +145,42 @@ fn list_of(step: Step, i: usize) -> List {
 }
 
 // Each from the same device and RAM; the RAM is put back.
-fn both(device: Device, list: List, script: &[u8], ram: &mut [u8], font: &mut [u8]) {
+fn both<W: Write>(
+    out: &mut W,
+    device: Device,
+    list: List,
+    script: &[u8],
+    ram: &mut [u8],
+    font: &mut [u8],
+) -> io::Result<()> {
     let mut saved = [0u8; 1024];
     copy(ram, &mut saved);
-    let mut order = 0;
-    while order < 2 {
-        play(device, list, order, script, ram, font);
+    for order in 0..2 {
+        play(out, device, list, order, script, ram, font)?;
         copy(&saved, ram);
-        order += 1;
     }
+    Ok(())
 }
 
 // The list in an order, in two parts, and what shows the state that it leaves; the digests of both.
-fn play(device: Device, list: List, order: u8, script: &[u8], ram: &mut [u8], font: &mut [u8]) {
+fn play<W: Write>(
+    out: &mut W,
+    device: Device,
+    list: List,
+    order: u8,
+    script: &[u8],
+    ram: &mut [u8],
+    font: &mut [u8],
+) -> io::Result<()> {
     let mut kept = [1, 1, 1, 0, 0];
     let mut now = device;
-    let mut i = 0;
-    while i < 3 {
+    for i in 0..3 {
         now = pass(now, part_of(list, order, i), script, ram, font, &mut kept);
         if i > 0 {
-            report(now.registers, ram, &mut kept);
+            report(out, now.registers, ram, &mut kept)?;
         }
-        i += 1;
     }
+    Ok(())
 }
 
 fn part_of(list: List, order: u8, i: u8) -> Part {
@@ -205,10 +222,8 @@ fn pass(
 ) -> Device {
     let which = part.which;
     let mut now = device;
-    let mut i = part.from;
-    while i < part.to {
+    for i in part.from..part.to {
         let step = test_script::step_at(script, i);
-        i += 1;
         now = turn(now, wanted(step, which), ram, font, kept);
     }
     now
@@ -251,10 +266,8 @@ fn turn(
     kept: &mut [u64; 5],
 ) -> Device {
     let mut now = device;
-    let mut left = calls_of(step);
-    while left > 0 {
+    for _ in 0..calls_of(step) {
         now = call(now, step, ram, font, kept);
-        left -= 1;
     }
     now
 }
@@ -343,7 +356,13 @@ fn set_up(step: Step, ram: &mut [u8], font: &mut [u8]) {
     }
 }
 
-fn show(device: Device, step: Step, ram: &[u8], kept: &mut [u64; 5]) {
+fn show<W: Write>(
+    out: &mut W,
+    device: Device,
+    step: Step,
+    ram: &[u8],
+    kept: &mut [u64; 5],
+) -> io::Result<()> {
     let kind = step.kind;
     match kind {
         8 => {
@@ -356,16 +375,17 @@ fn show(device: Device, step: Step, ram: &[u8], kept: &mut [u64; 5]) {
             );
         }
         13 => {
-            say(kept);
+            say(out, kept)?;
         }
         14 => {
-            bitmap(device, ram);
+            bitmap(out, device, ram)?;
         }
         15 => {
-            report(device.registers, ram, kept);
+            report(out, device.registers, ram, kept)?;
         }
         _ => {}
     }
+    Ok(())
 }
 
 fn ask(device: Device, cell: u32, ram: &[u8], kept: &mut [u64; 5]) {
@@ -392,10 +412,8 @@ fn mix(sum: u64, value: u16) -> u64 {
 
 fn mix_registers(registers: Registers) -> u64 {
     let mut now = 1;
-    let mut i = 0;
-    while i < 16 {
+    for i in 0..16 {
         now = mix(now, registers.fetch(i) as u16);
-        i += 1;
     }
     now
 }
@@ -432,30 +450,34 @@ fn told_line(kept: &mut [u64; 5], refusal: u8, cells: u16, line: &[u8]) {
 }
 
 // The refusal's number, and the byte, the read count or the question's answer.
-fn say(kept: &mut [u64; 5]) {
-    test_script::print_hex(kept[REFUSAL], 1, b' ');
-    test_script::print_hex(kept[VALUE], 3, b'\n');
+fn say<W: Write>(out: &mut W, kept: &mut [u64; 5]) -> io::Result<()> {
+    test_script::print_hex(out, kept[REFUSAL], 1, b' ')?;
+    test_script::print_hex(out, kept[VALUE], 3, b'\n')
 }
 
 // Digests: draws, questions, events, the RAM, the registers.
-fn report(registers: Registers, ram: &[u8], kept: &mut [u64; 5]) {
-    test_script::print_hex(kept[DRAWS], 8, b' ');
-    test_script::print_hex(kept[ASKS], 8, b' ');
-    test_script::print_hex(kept[EVENTS], 8, b' ');
-    test_script::print_hex(test_script::mix_all(1, ram, DIGEST), 8, b' ');
-    test_script::print_hex(mix_registers(registers), 8, b'\n');
+fn report<W: Write>(
+    out: &mut W,
+    registers: Registers,
+    ram: &[u8],
+    kept: &mut [u64; 5],
+) -> io::Result<()> {
+    test_script::print_hex(out, kept[DRAWS], 8, b' ')?;
+    test_script::print_hex(out, kept[ASKS], 8, b' ')?;
+    test_script::print_hex(out, kept[EVENTS], 8, b' ')?;
+    test_script::print_hex(out, test_script::mix_all(1, ram, DIGEST), 8, b' ')?;
+    test_script::print_hex(out, mix_registers(registers), 8, b'\n')?;
     clear(kept);
+    Ok(())
 }
 
 // The answers about cells 0 to 1,023: four lines of 64 digits, each digit four cells.
-fn bitmap(device: Device, ram: &[u8]) {
+fn bitmap<W: Write>(out: &mut W, device: Device, ram: &[u8]) -> io::Result<()> {
     let mut text = [b'\n'; 260];
-    let mut i = 0;
-    while i < 256 {
+    for i in 0..256 {
         text[i + i / 64] = buffers::hex_digit(four(device, ram, 4 * i as u32));
-        i += 1;
     }
-    io::write_all(1, &text);
+    out.write_all(&text)
 }
 
 fn four(device: Device, ram: &[u8], cell: u32) -> u8 {

@@ -16,6 +16,8 @@ ghost use Rattle.std.specs.Prelude.{◌≡◌, ◌+◌, ◌*◌, ◌<◌, ◌≤
 use device::Device;
 use pixel::PixelAnswer;
 use registers::Registers;
+use std::io;
+use std::io::Write;
 use test_script::Numbers;
 
 // Where the parts of a page lie, and how long a page and a question are.
@@ -50,28 +52,32 @@ struct Sums {
     differ: u64,
 }
 
-fn main() {
+fn main(rt: HostRuntime) -> io::Result<()> {
     let mut input = [0u8; 75776];
-    let n = io::read_full(0, &mut input);
-    run(&input[..n]);
+    let n = streams::read_full(&mut rt.stdin(), &mut input)?;
+    run(&mut rt.stdout(), &input[..n])
 }
 
-fn run(input: &[u8]) {
+fn run<W: Write>(out: &mut W, input: &[u8]) -> io::Result<()> {
     if input.len() == 0 {
-        return;
+        return Ok(());
     }
-    run_pages(input, input[0]);
+    run_pages(out, input, input[0])
 }
 
-fn run_pages(input: &[u8], pages: u8) {
-    let mut i = 0;
-    while i < pages {
-        show_page(part(input, page_at(i), PAGE));
-        i += 1;
+fn run_pages<W: Write>(out: &mut W, input: &[u8], pages: u8) -> io::Result<()> {
+    for i in 0..pages {
+        show_page(out, part(input, page_at(i), PAGE))?;
     }
     if pages > 0 {
-        ask_all(part(input, page_at(pages - 1), PAGE), input, page_at(pages));
+        ask_all(
+            out,
+            part(input, page_at(pages - 1), PAGE),
+            input,
+            page_at(pages),
+        )?;
     }
+    Ok(())
 }
 
 // Where a page begins.
@@ -95,22 +101,23 @@ fn part(bytes: &[u8], at: usize, n: usize) -> &[u8] {
 
 // ---- a page, by both ways
 
-fn show_page(page: &[u8]) {
+fn show_page<W: Write>(out: &mut W, page: &[u8]) -> io::Result<()> {
     if page.len() != PAGE {
-        return;
+        return Ok(());
     }
     let lines = wide(page[COUNT]) + 256 * wide(page[COUNT + 1]);
     let number = page[COUNT + 2];
     let way = page[COUNT + 3];
     let begun = started(device_of(page), number, lines);
     show_lines(
+        out,
         part(page, 0, REGISTERS),
         part(page, FONT, COUNT - FONT),
         begun,
         lines,
         number,
         way,
-    );
+    )
 }
 
 // A device with the page's registers.
@@ -143,7 +150,15 @@ fn started(device: Device, number: u8, lines: u32) -> Device {
     done.device
 }
 
-fn show_lines<'a>(ram: &'a [u8], font: &'a [u8], begun: Device, lines: u32, number: u8, way: u8) {
+fn show_lines<'a, W: Write>(
+    out: &mut W,
+    ram: &'a [u8],
+    font: &'a [u8],
+    begun: Device,
+    lines: u32,
+    number: u8,
+    way: u8,
+) -> io::Result<()> {
     let w = begun.width();
     let mut device = begun;
     let mut sums = Sums {
@@ -151,18 +166,16 @@ fn show_lines<'a>(ram: &'a [u8], font: &'a [u8], begun: Device, lines: u32, numb
         asked: 0,
         differ: 0,
     };
-    let mut y = 0;
-    while y < lines {
+    for y in 0..lines {
         let mut line = [NOT_DRAWN; limits::LINE_MAX];
         let mut asked = [NOT_ANSWERED; limits::LINE_MAX];
         let done = device.draw_line(ram, font, &mut line);
         device = done.device;
         ask_line(ram, font, device, lines, number, y, &mut asked);
         sums = compared(sums, w, &line, &asked);
-        show_line(w, &mut asked, way);
-        y += 1;
+        show_line(out, w, &mut asked, way)?;
     }
-    tell(lines, w, sums);
+    tell(out, lines, w, sums)
 }
 
 // Each pixel of a line, as it is asked for.
@@ -199,7 +212,7 @@ fn compared(
     for x in 0..limits::LINE_MAX {
         if x < w as usize {
             if line[x] != asked[x] {
-                differ = std::num::wrapping_add_u64(differ, 1);
+                differ = differ.wrapping_add(1);
             }
         }
     }
@@ -210,51 +223,60 @@ fn compared(
     }
 }
 
-fn show_line(w: u16, asked: &mut [u8; limits::LINE_MAX], way: u8) {
+fn show_line<W: Write>(
+    out: &mut W,
+    w: u16,
+    asked: &mut [u8; limits::LINE_MAX],
+    way: u8,
+) -> io::Result<()> {
     if way != 0 {
-        return;
+        return Ok(());
     }
     for x in 0..limits::LINE_MAX {
         asked[x] = buffers::hex_digit(asked[x]);
     }
-    io::write_all(1, test_script::first(asked, w as usize));
-    io::write_all(1, b"\n");
+    out.write_all(test_script::first(asked, w as usize))?;
+    out.write_all(b"\n")
 }
 
-fn tell(lines: u32, w: u16, sums: Sums) {
-    io::write_all(1, b"lines ");
-    test_script::print_decimal(lines as u64, b' ');
-    io::write_all(1, b"width ");
-    test_script::print_decimal(w as u64, b' ');
-    io::write_all(1, b"drawn ");
-    io::print_hex(1, sums.drawn, 8);
-    io::write_all(1, b" asked ");
-    io::print_hex(1, sums.asked, 8);
-    io::write_all(1, b" differ ");
-    test_script::print_decimal(sums.differ, b'\n');
+fn tell<W: Write>(out: &mut W, lines: u32, w: u16, sums: Sums) -> io::Result<()> {
+    out.write_all(b"lines ")?;
+    test_script::print_decimal(out, lines as u64, b' ')?;
+    out.write_all(b"width ")?;
+    test_script::print_decimal(out, w as u64, b' ')?;
+    out.write_all(b"drawn ")?;
+    streams::write_hexadecimal(out, sums.drawn)?;
+    out.write_all(b" asked ")?;
+    streams::write_hexadecimal(out, sums.asked)?;
+    out.write_all(b" differ ")?;
+    test_script::print_decimal(out, sums.differ, b'\n')
 }
 
 // ---- questions, refused ones too
 
-fn ask_all(page: &[u8], input: &[u8], first: usize)
+fn ask_all<W: Write>(out: &mut W, page: &[u8], input: &[u8], first: usize) -> io::Result<()>
     requires { first ≤ 1 + 255 * 5652 }
 {
     if page.len() != PAGE {
-        return;
+        return Ok(());
     }
     let device = device_of(page);
-    let mut i = 0;
-    while i < QUESTIONS {
-        ask_one(page, device, part(input, first + i * QUESTION, QUESTION));
-        i += 1;
+    for i in 0..QUESTIONS {
+        ask_one(
+            out,
+            page,
+            device,
+            part(input, first + i * QUESTION, QUESTION),
+        )?;
     }
+    Ok(())
 }
 
-fn ask_one(page: &[u8], device: Device, question: &[u8])
+fn ask_one<W: Write>(out: &mut W, page: &[u8], device: Device, question: &[u8]) -> io::Result<()>
     requires { length page.now ≡ 5652 }
 {
     if question.len() != QUESTION {
-        return;
+        return Ok(());
     }
     let ram = test_script::length(1024, question[0]) as usize;
     let font = test_script::length(4608, question[1]) as usize;
@@ -267,8 +289,8 @@ fn ask_one(page: &[u8], device: Device, question: &[u8])
         number_at(question, 10),
         number_at(question, 14),
     );
-    test_script::print_decimal(answer.refusal() as u64, b' ');
-    test_script::print_decimal(answer.value() as u64, b'\n');
+    test_script::print_decimal(out, answer.refusal() as u64, b' ')?;
+    test_script::print_decimal(out, answer.value() as u64, b'\n')
 }
 
 // Four bytes, the low one first.

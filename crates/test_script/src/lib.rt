@@ -1,12 +1,16 @@
 #![tactic(auto)]
 // What the test programs share: steps of a script, calls on a device, parts of what is lent, noise and digests, and what is printed.
-ghost use Rattle.std.specs.Prelude.{◌≡◌, ◌<◌, length, take};
+ghost use Rattle.std.specs.Prelude.{◌≡◌, ◌<◌, length, take, ◌%◌, ◌++◌, ◌∷◌, [], OnOk};
+ghost use Rattle.std.specs.Io.KnownBytes.{Appends};
+ghost use Rattle.std.specs.Fmt.{decimal};
 ghost use Rattle.refusals.specs.Refusals.{accepted};
 ghost use Rattle.device.specs.Device.{hear_event, start_frame, draw_line, ask_cell, fresh_device};
 ghost use Rattle.test_script.specs.Script.{step_at, called_of, outcome_of, drawn_of, made, length_of, next_of, noise_of, mixed, digits_of};
 
 use bus::Event;
 use device::Device;
+use std::io;
+use std::io::Write;
 
 #[derive(Clone, Copy)]
 pub struct Step {
@@ -65,6 +69,7 @@ pub fn step_at(script: &[u8], i: usize) -> Step
 
 // ---- calls
 
+#[tactic(auto, unfolding(crate::specs::Script::made))]
 pub fn make(device: Device, ram: &mut [u8], call: Call) -> Called
     ensures { outcome_of result ram.new ≡ made device ram.old call }
 {
@@ -174,6 +179,7 @@ pub fn length(own: u16, choice: u8) -> u16
 // ---- noise and digests
 
 // The next number, with a value added: a digest's next state.
+#[tactic(auto, unfolding(crate::specs::Script::next_of))]
 pub fn mix(sum: u64, value: u16, by: Numbers) -> u64
     ensures { result ≡ next_of sum value by }
 {
@@ -229,15 +235,20 @@ pub fn hex_digits(number: u64, out: &mut [u8])
 }
 
 // Prints the last hexadecimal digits of a number, and the byte behind them.
-pub fn print_hex(number: u64, places: u8, behind: u8) {
+pub fn print_hex<W: Write>(out: &mut W, number: u64, places: u8, behind: u8) -> io::Result<()>
+    ensures { OnOk result (Appends (W.contents out.old) (W.contents out.new) (digits_of (places % 17) number ++ behind ∷ [])) }
+{
     let mut text = [behind; 17];
     let n = (places % 17) as usize;
-    hex_digits(number, first_mut(&mut text, n));
-    io::write_all(1, first(&text, n + 1));
+    hex_digits(number, &mut text[..n]);
+    out.write_all(&text[..n + 1])
 }
 
-pub fn print_decimal(number: u64, behind: u8) {
-    io::print_decimal(1, number);
+// Prints a number in decimal, and the byte behind it.
+pub fn print_decimal<W: Write>(out: &mut W, number: u64, behind: u8) -> io::Result<()>
+    ensures { OnOk result (Appends (W.contents out.old) (W.contents out.new) (decimal number ++ behind ∷ [])) }
+{
+    streams::write_decimal(out, number)?;
     let text = [behind];
-    io::write_all(1, &text);
+    out.write_all(&text)
 }
