@@ -1,6 +1,6 @@
 -- The parts of the bench's output, one by one.
 -- Assumes nothing.
-use Rattle.std.proofs.Common.{◌≡◌, ℕ, zero, suc, ◌-◌, ◌<◌, ◌≤◌, List, [], ◌∷◌, ◌++◌, true, false, nat_eq, length, replicate, refl, sym, ap, ◌∙◌, append-nil, arith}
+use Rattle.std.proofs.Common.{◌≡◌, ℕ, zero, suc, ◌-◌, ◌<◌, ◌≤◌, List, [], ◌++◌, false, nat_eq, length, replicate, refl, sym, ap, ◌∙◌, append-nil, arith}
 use mathlib.Core.List.{flatten}
 use Rattle.device.specs.declared.Device.{Device}
 use Rattle.device.specs.declared.StartAnswer.{StartAnswer}

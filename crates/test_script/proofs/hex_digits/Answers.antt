@@ -1,5 +1,5 @@
 -- A digit goes over from those that are left to those that are written.
-use Rattle.std.proofs.Common.{ℕ, ◌%◌, ◌++◌, List, length, ap, ◌∙◌, refl, append-nil, arith, rules}
+use Rattle.std.proofs.Common.{◌%◌, ◌++◌, length, ap, ◌∙◌, refl, append-nil, arith, rules}
 use lib.Seq.{drop-length}
 use Rattle.buffers.specs.Buffers.{hex_digit}
 use Rattle.facts.proofs.Written.{back_more, back_whole}

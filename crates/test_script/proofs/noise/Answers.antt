@@ -1,5 +1,5 @@
 -- A byte goes over from the noise that is left to what is written.
-use Rattle.std.proofs.Common.{◌≡◌, ℕ, ◌-◌, length, ap, refl, arith, rules}
+use Rattle.std.proofs.Common.{◌≡◌, ◌-◌, length, ap, refl, arith, rules}
 use Rattle.test_script.specs.Script.{noise_of}
 use Rattle.test_script.proofs.Laws.{noise_more, noise_whole}
 use Rattle.test_script.proofs.noise.Goals as goal
