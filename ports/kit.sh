@@ -8,7 +8,9 @@ die() {
 root=$(cd "$(dirname "$0")/.." && pwd -P) || exit 1
 target=$root/target
 kit=$(rt doc 2>/dev/null) || die "rt does not run: the Rattle toolchain is needed"
-kit=${kit%/*}
+# another kit in its place, as ports/refusals tries one
+kit=${PORTS_KIT:-${kit%/*}}
+machine=$(uname -m)
 toolchain=$kit/toolchain
 clang=$toolchain/bin/clang
 [ -x "$clang" ] || die "the kit at $kit has no clang"

@@ -11,6 +11,7 @@ function refuse(what) {
 BEGIN {
     known("alloca load store getelementptr call br switch ret unreachable phi select icmp zext sext trunc freeze", opcode)
     known("add sub mul udiv urem sdiv srem and or xor shl lshr ashr", opcode)
+    known("insertvalue extractvalue", opcode)
     known("i1 i8 i16 i32 i64", number)
     known("memmove memcpy memset", intrinsic)
     known("umin umax smin smax abs ctlz cttz ctpop bswap fshl fshr usub.sat uadd.sat ssub.sat sadd.sat", intrinsic)
@@ -46,8 +47,10 @@ function bare(text) {
     return text
 }
 
-# types and words that are the same on every machine
+# types and words that are the same on every machine. An answer may be two numbers, or an address and a length of 64 bits: where numbers
+# of 64 bits are aligned to 8 bytes, as on all the ports' machines, these lie in memory alike
 function check_words(text,    all, i, n) {
+    gsub(/\{ (i(8|16|32|64), i(8|16|32|64)|ptr, i64) \}/, "pair", text)
     if (text ~ /[<{]/) refuse("a vector or a struct: " text)
     if (text ~ /addrspace|volatile|atomic|asm |ptrtoint|inttoptr|addrspacecast|blockaddress|byval|sret|inalloca/) refuse(text)
     n = split(text, all, /[^A-Za-z0-9_.]+/)
@@ -71,6 +74,8 @@ function check_call(text,    to, base) {
 
 function check_instruction(text,    plain, op) {
     plain = bare(text)
+    # is there a buffer? An address that is none is the same question everywhere
+    if (plain ~ /^ *@ = icmp (eq|ne) ptr @, null$/) return
     check_words(plain)
     sub(/^ *(@ = )?/, "", plain)
     sub(/^(tail|musttail|notail) /, "", plain)

@@ -27,7 +27,9 @@ pub fn store(device: &mut [u8], ram: &mut [u8], address: u16, x: u8)
     }
     if address >= limits::FIRST_REGISTER {
         let i = (address - limits::FIRST_REGISTER) as usize;
-        device[layout::REGISTERS_AT + i] = x & Registers::KEPT[i];
+        // a copy, so that the ports hold code alone and no table
+        let kept = Registers::KEPT;
+        device[layout::REGISTERS_AT + i] = x & kept[i];
     }
 }
 

@@ -266,7 +266,8 @@ fn copy_font(file: &[u8], font: &mut [u8])
     let mut place = 0;
     while place < BLOCKS {
         let from = BLOCK_LENGTH * place as usize + HEADING_LENGTH;
-        let at = PAYLOAD_LENGTH * place as usize;
+        // in 32 bits, for small processors
+        let at = (PAYLOAD_LENGTH as u32 * place as u32) as usize;
         let used = used_length(place);
         buffers::put(font, at, &file[from..from + used]);
         place += 1;

@@ -1,9 +1,9 @@
 -- The laws of calls, noise and digests.
 -- Assumes nothing.
-use Prim.Native.Nat.{ℕ, zero, suc, ◌+◌, ◌-◌, ◌*◌, ◌/◌, ◌%◌, ◌≤◌, ◌<◌}
+use Prim.Native.Nat.{ℕ, zero, suc, ◌+◌, ◌-◌, ◌/◌, ◌%◌, ◌<◌}
 use mathlib.Core.Path.{◌≡◌, refl}
 use mathlib.Core.List.{List, ◌∷◌, ◌++◌}
-use native.Mathlib.Nat.{not-suc-le-zero, mul-le-mul, mod-lt}
+use native.Mathlib.Nat.{not-suc-le-zero}
 use native.Mathlib.Numerals.{sub-one, add-one}
 use native.Mathlib.Omega.{arith}
 use lib.ListN.{length, get_or, take, drop, set}
@@ -18,12 +18,6 @@ use Rattle.test_script.specs.Script.{next_of, noise_of, mixed}
 -- a frame start has no number beside its refusal
 pub start-value : (d : Device) (lines : ℕ) → (start_frame d lines).reply.value ≡ 0
 start-value d lines = by_start (λ (o : StartOutcome). o.reply.value ≡ 0) d lines refl refl
-
--- a number below 2³² and a factor below 2³²: with two numbers of 32 bits more, still below 2⁶⁴
-pub product_small : (x last factor : ℕ) → last < 4294967296 → factor < 4294967296
-    → x % (last + 1) * factor ≤ 4294967295 * 4294967295
-product_small x last factor h k =
-    mul-le-mul {n₂ = 4294967295} {m₂ = 4294967295} (omega (arith, mod-lt x {m = last + 1} (omega arith))) (omega arith)
 
 noise_first : (by : Numbers) (unit m seed next v : ℕ) → 0 < m → next ≡ next_of seed 0 by → v ≡ next / unit % 256
     → noise_of m seed by unit ≡ v ∷ noise_of (m - 1) next by unit
