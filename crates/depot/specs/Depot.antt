@@ -1,10 +1,15 @@
 -- What a depot's programs say of their input, in one line: good, or which block and what is wrong, with the refusal's number.
 -- Assumes nothing.
-use Rattle.std.specs.Prelude.{ℕ, ◌+◌, ◌%◌, List, ◌∷◌, ◌++◌, take}
+use Rattle.std.specs.Prelude.{◌≡◌, ℕ, ◌+◌, ◌%◌, List, ◌∷◌, ◌++◌, take, ◌==◌}
+use Rattle.std.specs.Bool.{MatchBool}
+use Rattle.std.specs.declared.option.Option.{Option}
+use Rattle.std.specs.Io.KnownBytes.{Appends}
 use Rattle.buffers.specs.Buffers.{bytes_of}
+use Rattle.refusals.specs.Refusals.{Reply}
 use Rattle.refusals.specs.declared.FileRefusal.TheVariants.{Length, Checks, Format}
 use Rattle.font_file.specs.declared.FileAnswer.{FileAnswer}
 use Rattle.font_file.specs.declared.FileAnswer.TheVariants.{Done, Refused}
+use Rattle.font_file.specs.FontFile.{file_reply, ReadOutcome, WriteOutcome}
 use Rattle.depot.specs.declared.Line.{Line}
 
 -- where the place of a block stands in a line
@@ -28,3 +33,17 @@ not_font = bytes_of "refused 15: not 4608 bytes\n"
 -- the bytes of a line in its buffer
 abbrev pub text_of : Line → List ℕ
 text_of l = take l.length l.bytes
+
+-- ---- what the programs append to the known bytes of a writer
+
+-- font_check: the line of the answer that has this reply
+abbrev pub TellsReply : (old new : Option (List ℕ)) → Reply → Type 0
+TellsReply old new r = (a : FileAnswer) × (file_reply a ≡ r) × Appends old new (line_of a)
+
+-- font_unpack: the font that was read, or font_check's line
+abbrev pub Unpacks : (old new : Option (List ℕ)) → ReadOutcome → Type 0
+Unpacks old new o = MatchBool (o.reply.refusal == 0) (Appends old new o.font) (TellsReply old new o.reply)
+
+-- font_pack: the file that was written, or that the input is no font
+abbrev pub Packs : (old new : Option (List ℕ)) → WriteOutcome → Type 0
+Packs old new o = MatchBool (o.reply.refusal == 0) (Appends old new o.file) (Appends old new not_font)

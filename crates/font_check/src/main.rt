@@ -1,6 +1,11 @@
 #![tactic(auto)]
 // Tests a font file (document 02, K8) on standard input, and prints one line: good, or which block and what is wrong.
 // The stored input and output come from tests/depot.py; tests/depot_runs.py runs it over every kind of file.
+ghost use Rattle.std.specs.Prelude.{replicate, OnOk};
+ghost use Rattle.limits.specs.Limits.{font_length};
+ghost use Rattle.font_file.specs.FontFile.{read_font};
+ghost use Rattle.depot.specs.Depot.{TellsReply};
+
 use std::io;
 use std::io::Write;
 
@@ -11,7 +16,9 @@ fn main(rt: HostRuntime) -> io::Result<()> {
     check(&mut rt.stdout(), &input[..n])
 }
 
-fn check<W: Write>(out: &mut W, file: &[u8]) -> io::Result<()> {
+fn check<W: Write>(out: &mut W, file: &[u8]) -> io::Result<()>
+    ensures { OnOk result (TellsReply (W.contents out.old) (W.contents out.new) (read_font file.now (replicate font_length 0)).reply) }
+{
     let mut font = [0u8; limits::FONT_LENGTH];
     depot::tell(out, font_file::read(file, &mut font))
 }

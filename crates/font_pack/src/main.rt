@@ -1,6 +1,11 @@
 #![tactic(auto)]
 // Writes the font on standard input as a font file (document 02, K8); or prints that it is no font, and nothing else.
 // The stored input and output come from tests/depot.py; tests/depot_runs.py runs it over fonts and other inputs.
+ghost use Rattle.std.specs.Prelude.{replicate, OnOk};
+ghost use Rattle.limits.specs.Limits.{font_file_length};
+ghost use Rattle.font_file.specs.FontFile.{write_font};
+ghost use Rattle.depot.specs.Depot.{Packs};
+
 use font_file::FileAnswer;
 use std::io;
 use std::io::Write;
@@ -12,7 +17,9 @@ fn main(rt: HostRuntime) -> io::Result<()> {
     pack(&mut rt.stdout(), &input[..n])
 }
 
-fn pack<W: Write>(out: &mut W, font: &[u8]) -> io::Result<()> {
+fn pack<W: Write>(out: &mut W, font: &[u8]) -> io::Result<()>
+    ensures { OnOk result (Packs (W.contents out.old) (W.contents out.new) (write_font font.now (replicate font_file_length 0))) }
+{
     let mut file = [0u8; limits::FONT_FILE_LENGTH];
     let answer = font_file::write(font, &mut file);
     match answer {

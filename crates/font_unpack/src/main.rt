@@ -1,6 +1,11 @@
 #![tactic(auto)]
 // Reads a font file (document 02, K8) on standard input and writes its font; or prints the line of font_check, and nothing else.
 // The stored input and output come from tests/depot.py; tests/depot_runs.py runs it over every kind of file.
+ghost use Rattle.std.specs.Prelude.{replicate, OnOk};
+ghost use Rattle.limits.specs.Limits.{font_length};
+ghost use Rattle.font_file.specs.FontFile.{read_font};
+ghost use Rattle.depot.specs.Depot.{Unpacks};
+
 use font_file::FileAnswer;
 use std::io;
 use std::io::Write;
@@ -12,7 +17,9 @@ fn main(rt: HostRuntime) -> io::Result<()> {
     unpack(&mut rt.stdout(), &input[..n])
 }
 
-fn unpack<W: Write>(out: &mut W, file: &[u8]) -> io::Result<()> {
+fn unpack<W: Write>(out: &mut W, file: &[u8]) -> io::Result<()>
+    ensures { OnOk result (Unpacks (W.contents out.old) (W.contents out.new) (read_font file.now (replicate font_length 0))) }
+{
     let mut font = [0u8; limits::FONT_LENGTH];
     let answer = font_file::read(file, &mut font);
     match answer {
