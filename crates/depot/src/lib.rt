@@ -1,7 +1,8 @@
 #![tactic(auto)]
 // What a depot's programs (font_check, font_unpack, font_pack) say of their input, in one line.
-ghost use Rattle.std.specs.Prelude.{◌≡◌, ◌+◌, ◌%◌, ◌≤◌, ◌<◌, length, set, OnOk};
+ghost use Rattle.std.specs.Prelude.{◌≡◌, ◌+◌, ◌%◌, ◌≤◌, ◌<◌, length, set, OnOk, OnErr};
 ghost use Rattle.std.specs.Io.KnownBytes.{Appends};
+ghost use Rattle.streams.specs.Streams.{AppendsPart};
 ghost use Rattle.font_file.specs.declared.FileAnswer.TheVariants.{Refused};
 ghost use Rattle.depot.specs.Depot.{place_at, line_of, not_font, text_of};
 
@@ -72,7 +73,8 @@ fn told(answer: FileAnswer) -> Line
 
 // Printed here, so that font_check and font_unpack say the same.
 pub fn tell<W: Write>(out: &mut W, answer: FileAnswer) -> io::Result<()>
-    ensures { OnOk result (Appends (W.contents out.old) (W.contents out.new) (line_of answer)) }
+    ensures ok { OnOk result (Appends (W.contents out.old) (W.contents out.new) (line_of answer)) }
+    ensures err { OnErr result (AppendsPart (W.contents out.old) (W.contents out.new) (line_of answer)) }
 {
     print(out, told(answer))
 }
@@ -86,16 +88,18 @@ fn not_font() -> Line
 }
 
 pub fn tell_not_font<W: Write>(out: &mut W) -> io::Result<()>
-    ensures { OnOk result (Appends (W.contents out.old) (W.contents out.new) not_font) }
+    ensures ok { OnOk result (Appends (W.contents out.old) (W.contents out.new) not_font) }
+    ensures err { OnErr result (AppendsPart (W.contents out.old) (W.contents out.new) not_font) }
 {
     print(out, not_font())
 }
 
 fn print<W: Write>(out: &mut W, line: Line) -> io::Result<()>
     requires { line.length ≤ length line.bytes }
-    ensures { OnOk result (Appends (W.contents out.old) (W.contents out.new) (text_of line)) }
+    ensures ok { OnOk result (Appends (W.contents out.old) (W.contents out.new) (text_of line)) }
+    ensures err { OnErr result (AppendsPart (W.contents out.old) (W.contents out.new) (text_of line)) }
 {
     let bytes = line.bytes;
     let length = line.length;
-    out.write_all(&bytes[..length])
+    streams::write_all(out, &bytes[..length])
 }

@@ -1,7 +1,8 @@
 #![tactic(auto)]
 // What the test programs share: steps of a script, calls on a device, parts of what is lent, noise and digests, and what is printed.
-ghost use Rattle.std.specs.Prelude.{◌≡◌, ◌<◌, length, take, ◌%◌, ◌++◌, ◌∷◌, [], OnOk};
+ghost use Rattle.std.specs.Prelude.{◌≡◌, ◌<◌, length, take, ◌%◌, ◌++◌, ◌∷◌, [], OnOk, OnErr};
 ghost use Rattle.std.specs.Io.KnownBytes.{Appends};
+ghost use Rattle.streams.specs.Streams.{AppendsPart};
 ghost use Rattle.std.specs.Fmt.{decimal};
 ghost use Rattle.refusals.specs.Refusals.{accepted};
 ghost use Rattle.device.specs.Device.{hear_event, start_frame, draw_line, ask_cell, fresh_device};
@@ -236,12 +237,13 @@ pub fn hex_digits(number: u64, out: &mut [u8])
 
 // Prints the last hexadecimal digits of a number, and the byte behind them.
 pub fn print_hex<W: Write>(out: &mut W, number: u64, places: u8, behind: u8) -> io::Result<()>
-    ensures { OnOk result (Appends (W.contents out.old) (W.contents out.new) (digits_of (places % 17) number ++ behind ∷ [])) }
+    ensures ok { OnOk result (Appends (W.contents out.old) (W.contents out.new) (digits_of (places % 17) number ++ behind ∷ [])) }
+    ensures err { OnErr result (AppendsPart (W.contents out.old) (W.contents out.new) (digits_of (places % 17) number ++ behind ∷ [])) }
 {
     let mut text = [behind; 17];
     let n = (places % 17) as usize;
     hex_digits(number, &mut text[..n]);
-    out.write_all(&text[..n + 1])
+    streams::write_all(out, &text[..n + 1])
 }
 
 // Prints a number in decimal, and the byte behind it.

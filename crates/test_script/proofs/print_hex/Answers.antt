@@ -1,8 +1,9 @@
 -- The digits take the place of the first bytes of the text, and the byte behind them stands already.
-use Rattle.std.proofs.Common.{◌≡◌, ℕ, suc, ◌+◌, ◌%◌, ◌<◌, List, [], ◌∷◌, ◌++◌, length, get_or, take, drop, replicate, OnOk, ap, sym, subst, arith, ◌∙◌, append_assoc, length-append, length-take-le, drop-cons}
+use Rattle.std.proofs.Common.{◌≡◌, ℕ, suc, ◌+◌, ◌%◌, ◌<◌, List, [], ◌∷◌, ◌++◌, length, get_or, take, drop, replicate, OnOk, OnErr, ap, sym, subst, arith, ◌∙◌, append_assoc, length-append, length-take-le, drop-cons}
 use Rattle.std.proofs.lemmas.Grind.{common_steps}
 use lib.Seq.{take-append_seam}
 use Rattle.std.specs.Io.KnownBytes.{Appends}
+use Rattle.streams.specs.Streams.{AppendsPart}
 use Rattle.test_script.specs.Script.{digits_of}
 use Rattle.test_script.proofs.print_hex.Goals as goal
 
@@ -17,13 +18,21 @@ behind_first d xs n v e h k =
 behind : (b n : ℕ) → n < 17 → get_or (replicate 17 b) n 0 ≡ b
 behind b n h = grind (arith, common_steps)
 
+-- what is written: the digits, and the byte behind them
+written : (d digits : List ℕ) (b n : ℕ) → n < 17 → length d ≡ length (take n (replicate 17 b)) → d ≡ digits → take (n + 1) (d ++ drop n (replicate 17 b)) ≡ digits ++ b ∷ []
+written d digits b n some long e =
+    let front : length (take n (replicate 17 b)) ≡ n = length-take-le n (replicate 17 b) (omega arith) in
+    behind_first d (replicate 17 b) n b (long ∙ front) (omega arith) (behind b n some) ∙ ap (λ l. l ++ b ∷ []) e
+
 pub returns : goal.returns
 returns g c =
     let b = c.args.behind in
     let n = c.args.places % 17 in
-    let d = c.hex_digits.new.out in
-    let some : n < 17 = omega arith in
     let front : length (take n (replicate 17 b)) ≡ n = length-take-le n (replicate 17 b) (omega arith) in
-    let text = behind_first d (replicate 17 b) n b (c.hex_digits.auto.out ∙ front) (omega arith) (behind b n some) in
-    subst (λ bs. OnOk c.write_all.result (Appends (g.W.Write.contents c.args.out.now) (g.W.Write.contents c.write_all.new.self) bs))
-    (text ∙ ap (λ l. l ++ b ∷ []) (c.hex_digits.ensures ∙ ap (λ k. digits_of k c.args.number) front)) c.write_all.ensures.bytes
+    let text = written c.hex_digits.new.out (digits_of n c.args.number) b n (omega arith) c.hex_digits.auto.out (c.hex_digits.ensures ∙ ap (λ k. digits_of k c.args.number) front) in
+    let old = g.W.Write.contents c.args.out.now in
+    let new = g.W.Write.contents c.write_all.new.out in
+    record {
+      ok = subst (λ bs. OnOk c.write_all.result (Appends old new bs)) text c.write_all.ensures.ok;
+      err = subst (λ bs. OnErr c.write_all.result (AppendsPart old new bs)) text c.write_all.ensures.err;
+    }
