@@ -1,7 +1,7 @@
 #!/usr/bin/env python3
 """Checks that what the documents point to is there; run at the repository's root.
 
-Of docs/*.md and README.md, one line of text at a time:
+Of docs/*.md but PORT.md and README.md, one line of text at a time:
 
     walk/Walk: `even`, `next`          definitions of crates/walk/specs/Walk.antt
     walk/src: `Strip`                  a type or constant of crates/walk/src
@@ -119,7 +119,8 @@ for each in sorted(set(rows) | set(functions)):
         name, is_ = '::'.join(filter(None, each)), '' if each in functions else 'not '
         faults.append('docs/PROMISES.md: %s is %spublic and has %d rows' % (name, is_, rows.count(each)))
 
-for document in sorted(pathlib.Path('docs').glob('*.md')) + [pathlib.Path('README.md')]:
+# PORT.md names what the older kit had
+for document in sorted(set(pathlib.Path('docs').glob('*.md')) - {pathlib.Path('docs/PORT.md')}) + [pathlib.Path('README.md')]:
     for number, line in enumerate(document.read_text().split('\n'), 1):
         for what, there in references(line):
             seen += 1
