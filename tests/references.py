@@ -1,7 +1,7 @@
 #!/usr/bin/env python3
 """Checks that what the documents point to is there; run at the repository's root.
 
-Of docs/*.md but PORT.md and README.md, one line of text at a time:
+Of docs/*.md (but for PORT.md) and README.md, one line of text at a time:
 
     walk/Walk: `even`, `next`          definitions of crates/walk/specs/Walk.antt
     walk/src: `Strip`                  a type or constant of crates/walk/src
