@@ -82,11 +82,12 @@ example: library
 stored:
 	@set -e; for name in $(STORED); do python3 -B tests/$$name.py $(INTO); done
 
-# makes them below target/ instead: a line for each file that the repository has otherwise, or that no script makes
+# makes them below target/ instead: a line for each file that the repository has otherwise, or that no script makes (what rt leaves below
+# out/ aside)
 stored-check:
 	@rm -rf target/stored
 	@$(MAKE) --no-print-directory stored INTO=target/stored
-	@same=true; for file in $$({ find crates examples -name stdin -o -name '*stdout'; (cd target/stored && find * -type f); } | sort -u); do \
+	@same=true; for file in $$({ find crates examples -path 'crates/*/out' -prune -o \( -name stdin -o -name '*stdout' \) -print; (cd target/stored && find * -type f); } | sort -u); do \
 		cmp -s $$file target/stored/$$file || { echo "stored-check: $$file is not what tests/ makes"; same=false; }; done; $$same
 
 # the independent implementation's own tests

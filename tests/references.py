@@ -5,7 +5,7 @@ Of docs/*.md (but for PORT.md) and README.md, one line of text at a time:
 
     walk/Walk: `even`, `next`          definitions of crates/walk/specs/Walk.antt
     walk/src: `Strip`                  a type or constant of crates/walk/src
-    walk/proofs/Laws: `even-bound`     a law of crates/walk/proofs/Laws.antt
+    walk/proofs/Laws: `even_bound`     a law of crates/walk/proofs/Laws.antt
     `walk::Strip::is_over`             a function, constant, type or method of crates/walk/src
     `walk/enabled_of_zoom`             crates/walk/must-fail/enabled_of_zoom.edit
     test_frames: `heights`             a function of tests/test_frames.py
