@@ -1,19 +1,14 @@
 -- A text that is appended part by part: what is appended so far, and what is left of it.
 -- Assumes nothing.
-use Rattle.std.proofs.Common.{◌≡◌, ℕ, List, [], ◌++◌, None, Some, sym, ap, subst, ◌∙◌, append_assoc, append-nil}
+use Rattle.std.proofs.Common.{◌≡◌, ℕ, List, [], ◌++◌, sym, ap, subst, ◌∙◌, append_assoc, append-nil}
 use Rattle.std.specs.declared.option.Option.{Option}
 use Rattle.std.specs.Io.KnownBytes.{Appends}
+use Rattle.std.proofs.KnownBytes.{Appends-trans}
 
 pub record Reached (old now : Option (List ℕ)) (rest whole : List ℕ) : Type 0 where
   pub so_far : List ℕ
   pub appended : Appends old now so_far
   pub joined : so_far ++ rest ≡ whole
-
-pub Appends-trans : (a b c : Option (List ℕ)) (bs cs : List ℕ) → Appends a b bs → Appends b c cs → Appends a c (bs ++ cs)
-Appends-trans None b c bs cs p q = tt
-Appends-trans (Some x) None c bs cs p q = absurd p
-Appends-trans (Some x) (Some y) None bs cs p q = absurd q
-Appends-trans (Some x) (Some y) (Some z) bs cs p q = q ∙ ap (λ l. l ++ cs) p ∙ append_assoc x bs cs
 
 pub first_part : (old now : Option (List ℕ)) (part rest whole : List ℕ) → Appends old now part → part ++ rest ≡ whole → Reached old now rest whole
 first_part old now part rest whole h e = record { so_far = part; appended = h; joined = e }
