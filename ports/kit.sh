@@ -15,10 +15,12 @@ toolchain=$kit/toolchain
 clang=$toolchain/bin/clang
 [ -x "$clang" ] || die "the kit at $kit has no clang"
 
-# The kit's clang is LLVM's tools in one file: it does what the name says that it is called by. Makes such a name and prints it.
+# The kit's clang is LLVM's tools in one file: it does what the name says that it is called by. Writes a script that calls it so and prints
+# the script's name. (No link: rt ci refuses links below the repository.)
 tool() { # NAME
     mkdir -p "$target/ports-llvm"
-    ln -sf "$clang" "$target/ports-llvm/$1"
+    printf '#!/bin/bash\nPORTS_TOOL=%s exec -a %s "%s" "$@"\n' "$1" "$1" "$clang" >"$target/ports-llvm/$1"
+    chmod +x "$target/ports-llvm/$1"
     "$target/ports-llvm/$1" --version 2>/dev/null | grep -q -e LLVM -e LLD || die "the kit's clang has no $1 in it"
     printf '%s\n' "$target/ports-llvm/$1"
 }
