@@ -2,7 +2,7 @@
 """Checks that every claim is tied to its proof; run at the repository's root.
 
 A claim is a closed type in a crate's specs/ that says something: an abbreviation `NAME : Type`, or a record `NAME : Type` that is not
-plain data (each field a number, a list of numbers or another named type). Each crate with claims has one file proofs/Claims.antt that
+plain data (each field a number, a list of numbers, another named type, or an Option or a Result of these). Each crate with claims has one file proofs/Claims.antt that
 gives each of them a name of exactly its type and nothing else:
 
     pub one_page : OnePage
@@ -18,7 +18,7 @@ import sys
 ABBREVIATION = re.compile(r'^(?:(?:unfoldable|abbrev) )*pub (\S+) : Type \d+$')
 RECORD = re.compile(r'^pub record (\S+) : Type \d+ where$')
 FIELD = re.compile(r'^  pub (?:\S+ )+: (.*)$')
-PLAIN = re.compile(r'^(?:List )*\(?(?:List )*[^\W\d_]\w*\)?$')
+PLAIN = re.compile(r'^(?:Result [^\W\d_]\w* |(?:(?:List|Option) )*)\(?(?:List )*[^\W\d_]\w*\)?$')
 USE = re.compile(r'^use (\S+?)(?:\.\{([^}]*)\})?(?: as \S+)?$')
 NAMED = re.compile(r'^pub (\S+) : (\S+)$')
 IS = re.compile(r'^(\S+) = \S+$')

@@ -1,7 +1,7 @@
 #!/usr/bin/env python3
 """Checks that what the documents point to is there; run at the repository's root.
 
-Of docs/*.md (but for PORT.md) and README.md, one line of text at a time:
+Of docs/*.md (but for PORT.md and DESIGN-PASS.md) and README.md, one line of text at a time:
 
     walk/Walk: `even`, `next`          definitions of crates/walk/specs/Walk.antt
     walk/src: `Strip`                  a type or constant of crates/walk/src
@@ -49,7 +49,7 @@ def is_defined(crate, folder, name):
 def is_code(crate, kind, name):
     if not kind:
         return re.search(r'\b(?:fn|const|struct|enum|mod) %s\b' % name, code(crate))
-    bodies = re.findall(r'(?:impl|enum) %s \{(.*?)\n\}' % kind, code(crate), re.S)
+    bodies = re.findall(r'(?:impl(?:<[^>]*>)?|enum) %s(?:<[^>]*>)? \{(.*?)\n\}' % kind, code(crate), re.S)
     return any(re.search(r'\b%s\b' % name, body) for body in bodies)
 
 
@@ -86,11 +86,11 @@ def public():
     for path in sorted(CRATES.glob('*/src/**/*.rt')):
         kind = ''
         for line in path.read_text().split('\n'):
-            if found := re.match(r'impl (\w+)', line):
+            if found := re.match(r'impl(?:<[^>]*>)? (\w+)', line):
                 kind = found.group(1)
             elif line.startswith('}'):
                 kind = ''
-            elif found := re.match(r'\s*pub\b.*\bfn (\w+)', line):
+            elif found := re.match(r'\s*pub\b(?!\().*\bfn (\w+)', line):
                 yield path.parts[1], kind, found.group(1)
 
 
@@ -119,8 +119,8 @@ for each in sorted(set(rows) | set(functions)):
         name, is_ = '::'.join(filter(None, each)), '' if each in functions else 'not '
         faults.append('docs/PROMISES.md: %s is %spublic and has %d rows' % (name, is_, rows.count(each)))
 
-# PORT.md names what the older kit had
-for document in sorted(set(pathlib.Path('docs').glob('*.md')) - {pathlib.Path('docs/PORT.md')}) + [pathlib.Path('README.md')]:
+# PORT.md names what the older kit had, DESIGN-PASS.md what went with the older forms
+for document in sorted(set(pathlib.Path('docs').glob('*.md')) - {pathlib.Path('docs/PORT.md'), pathlib.Path('docs/DESIGN-PASS.md')}) + [pathlib.Path('README.md')]:
     for number, line in enumerate(document.read_text().split('\n'), 1):
         for what, there in references(line):
             seen += 1

@@ -31,7 +31,7 @@ MODULE = re.compile(r'Rattle\.(\w+)\.((?:specs|proofs)\b.*)')
 RUST_COMMENT = re.compile(r'\'(?:\\.|[^\'\\])\'|"(?:\\.|[^"\\])*"|//[^\n]*|/\*.*?\*/', re.S)
 RUST_USE = re.compile(r'^[ \t]*((?:pub |ghost )?)use ([^;]*);', re.M)
 RUST_NAME = re.compile(r'(?<![\w.])(?<!::)[A-Za-z_]\w*')
-CLAUSE = re.compile(r'\b(?:requires|ensures|ghost)\b(?:\s+\w+)?\s*\{')
+CLAUSE = re.compile(r'\b(?:requires|ensures|ghost)\b(?:\s+\w+)?\s*[:=]?\s*\{')
 HEADER = re.compile(r'\s*(?:(?:unfoldable|pub|ghost) )*(?:use|mod) ')
 
 # a name that a `use` line brings in: an item of a module, or the module itself
@@ -199,6 +199,9 @@ class Source:
             # what stands in a bracket is code
             text = text.replace(clause, ' '.join(re.findall('⟦(.*?)⟧', clause, re.S)))
         self.code = set(RUST_NAME.findall(text))
+        self.called = set(re.findall(r'\.(\w+)\(', text))
+        # the traits that it declares, with their methods: who calls one of them uses the trait that it brings in
+        self.traits = {name: set(re.findall(r'\bfn (\w+)', body)) for name, body in re.findall(r'^pub trait (\w+)[^{]*\{\n(.*?)^\}', text, re.M | re.S)}
 
 
 def edited():
@@ -274,10 +277,11 @@ def idle(files):
 
 def idle_uses(files):
     """A line for each name that a file brings in and does not use."""
+    traits = {name: methods for file in files for name, methods in getattr(file, 'traits', {}).items()}
     for file in files:
         said = heads(file.loose.union(*(d.says for d in file.declared.values()))) | {b.module.split('.')[0] for b in file.brought}
         found = [b for b in file.brought if not b.passed_on and b.name != '*' and not spellings(b.name) & said]
-        for b in found + [b for b in file.brought_in_code if b.name not in file.code]:
+        for b in found + [b for b in file.brought_in_code if b.name not in file.code and not traits.get(b.name, set()) & getattr(file, 'called', set())]:
             yield '%s:%d: does not use `%s` of `%s`' % (file.path, b.line, b.name, b.module)
 
 

@@ -32,7 +32,8 @@ use Rattle.glyph.proofs.Cells.{of_slice}
 use Rattle.line.specs.Line.{Place, shown_row, scan_by, scan}
 use Rattle.line.proofs.Strips.{has_row, still_row, row_off, no_row, row-shown, scan-value, scan-cells}
 use Rattle.ahead.specs.Ahead.{remaining}
-use Rattle.ahead.specs.Looking.{row_reads, user_shown, row_cells, strip_reads, pair_of, codes_to, codes_at_most}
+use Rattle.ahead.specs.Question.{codes_at_most, user_shown}
+use Rattle.ahead.specs.Looking.{row_reads, row_cells, strip_reads, pair_of, codes_to}
 use Rattle.ahead.proofs.Rows.{row-reads, rows_merge, first_two}
 
 -- ---- the rows of a strip
@@ -99,9 +100,9 @@ unfolding lines_left
 lines_in_lem k strip e l = subst (λ (t : Strip). k ≤ lines_left t) e l
 
 module _ (ram : List ℕ) (s : Settings) (k : ℕ) (strip : Strip) (c : ℕ) where
-  pub strip-none : k ≡ 0 → strip_reads ram s k strip c ≡ false
+  pub strip_none : k ≡ 0 → strip_reads ram s k strip c ≡ false
   unfolding row_cells
-  strip-none e = no_cell c (ap (λ (m : ℕ). row_cells ram s m strip) e)
+  strip_none e = no_cell c (ap (λ (m : ℕ). row_cells ram s m strip) e)
 
   pub strip_spacing : {left : ℕ} → strip ≡ Spacing left → strip_reads ram s k strip c ≡ false
   unfolding has_row
@@ -168,8 +169,8 @@ plain-none ram s (suc n) w e =
     line_first ram s n w (plain_rest w.descriptor) [] (plain_value ram s.ch w t.1 t.0) (plain_cells ram s.ch w t.1 t.0)
     ∙ ap₂ (λ (p : Reading (List Place)) (l : List ℕ). cells ram p ++ l) (no_row s (Spacing 0) refl) (plain-none ram s n (plain_rest w.descriptor) refl)
 
-pub plain-unread : (ram : List ℕ) (s : Settings) (n : ℕ) (w : Walk) (c : ℕ) → in_plain_rest w ≡ true → among c (cells ram (remaining s n w)) ≡ false
-plain-unread ram s n w c e = no_cell c (plain-none ram s n w e)
+pub plain_unread : (ram : List ℕ) (s : Settings) (n : ℕ) (w : Walk) (c : ℕ) → in_plain_rest w ≡ true → among c (cells ram (remaining s n w)) ≡ false
+plain_unread ram s n w c e = no_cell c (plain-none ram s n w e)
 
 -- ---- strip by strip
 

@@ -1,14 +1,16 @@
 -- Strip by strip the search finds the cell or marks rows: what it has found adds up to what the lines read.
 -- Assumes nothing.
 use Prim.Native.Nat.{ℕ, ◌+◌, ◌-◌, ◌*◌, ◌/◌, ◌%◌, ◌≤◌, ◌<◌, min}
-use mathlib.Core.Path.{◌≡◌, refl, sym, ap, ap₂, ◌∙◌, subst}
+use mathlib.Core.Path.{◌≡◌, refl, sym, ap, ap₂, ◌∙◌}
 use mathlib.Core.Bool.{Bool, true, false, ◌&&◌, ◌||◌, true≢false, or-false, or-true, or_assoc}
 use mathlib.Core.List.{List}
 use native.Mathlib.Omega.{arith}
 use borrow.Author.Tests.{lt-ltb, le-ltb}
-use lib.ListN.{get_or, replicate}
-use Rattle.buffers.specs.Buffers.{Bytes}
-use Rattle.cells.specs.Reading.{cells, among}
+use lib.ListN.{get_or}
+use Rattle.std.specs.Prelude.{is_some}
+use Rattle.std.specs.declared.ops.ControlFlow.{ControlFlow}
+use Rattle.std.specs.declared.ops.ControlFlow.TheVariants.{Break, Continue}
+use Rattle.std.specs.ControlFlow.{break_value}
 use Rattle.raster.specs.declared.ScanLine.{ScanLine}
 use Rattle.raster.specs.Raster.{before_first, lines_after}
 use Rattle.raster.specs.Search.{slice_shown}
@@ -20,189 +22,201 @@ use Rattle.walk.specs.declared.Walk.{Walk}
 use Rattle.walk.specs.Walk.{height_of, zoomed_by, codes_at, shows_codes, strip_of, lines_left, in_plain_rest}
 use Rattle.walk.proofs.Laws.{strip_of-some, codes-shown, codes_begin, codes-none}
 use Rattle.glyph.specs.Cells.{of_user, user_slice}
-use Rattle.ahead.specs.Ahead.{remaining}
-use Rattle.ahead.specs.declared.Sought.{Sought}
-use Rattle.ahead.specs.declared.Looked.{Looked}
-use Rattle.ahead.specs.Looking.{codes_to, user_shown, row_reads, user_reads, Starts, Far, Kept, Marks, any_row, row_read, strip_read, whole_read, lines_read, Posed, Adds}
+use Rattle.ahead.specs.declared.question.Sought.{Sought}
+use Rattle.ahead.specs.declared.Search.{Search}
+use Rattle.ahead.specs.Question.{user_shown}
+use Rattle.ahead.specs.Looking.{codes_to, row_reads, user_reads, Starts, Far, Marks, any_row}
+use Rattle.ahead.specs.Search.{marked_read, row_read, strip_read, whole_read, lines_read, frame_read, Adds}
 use Rattle.ahead.proofs.Rows.{reads_split, all-far, code-even, code_of_lem, code-next}
 use Rattle.ahead.proofs.Lines.{or_with, strip_spacing, strip_disabled, strip_characters, from-even, none_left, descriptor_here, descriptor_on, walk-passed}
-use Rattle.ahead.proofs.Marks.{no_row}
 
--- does a marked row show the cell's user character?
-abbrev sofar : List ℕ → Sought → List ℕ → Bool
-sofar ram q marks = any_row ram q.cell q.codes marks
-
--- a part of the frame is looked at
-module _ (ram : List ℕ) (q : Sought) (b : Bool) (marks : List ℕ) where
-  found_adds : (marks' : List ℕ) (r : Looked) → Kept marks' → Far ram q r.near → r.found ≡ true → sofar ram q marks || b ≡ true → Adds ram q b marks marks' r
-  found_adds marks' r k f y h = record { kept = k; far = f; hit = λ _. h; miss = λ z. absurd (true≢false (sym y ∙ z)) }
-
-  miss_adds : (marks' : List ℕ) (near : ℕ) → Kept marks' → Far ram q near → sofar ram q marks' ≡ sofar ram q marks || b
-      → Adds ram q b marks marks' (record { found = false; near = near })
-  miss_adds marks' near k f h = record { kept = k; far = f; hit = λ z. absurd (true≢false (sym z)); miss = λ _. h }
-
-  pub none_adds : (near : ℕ) → Kept marks → Far ram q near → b ≡ false → Adds ram q b marks marks (record { found = false; near = near })
-  none_adds near k f e = miss_adds marks near k f (sym (ap (λ (x : Bool). sofar ram q marks || x) e ∙ or-false (sofar ram q marks)))
+-- a part of the frame that reads nothing adds nothing
+pub none_adds : (s : Search) (b : Bool) → b ≡ false → Adds s s b (Continue tt)
+none_adds s b e =
+    record { ram = refl; sought = refl; seen = sym (ap (λ (x : Bool). marked_read s || x) e ∙ or-false (marked_read s)) }
 
 -- ---- a row
 
 -- rows that have not as many codes as they start before the cell
-pub far-all : (ram : List ℕ) (q : Sought) → Posed q → Far ram q q.codes
-far-all ram q p = record { unread = all-far ram q.cell p.cell q.codes }
+pub far_all : (ram : List ℕ) (q : Sought) → Far ram q q.codes
+far_all ram q = record { unread = all-far ram q.cell q.posed.cell q.codes }
 
-pub far-starts : (ram : List ℕ) (q : Sought) (m : ℕ) → Starts ram q.cell q.codes m → Far ram q m
-far-starts ram q m s = record { unread = λ a l. s.reads a ∙ le-ltb (codes_to q.cell a) m l }
+pub far_starts : (ram : List ℕ) (q : Sought) (m : ℕ) → Starts ram q.cell q.codes m → Far ram q m
+far_starts ram q m s = record { unread = λ a l. s.reads a ∙ le-ltb (codes_to q.cell a) m l }
 
-module _ (ram : List ℕ) (q : Sought) (shown : Bool) (a : ℕ) (marks : List ℕ) (near : ℕ) (k : Kept marks) where
-  pub row_found : Starts ram q.cell q.codes near → codes_to q.cell a < near
-      → Adds ram q (row_read ram q shown a) marks marks (record { found = true; near = near })
-  row_found s l =
-      found_adds ram q (row_read ram q shown a) marks marks (record { found = true; near = near }) k (far-starts ram q near s) refl
-      (ap (λ (x : Bool). sofar ram q marks || x)
-      (reads_split ram q.cell shown q.codes a
-      ∙ or_with (shown && user_reads ram q.cell q.codes a) (s.reads a ∙ lt-ltb (codes_to q.cell a) near l))
-      ∙ or-true (sofar ram q marks))
+module _ (s : Search) (shown : Bool) (a near : ℕ) where
+  pub row_found : Starts s.ram.now s.sought.cell s.sought.codes near → codes_to s.sought.cell a < near → marked_read s || row_read s shown a ≡ true
+  row_found t l =
+      ap (λ (x : Bool). marked_read s || x)
+      (reads_split s.ram.now s.sought.cell shown s.sought.codes a
+      ∙ or_with (shown && user_reads s.ram.now s.sought.cell s.sought.codes a) (t.reads a ∙ lt-ltb (codes_to s.sought.cell a) near l))
+      ∙ or-true (marked_read s)
 
-  module _ (f : Far ram q near) (l : near ≤ codes_to q.cell a) where
-    -- it reads the cell only as its user character
-    passed : row_read ram q shown a ≡ shown && user_reads ram q.cell q.codes a
-    passed = reads_split ram q.cell shown q.codes a ∙ or_with (shown && user_reads ram q.cell q.codes a) (f.unread a l)
+  -- it reads the cell only as its user character
+  pub row_far : Far s.ram.now s.sought near → near ≤ codes_to s.sought.cell a
+      → row_read s shown a ≡ shown && user_reads s.ram.now s.sought.cell s.sought.codes a
+  row_far f l =
+      reads_split s.ram.now s.sought.cell shown s.sought.codes a
+      ∙ or_with (shown && user_reads s.ram.now s.sought.cell s.sought.codes a) (f.unread a l)
 
-    pub row_marked : (marks' : List ℕ) → shown ≡ true → Marks marks a marks'
-        → Adds ram q (row_read ram q shown a) marks marks' (record { found = false; near = near })
-    row_marked marks' e m =
-        miss_adds ram q (row_read ram q shown a) marks marks' near m.kept f
-        (m.more ram q.cell q.codes
-        ∙ ap (λ (x : Bool). sofar ram q marks || x) (sym (passed ∙ ap (λ (x : Bool). x && user_reads ram q.cell q.codes a) e)))
+pub row_marked : (s : Search) (shown : Bool) (a : ℕ) (marks : List ℕ) → shown ≡ true → Marks s.marks a marks
+    → row_read s shown a ≡ shown && user_reads s.ram.now s.sought.cell s.sought.codes a
+    → any_row s.ram.now s.sought.cell s.sought.codes marks ≡ marked_read s || row_read s shown a
+row_marked s shown a marks e m f =
+    m.more s.ram.now s.sought.cell s.sought.codes
+    ∙ ap (λ (x : Bool). marked_read s || x) (sym (f ∙ ap (λ (x : Bool). x && user_reads s.ram.now s.sought.cell s.sought.codes a) e))
 
 -- ---- the strip on screen
 
-pub strip-shown : (ram : List ℕ) (q : Sought) (strip : Strip) (lines : ℕ) (marks marks' : List ℕ) (r : Looked) → Bytes ram → Posed q
+pub strip_shown : (s : Search) (strip : Strip) (lines : ℕ)
     → {address height : ℕ} {zoom enabled : Bool} {line : ScanLine} → strip ≡ Characters address height zoom enabled line
-    → (shown : Bool) → enabled ≡ true → 1 ≤ lines → lines ≤ lines_left strip → shown ≡ user_shown q.cell line lines height zoom
-    → Adds ram q (row_read ram q shown address) marks marks' r → Adds ram q (strip_read ram q lines strip) marks marks' r
-strip-shown ram q strip lines marks marks' r bytes p {address} e shown d h l f w =
-    subst (λ (x : Bool). Adds ram q x marks marks' r)
-    (ap₂ (λ (x : Bool) (n : ℕ). row_reads ram q.cell x n address) f p.codes
-    ∙ strip_characters ram q.settings lines strip q.cell e bytes d h l)
-    w
+    → (shown : Bool) → enabled ≡ true → 1 ≤ lines → lines ≤ lines_left strip → shown ≡ user_shown s.sought.cell line lines height zoom
+    → row_read s shown address ≡ strip_read s lines strip
+strip_shown s strip lines {address} e shown d h l f =
+    ap₂ (λ (x : Bool) (n : ℕ). row_reads s.ram.now s.sought.cell x n address) f s.sought.posed.codes
+    ∙ strip_characters s.ram.now s.sought.settings lines strip s.sought.cell e s.bytes d h l
 
 -- ---- the strip of a descriptor, all lines
 
 -- it has no row
-pub whole_dark : (ram : List ℕ) (q : Sought) (low high : ℕ) → shows_codes high ≡ false → whole_read ram q low high ≡ false
-whole_dark ram q low high e =
-    codes-none (λ (t : Strip). strip_read ram q (lines_left t) t ≡ false) q.settings.ch low high e
-    (λ left. strip_spacing ram q.settings (lines_left (Spacing left)) (Spacing left) q.cell refl)
+pub whole_dark : (s : Search) (low high : ℕ) → shows_codes high ≡ false → whole_read s low high ≡ false
+whole_dark s low high e =
+    codes-none (λ (t : Strip). strip_read s (lines_left t) t ≡ false) s.sought.settings.ch low high e
+    (λ left. strip_spacing s.ram.now s.sought.settings (lines_left (Spacing left)) (Spacing left) s.sought.cell refl)
     (λ address height zoom line.
-    strip_disabled ram q.settings (lines_left (Characters address height zoom false line)) (Characters address height zoom false line) q.cell refl refl)
+    strip_disabled s.ram.now s.sought.settings (lines_left (Characters address height zoom false line)) (Characters address height zoom false line) s.sought.cell refl refl)
 
 -- the slices that a strip that begins shows in all
-whole-shown : (q : Sought) (zoom : Bool) → Posed q
+whole-shown : (q : Sought) (zoom : Bool)
     → q.whole ≡ user_shown q.cell before_first (lines_after before_first (height_of q.settings.ch) zoom) (height_of q.settings.ch) zoom
-whole-shown q zoom w =
+whole-shown q zoom =
     let height = height_of q.settings.ch in
-    w.whole
+    q.posed.whole
     ∙ ap (λ (x : Bool). x && of_user q.cell)
     (sym (ap (λ (n : ℕ). slice_shown before_first n height zoom (user_slice q.cell)) (all_after height zoom)
     ∙ whole_zoom height zoom (user_slice q.cell)))
 
--- its row was looked at
-pub whole_looked : (ram : List ℕ) (q : Sought) (low high : ℕ) (marks marks' : List ℕ) (r : Looked) → Bytes ram → Posed q → shows_codes high ≡ true
-    → Adds ram q (row_read ram q q.whole (codes_at low high)) marks marks' r → Adds ram q (whole_read ram q low high) marks marks' r
+-- its row is looked at
+pub whole_shown : (s : Search) (low high : ℕ) → shows_codes high ≡ true
+    → row_read s s.sought.whole (codes_at low high) ≡ whole_read s low high
 unfolding lines_left
-whole_looked ram q low high marks marks' r bytes w e l =
+whole_shown s low high e =
+    let q = s.sought in
     let strip = strip_of q.settings.ch low high in
     let t = codes-shown q.settings.ch low high e in
-    strip-shown ram q strip (lines_left strip) marks marks' r bytes w t q.whole refl
+    strip_shown s strip (lines_left strip) t q.whole refl
     (strip_of-some q.settings.ch low high (codes_begin low high e)) (omega arith)
-    (whole-shown q (zoomed_by high) w
+    (whole-shown q (zoomed_by high)
     ∙ ap (λ (n : ℕ). user_shown q.cell before_first n (height_of q.settings.ch) (zoomed_by high)) (sym (ap lines_left t)))
-    l
 
 -- ---- the lines from a descriptor on
 
 -- what is marked and what is still to look at say the same as at the start
-pub record SumSame (ram : List ℕ) (q : Sought) (marks₀ : List ℕ) (left₀ a₀ : ℕ) (marks : List ℕ) (left a : ℕ) : Type 0 where
-  pub same : sofar ram q marks₀ || lines_read ram q left₀ a₀ ≡ sofar ram q marks || lines_read ram q left a
+pub record SumSame (s₀ : Search) (left₀ a₀ : ℕ) (s : Search) (left a : ℕ) : Type 0 where
+  pub ram : s.ram ≡ s₀.ram
+  pub sought : s.sought ≡ s₀.sought
+  pub same : marked_read s₀ || lines_read s₀ left₀ a₀ ≡ marked_read s || lines_read s left a
 
-pub sum-start : (ram : List ℕ) (q : Sought) (marks : List ℕ) (left a : ℕ) → SumSame ram q marks left a marks left (2 * (a / 2 % 512))
-sum-start ram q marks left a =
-    subst (λ (x : ℕ). SumSame ram q marks left a marks left x) (code_of_lem a)
-    (record { same = ap (λ (x : Bool). sofar ram q marks || x) (sym (from-even ram q.settings q.cell left a)) })
+pub sum_start : (s : Search) (left a : ℕ) → SumSame s left a s left (2 * (a / 2 % 512))
+sum_start s left a =
+    record {
+      ram = refl;
+      sought = refl;
+      same =
+          ap (λ (x : Bool). marked_read s || x)
+          (sym (from-even s.ram.now s.sought.settings s.sought.cell left a)
+          ∙ ap (λ (x : ℕ). lines_read s left x) (code_of_lem a));
+    }
 
 -- at the descriptor of a number
-module _ {ram : List ℕ} {q : Sought} {marks₀ : List ℕ} {left₀ a₀ : ℕ} {marks : List ℕ} {left : ℕ} (p : ℕ)
-    (sum : SumSame ram q marks₀ left₀ a₀ marks left (2 * p)) (below : p < 512) (posed : Posed q) where
-  pub lines_here : (near : ℕ) → Kept marks → Far ram q near → 1 ≤ left → q.cell / 2 ≡ p
-      → Adds ram q (lines_read ram q left₀ a₀) marks₀ marks (record { found = true; near = near })
-  lines_here near k f h e =
-      found_adds ram q (lines_read ram q left₀ a₀) marks₀ marks (record { found = true; near = near }) k f refl
-      (sum.same
-      ∙ ap (λ (x : Bool). sofar ram q marks || x)
-      (descriptor_here ram q.settings q.cell posed.cell left (2 * p) h (code-even p below) (omega (arith, e)))
-      ∙ or-true (sofar ram q marks))
+module _ {s₀ : Search} {left₀ a₀ : ℕ} {s : Search} {left : ℕ} (p : ℕ) (sum : SumSame s₀ left₀ a₀ s left (2 * p)) (below : p < 512) where
+  pub lines_here : 1 ≤ left → s₀.sought.cell / 2 ≡ p → marked_read s₀ || lines_read s₀ left₀ a₀ ≡ true
+  lines_here h e =
+      sum.same
+      ∙ ap (λ (x : Bool). marked_read s || x)
+      (descriptor_here s.ram.now s.sought.settings s.sought.cell s.sought.posed.cell left (2 * p) h (code-even p below) (omega (arith, e, ap (λ (q : Sought). q.cell) sum.sought)))
+      ∙ or-true (marked_read s)
 
-  pub lines-over : (near : ℕ) → Kept marks → Far ram q near → left ≤ 0 → Adds ram q (lines_read ram q left₀ a₀) marks₀ marks (record { found = false; near = near })
-  lines-over near k f h =
-      miss_adds ram q (lines_read ram q left₀ a₀) marks₀ marks near k f
-      (sym (sum.same
-      ∙ ap (λ (x : Bool). sofar ram q marks || x) (none_left ram q.settings q.cell left (2 * p) h)
-      ∙ or-false (sofar ram q marks)))
+  pub lines_over : left ≤ 0 → marked_read s ≡ marked_read s₀ || lines_read s₀ left₀ a₀
+  lines_over h =
+      sym (sum.same
+      ∙ ap (λ (x : Bool). marked_read s || x) (none_left s.ram.now s.sought.settings s.sought.cell left (2 * p) h)
+      ∙ or-false (marked_read s))
 
   -- its strip was looked at, as many lines as are shown
-  module _ (t : Strip) (is : t ≡ strip_of q.settings.ch (get_or ram (2 * p) 0) (get_or ram (2 * p + 1) 0)) (h : 1 ≤ left) (e : q.cell / 2 ≡ p → ⊥)
-      (lines : ℕ) (m : lines ≡ min (lines_left t) left) {marks' : List ℕ} {r : Looked} (w : Adds ram q (strip_read ram q lines t) marks marks' r) where
-    after : Bool
-    after = lines_read ram q (left - lines_left t) (2 * ((p + 1) % 512))
+  module _ (t : Strip) (is : t ≡ strip_of s.sought.settings.ch (get_or s.ram.now (2 * p) 0) (get_or s.ram.now (2 * p + 1) 0)) (h : 1 ≤ left)
+      (e : s₀.sought.cell / 2 ≡ p → ⊥) (lines : ℕ) (m : lines ≡ min (lines_left t) left) {s' : Search} {r : ControlFlow Unit Unit}
+      (w : Adds s s' (strip_read s lines t) r) where
+    after : Search → Bool
+    after s = lines_read s (left - lines_left t) (2 * ((p + 1) % 512))
 
     -- the rows of its strip, and the lines after it
-    step : sofar ram q marks₀ || lines_read ram q left₀ a₀ ≡ (sofar ram q marks || strip_read ram q lines t) || after
+    step : marked_read s₀ || lines_read s₀ left₀ a₀ ≡ (marked_read s || strip_read s lines t) || after s
     unfolding after
     step =
         sum.same
-        ∙ ap (λ (x : Bool). sofar ram q marks || x)
-        (descriptor_on ram q.settings q.cell posed.cell left (2 * p) h (code-even p below) t lines (λ y. e (omega (arith, y))) is m
-        ∙ ap (λ (x : ℕ). strip_read ram q lines t || lines_read ram q (left - lines_left t) x) (code-next p))
-        ∙ sym (or_assoc (sofar ram q marks) (strip_read ram q lines t) after)
+        ∙ ap (λ (x : Bool). marked_read s || x)
+        (descriptor_on s.ram.now s.sought.settings s.sought.cell s.sought.posed.cell left (2 * p) h (code-even p below) t lines (λ y. e (omega (arith, y, ap (λ (q : Sought). q.cell) sum.sought))) is m
+        ∙ ap (λ (x : ℕ). strip_read s lines t || lines_read s (left - lines_left t) x) (code-next p))
+        ∙ sym (or_assoc (marked_read s) (strip_read s lines t) (after s))
 
-    pub lines_found : r.found ≡ true → Adds ram q (lines_read ram q left₀ a₀) marks₀ marks' r
-    lines_found y = found_adds ram q (lines_read ram q left₀ a₀) marks₀ marks' r w.kept w.far y (step ∙ or_with after (w.hit y))
+    pub lines_found : marked_read s || strip_read s lines t ≡ true → marked_read s₀ || lines_read s₀ left₀ a₀ ≡ true
+    lines_found y = step ∙ or_with (after s) y
 
-    pub sum_on : r.found ≡ false → SumSame ram q marks₀ left₀ a₀ marks' (left - lines_left t) (2 * ((p + 1) % 512))
+    pub sum_on : marked_read s' ≡ marked_read s || strip_read s lines t → SumSame s₀ left₀ a₀ s' (left - lines_left t) (2 * ((p + 1) % 512))
     unfolding after
-    sum_on z = record { same = step ∙ or_with after (sym (w.miss z)) }
-
-    -- the frame ends in the strip
-    pub lines_last : left ≤ lines_left t → Adds ram q (lines_read ram q left₀ a₀) marks₀ marks' r
-    lines_last l =
+    sum_on z =
         record {
-          kept = w.kept;
-          far = w.far;
-          hit = λ y. step ∙ or_with after (w.hit y);
-          miss = λ z.
-              sym ((sum_on z).same
-              ∙ ap (λ (x : Bool). sofar ram q marks' || x)
-              (none_left ram q.settings q.cell (left - lines_left t) (2 * ((p + 1) % 512)) (omega arith))
-              ∙ or-false (sofar ram q marks'));
+          ram = w.ram ∙ sum.ram;
+          sought = w.sought ∙ sum.sought;
+          same = step ∙ or_with (after s) (sym z) ∙ ap (λ (x : Bool). marked_read s' || x) (rw (w.ram, w.sought) refl);
         }
+
+-- the frame ends in the strip
+pub lines_last : {s₀ : Search} {left₀ a₀ : ℕ} {s : Search} {left : ℕ} (p : ℕ) (sum : SumSame s₀ left₀ a₀ s left (2 * p)) (below : p < 512)
+    (t : Strip) (is : t ≡ strip_of s.sought.settings.ch (get_or s.ram.now (2 * p) 0) (get_or s.ram.now (2 * p + 1) 0)) (h : 1 ≤ left)
+    (e : s₀.sought.cell / 2 ≡ p → ⊥) (l : left ≤ lines_left t) {s' : Search} (r : ControlFlow Unit Unit)
+    (w : Adds s s' (strip_read s left t) r) → Adds s₀ s' (lines_read s₀ left₀ a₀) r
+lines_last p sum below t is h e l (Break y) w =
+    record { ram = w.ram ∙ sum.ram; sought = w.sought ∙ sum.sought; seen = lines_found p sum below t is h e _ (omega arith) w w.seen }
+lines_last {left = left} p sum below t is h e l (Continue y) w =
+    let on = sum_on p sum below t is h e left (omega arith) w w.seen in
+    record { ram = w.ram ∙ sum.ram; sought = w.sought ∙ sum.sought; seen = lines_over ((p + 1) % 512) on (omega arith) (omega arith) }
 
 -- ---- the frame's remaining lines
 
-module _ (ram : List ℕ) (left : ℕ) (w : Walk) (q : Sought) (k : ℕ) (o : in_plain_rest w ≡ false) (e : k ≡ min (lines_left w.strip) left) {marks₁ : List ℕ} {r₁ : Looked}
-    (first : Adds ram q (strip_read ram q k w.strip) (replicate 16 0) marks₁ r₁) where
-  all : among q.cell (cells ram (remaining q.settings left w))
-      ≡ (sofar ram q (replicate 16 0) || strip_read ram q k w.strip) || lines_read ram q (left - k) w.descriptor
+module _ (s : Search) (left : ℕ) (w : Walk) (k : ℕ) (o : in_plain_rest w ≡ false) (e : k ≡ min (lines_left w.strip) left) where
+  all : marked_read s || frame_read s left w ≡ (marked_read s || strip_read s k w.strip) || lines_read s (left - k) w.descriptor
   all =
-      walk-passed ram q.settings left w k q.cell o e
-      ∙ or_with _ (or_with (strip_read ram q k w.strip) (sym (no_row ram q.cell q.codes)))
+      ap (λ (x : Bool). marked_read s || x) (walk-passed s.ram.now s.sought.settings left w k s.sought.cell o e)
+      ∙ sym (or_assoc (marked_read s) (strip_read s k w.strip) (lines_read s (left - k) w.descriptor))
 
-  pub found_first : r₁.found ≡ true → among q.cell (cells ram (remaining q.settings left w)) ≡ true
-  found_first y = all ∙ or_with _ (first.hit y)
+  pub frame_first : {s' : Search} {y : Unit} → Adds s s' (strip_read s k w.strip) (Break y) → Adds s s' (frame_read s left w) (Break y)
+  frame_first a = record { ram = a.ram; sought = a.sought; seen = all ∙ or_with _ a.seen }
 
-  module _ {marks₂ : List ℕ} {r₂ : Looked} (later : Adds ram q (lines_read ram q (left - k) w.descriptor) marks₁ marks₂ r₂) (z : r₁.found ≡ false) where
-    pub found_later : r₂.found ≡ true → among q.cell (cells ram (remaining q.settings left w)) ≡ true
-    found_later y = all ∙ or_with _ (sym (first.miss z)) ∙ later.hit y
+  pub frame_later : {s' : Search} {y : Unit} → Adds s s' (strip_read s k w.strip) (Continue y)
+      → {s'' : Search} (r : ControlFlow Unit Unit) → Adds s' s'' (lines_read s' (left - k) w.descriptor) r → Adds s s'' (frame_read s left w) r
+  frame_later {s'} a (Break y) b =
+      let f : lines_read s' (left - k) w.descriptor ≡ lines_read s (left - k) w.descriptor = rw (a.ram, a.sought) refl in
+      record {
+        ram = b.ram ∙ a.ram;
+        sought = b.sought ∙ a.sought;
+        seen = all ∙ or_with _ (sym a.seen) ∙ ap (λ (x : Bool). marked_read s' || x) (sym f) ∙ b.seen;
+      }
+  frame_later {s'} a (Continue y) b =
+      let f : lines_read s' (left - k) w.descriptor ≡ lines_read s (left - k) w.descriptor = rw (a.ram, a.sought) refl in
+      record {
+        ram = b.ram ∙ a.ram;
+        sought = b.sought ∙ a.sought;
+        seen = b.seen ∙ sym (all ∙ or_with _ (sym a.seen) ∙ ap (λ (x : Bool). marked_read s' || x) (sym f));
+      }
 
-    pub found_row : r₂.found ≡ false → any_row ram q.cell q.codes marks₂ ≡ among q.cell (cells ram (remaining q.settings left w))
-    found_row y = later.miss y ∙ sym (all ∙ or_with _ (sym (first.miss z)))
+-- where no row was marked before
+
+pub found_read : (s s' : Search) (b : Bool) (r : ControlFlow Unit Unit) → Adds s s' b r → marked_read s ≡ false → is_some (break_value r) ≡ true → true ≡ b
+found_read s s' b (Break y) a e f = sym a.seen ∙ or_with b e
+found_read s s' b (Continue y) a e f = absurd (true≢false (sym f))
+
+pub marked_rest : (s s' : Search) (b : Bool) (r : ControlFlow Unit Unit) → Adds s s' b r → marked_read s ≡ false → is_some (break_value r) ≡ false → marked_read s' ≡ b
+marked_rest s s' b (Break y) a e f = absurd (true≢false f)
+marked_rest s s' b (Continue y) a e f = a.seen ∙ or_with b e

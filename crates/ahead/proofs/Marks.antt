@@ -1,17 +1,19 @@
 -- The marked rows: binary digits that are set and found; and how the rows are looked through, each as far as the next.
 -- Assumes nothing.
-use Prim.Native.Nat.{ℕ, zero, suc, ◌+◌, ◌-◌, ◌*◌, ◌/◌, ◌%◌, ◌^◌, ◌≤◌, ◌<◌}
+use Prim.Native.Nat.{ℕ, zero, suc, ◌+◌, ◌-◌, ◌*◌, ◌/◌, ◌%◌, ◌^◌, ◌≤◌, ◌<◌, max}
 use mathlib.Core.Path.{◌≡◌, refl, sym, ap, ap₂, ◌∙◌, subst}
 use mathlib.Core.Bool.{Bool, true, false, cond, ◌&&◌, ◌||◌, true≢false}
 use mathlib.Core.List.{List}
+use Rattle.std.specs.Prelude.{Option, Some, None}
 use native.Mathlib.Decide.{dec_lt, ℕ_discrete}
 use native.Mathlib.Nat.{not-suc-le-zero, le_of_suc-le-suc, lt_of_not-le, pow-suc, mod-eq_of_lt, mod-add-mod, div-add-mod'}
 use native.Mathlib.Numerals.{add-one, sub-one}
 use native.Mathlib.Omega.{arith}
-use lib.Bits.{bit_or, or_step, or_shr, or_mod, or_lt, or_zero_r, shifted_half, shifted_even}
+use borrow.Author.Tests.{eq-eqb, ne_eqb}
+use lib.Bits.{bit_or, or_step, or_shr, or_mod, or_zero_r, shifted_half, shifted_even}
 use lib.Arith.{lt-one}
 use lib.Dec.{T, eqb}
-use lib.ListN.{get_or, set, length-set, replicate, length-replicate, get_or-replicate}
+use lib.ListN.{length, get_or, set, replicate, get_or-replicate}
 use lib.Pow.{mod-pow-add, shl_exact, shr-shr}
 use lib.Seq.{get_or-set_same}
 use mir.Facts.{and_yes}
@@ -21,7 +23,7 @@ use Rattle.walk.specs.Walk.{even, next}
 use Rattle.glyph.specs.Glyph.{ends_line}
 use Rattle.glyph.specs.Cells.{user_high}
 use Rattle.ahead.specs.declared.Passed.{Passed}
-use Rattle.ahead.specs.Looking.{user_reads, digit, is_marked, any_below, any_row, Kept, Marks, ZerosOf, Lowest, NextRow, OwnCodes}
+use Rattle.ahead.specs.Looking.{user_reads, digit, is_marked, any_below, any_row, Marks, ZerosOf, Lowest, Unmarked, NextRow, OwnCodes}
 use Rattle.ahead.proofs.Rows.{user-same, code-even, code-next}
 
 -- ---- digits
@@ -87,9 +89,9 @@ module _ (low : Passed) (h : ℕ) (fits : low.rest < 2 ^ 32) where
       let l : low.rest / 2 ^ h * 2 ^ h < 2 ^ 32 = omega (arith, e) in
       ap (λ (k : ℕ). k + low.rest % 2 ^ h) (mod-eq_of_lt l) ∙ e
 
-  pub zeros-passed : low.rest / 2 ^ h * 2 ^ h % 2 ^ 32 ≡ low.rest → (x : ℕ) → ZerosOf x (h + h) low
+  pub zeros_passed : low.rest / 2 ^ h * 2 ^ h % 2 ^ 32 ≡ low.rest → (x : ℕ) → ZerosOf x (h + h) low
       → ZerosOf x h (record { zeros = low.zeros + h; rest = low.rest / 2 ^ h })
-  zeros-passed e x z =
+  zeros_passed e x z =
       record {
         zeros = λ j l. by j l (dec_lt j low.zeros);
         after = λ j.
@@ -115,9 +117,9 @@ no_zeros x l e =
       some = λ f. e (sym (mod-eq_of_lt l) ∙ f);
     }
 
-pub all-zeros : (x : ℕ) (r : Passed) → r.zeros < 32 → ZerosOf x 1 r → Lowest x r.zeros
+pub all_zeros : (x : ℕ) (r : Passed) → r.zeros < 32 → ZerosOf x 1 r → Lowest x r.zeros
 unfolding digit
-all-zeros x r l z =
+all_zeros x r l z =
     let f : r.zeros + 0 ≡ r.zeros = omega arith in
     let g : r.rest % 2 ≡ 1 = omega (arith, z.some) in
     record { zeros = z.zeros; is = ap (λ (k : ℕ). digit k x) (sym f) ∙ sym (z.after 0) ∙ g; most = l }
@@ -166,14 +168,14 @@ module _ (ram : List ℕ) (c n : ℕ) (marks : List ℕ) where
 abbrev marked_at : List ℕ → ℕ → List ℕ
 marked_at marks q = set marks (q / 32) (bit_or (get_or marks (q / 32) 0) (1 * 2 ^ (q % 32) % 2 ^ 32))
 
-module _ (marks : List ℕ) (q : ℕ) (h : q < 512) (k : Kept marks) where
+module _ (marks : List ℕ) (q : ℕ) (h : q < 512) (words : length marks ≡ 16) where
   bit : 1 * 2 ^ (q % 32) % 2 ^ 32 ≡ 1 * 2 ^ (q % 32)
   bit = shl_exact 1 (q % 32) 32 (omega arith) (omega arith)
 
   marks_it : is_marked (marked_at marks q) q ≡ true
   unfolding is_marked
   marks_it =
-      rw (get_or-set_same marks (q / 32) (bit_or (get_or marks (q / 32) 0) (1 * 2 ^ (q % 32) % 2 ^ 32)) 0 (omega (arith, k.words)), bit, set-digit)
+      rw (get_or-set_same marks (q / 32) (bit_or (get_or marks (q / 32) 0) (1 * 2 ^ (q % 32) % 2 ^ 32)) 0 (omega (arith, words)), bit, set-digit)
 
   leaves_other : (p : ℕ) → (q ≡ p → ⊥) → is_marked (marked_at marks q) p ≡ is_marked marks p
   unfolding is_marked
@@ -193,13 +195,6 @@ module _ (marks : List ℕ) (q : ℕ) (h : q < 512) (k : Kept marks) where
   pub marks_row : (a : ℕ) → q ≡ a / 2 % 512 → Marks marks a (marked_at marks q)
   marks_row a e =
       record {
-        kept =
-            record {
-              words = length-set marks (q / 32) _ ∙ k.words;
-              fits = λ i h.
-                  set_at (λ (_ x : ℕ). x < 2 ^ 32) marks (q / 32) _ i
-                  (or_lt 32 (get_or marks (q / 32) 0) (1 * 2 ^ (q % 32) % 2 ^ 32) (k.fits (q / 32) (omega arith)) (omega arith)) (k.fits i h);
-            };
         more = λ ram c n.
             let now = any_row ram c n (marked_at marks q) in
             let new = user_reads ram c n a in
@@ -232,29 +227,46 @@ in_word marks p i l e =
     ap (λ (x : ℕ). eqb x 1)
     (ap₂ (λ (j k : ℕ). digit j (get_or marks k 0)) (sym f) e ∙ sym (shifted-digit (p % 32) (i - p) (get_or marks (p / 32) 0)))
 
-module _ (marks : List ℕ) (from p : ℕ) (passed : (i : ℕ) → from ≤ i → i < p → is_marked marks i ≡ false) where
-  none_before : (r : ℕ) → ((i : ℕ) → p ≤ i → i < r → is_marked marks i ≡ false) → (i : ℕ) → from ≤ i → i < r → is_marked marks i ≡ false
-  none_before r f i l h = by (dec_lt i p)
+module _ (marks : List ℕ) (from p : ℕ) (passed : Unmarked marks from p) where
+  none_before : (r : ℕ) → ((i : ℕ) → p ≤ i → i < r → is_marked marks i ≡ false) → Unmarked marks from r
+  none_before r f = record { none = λ i l h. by i l h (dec_lt i p) }
     where
-      by : Dec (i < p) → is_marked marks i ≡ false
-      by (yes k) = passed i l k
-      by (no k) = f i (omega arith) h
+      by : (i : ℕ) → from ≤ i → i < r → Dec (i < p) → is_marked marks i ≡ false
+      by i l h (yes k) = passed.none i l k
+      by i l h (no k) = f i (omega arith) h
 
-  pub word-passed : rest marks p ≡ 0 → (i : ℕ) → from ≤ i → i < (p / 32 + 1) * 32 → is_marked marks i ≡ false
-  word-passed e =
+  word_passed : rest marks p ≡ 0 → Unmarked marks from ((p / 32 + 1) * 32)
+  word_passed e =
       none_before ((p / 32 + 1) * 32) (λ i l h.
       in_word marks p i l (omega arith) ∙ rw (e, digit-zero))
 
-  pub word_next : p < 512 → from ≤ p → get_or marks (p / 32) 0 < 2 ^ 32 → (t : ℕ) → Lowest (rest marks p) t → NextRow marks from (p + t)
+  word_next : p < 512 → from ≤ p → get_or marks (p / 32) 0 < 2 ^ 32 → (t : ℕ) → Lowest (rest marks p) t → NextRow marks from (Some (p + t))
   word_next h l w t s =
       let inside : p % 32 + t < 32 = lt_of_not-le (λ k. omega (arith, s.is, shifted-digit (p % 32) t (get_or marks (p / 32) 0), high_digit 32 _ _ w k)) in
-      let g : p + t - p ≡ t = omega arith in
-      record {
-        from = omega arith;
-        most = omega arith;
-        none = none_before (p + t) (λ i k b. in_word marks p i k (omega arith) ∙ rw (s.zeros (i - p) (omega arith)));
-        is = λ _. in_word marks p (p + t) (omega arith) (omega arith) ∙ rw (g, s.is);
-      }
+      let g : p + t - p ≡ t = omega arith in (
+        record {
+          from = omega arith;
+          below = omega arith;
+          is = in_word marks p (p + t) (omega arith) (omega arith) ∙ rw (g, s.is);
+        },
+        none_before (p + t) (λ i k b. in_word marks p i k (omega arith) ∙ rw (s.zeros (i - p) (omega arith))),
+      )
+
+-- word i, from its first row on or from the row that is asked for
+module _ (marks : List ℕ) (from i p : ℕ) (start : p ≡ max from (32 * i)) (word : from / 32 ≤ i) (passed : Unmarked marks from (32 * i)) where
+  before : Unmarked marks from p
+  before = record { none = λ j l h. passed.none j l (omega arith) }
+
+  here : i ≡ p / 32
+  here = omega arith
+
+  pub word_none : get_or marks i 0 / 2 ^ (p % 32) ≡ 0 → Unmarked marks from (32 * (i + 1))
+  word_none e =
+      let w = word_passed marks from p before (rw here at e) in
+      record { none = λ j l h. w.none j l (omega (arith, here)) }
+
+  pub word_first : i < 16 → get_or marks i 0 < 2 ^ 32 → (t : ℕ) → Lowest (get_or marks i 0 / 2 ^ (p % 32)) t → NextRow marks from (Some (p + t))
+  word_first h w t s = word_next marks from p before (omega (arith, here)) (omega arith) (rw here at w) t (rw here at s)
 
 -- ---- a row is looked through as far as the next one
 
@@ -293,37 +305,66 @@ user_later ram c (suc d) (suc n) a f t =
     go false true later f t = absurd (true≢false f)
     go false false later f t = user-more ram c n (suc n) (a + 2 * suc d) (omega arith) (rw same at (later f t))
 
+-- the place of a row, or behind them all
+abbrev pub row_or_end : Option ℕ → ℕ
+row_or_end None = 512
+row_or_end (Some q) = q
+
 -- no marked row is passed over
-pub showing_from : (ram : List ℕ) (c n : ℕ) (marks : List ℕ) (p r : ℕ) → NextRow marks p r → Showing ram c n marks p → Showing ram c n marks r
+showing_from : (ram : List ℕ) (c n : ℕ) (marks : List ℕ) (p r : ℕ) → Unmarked marks p r → Showing ram c n marks p → Showing ram c n marks r
 showing_from ram c n marks p r m s = by (dec_lt s.at r)
   where
     by : Dec (s.at < r) → Showing ram c n marks r
     by (yes e) = absurd (true≢false (sym s.marked ∙ m.none s.at s.from e))
     by (no e) = record { at = s.at; from = omega arith; below = s.below; marked = s.marked; reads = s.reads }
 
--- where a row shows the user character and its own codes do not, the next marked row shows it
-module _ (ram : List ℕ) (c n : ℕ) (marks : List ℕ) (row nxt : ℕ) (m : NextRow marks (row + 1) nxt)
-    (own : ℕ) (is : OwnCodes n row nxt own) (unread : user_reads ram c own (2 * row) ≡ false) where
-  seen_later : T (user_reads ram c n (2 * row)) → (nxt < 512) × T (user_reads ram c n (2 * nxt))
-  seen_later t = by (dec_lt own n)
+module _ (ram : List ℕ) (c n : ℕ) (marks : List ℕ) where
+  -- the marked row that comes next, or none, and what is still to look through: a row that shows the user character is among it
+  abbrev pub Ahead : Option ℕ → Type 0
+  Ahead None = T (any_row ram c n marks) → ⊥
+  Ahead (Some q) = (q < 512) × (is_marked marks q ≡ true) × (T (any_row ram c n marks) → Showing ram c n marks q)
+
+  ahead_of : (p : ℕ) (next : Option ℕ) → NextRow marks p next → (T (any_row ram c n marks) → Showing ram c n marks p) → Ahead next
+  ahead_of p None m f = λ t. let s = showing_from ram c n marks p 512 m (f t) in omega (arith, s.from, s.below)
+  ahead_of p (Some q) m f = (m.0.below, m.0.is, λ t. showing_from ram c n marks p q m.1 (f t))
+
+  pub ahead_first : (next : Option ℕ) → NextRow marks 0 next → Ahead next
+  ahead_first next m = ahead_of 0 next m (showing_of ram c n marks)
+
+  -- where a row shows the user character and its own codes do not, the next marked row shows it
+  seen_later : (row : ℕ) (next : Option ℕ) (own : ℕ) → OwnCodes n row next own → user_reads ram c own (2 * row) ≡ false
+      → T (user_reads ram c n (2 * row)) → (next ≡ Some (row + own)) × T (user_reads ram c n (2 * (row + own)))
+  seen_later row next own is unread t = by (dec_lt own n)
     where
-      by : Dec (own < n) → (nxt < 512) × T (user_reads ram c n (2 * nxt))
+      by : Dec (own < n) → (next ≡ Some (row + own)) × T (user_reads ram c n (2 * (row + own)))
       by (yes l) =
-          let e : 2 * row + 2 * own ≡ 2 * nxt = omega (arith, is.cut l) in
-          ((is.cut l).0, subst (λ (x : ℕ). T (user_reads ram c n x)) e (user_later ram c own n (2 * row) unread t))
+          let e : 2 * row + 2 * own ≡ 2 * (row + own) = omega arith in
+          (is.cut l, subst (λ (x : ℕ). T (user_reads ram c n x)) e (user_later ram c own n (2 * row) unread t))
       by (no l) =
           let e : n ≡ own = omega (arith, is.most) in
           absurd (subst (λ (b : Bool). T b) (ap (λ (k : ℕ). user_reads ram c k (2 * row)) e ∙ unread) t)
 
-  pub showing_next : Showing ram c n marks row → Showing ram c n marks nxt
-  showing_next s = by (ℕ_discrete row s.at)
+  pub ahead_next : (row : ℕ) (next : Option ℕ) → NextRow marks (row + 1) next → (own : ℕ) → OwnCodes n row next own
+      → user_reads ram c own (2 * row) ≡ false → (T (any_row ram c n marks) → Showing ram c n marks row) → Ahead next
+  ahead_next row None m own is unread f = λ t. by (f t) (ℕ_discrete row (f t).at)
     where
-      by : Dec (row ≡ s.at) → Showing ram c n marks nxt
-      by (yes d) =
-          let l = seen_later (rw d s.reads) in
-          record { at = nxt; from = omega arith; below = l.0; marked = m.is l.0; reads = l.1 }
-      by (no d) =
-          showing_from ram c n marks (row + 1) nxt m
+      by : (s : Showing ram c n marks row) → Dec (row ≡ s.at) → ⊥
+      by s (yes d) = let e = (seen_later row None own is unread (rw d s.reads)).0 in cc
+      by s (no d) =
+          ahead_of (row + 1) None m (λ _. record { at = s.at; from = omega (arith, s.from); below = s.below; marked = s.marked; reads = s.reads })
+          (f_back s)
+        where
+          f_back : Showing ram c n marks row → T (any_row ram c n marks)
+          f_back s = any_at ram c n marks 512 s.at s.below s.marked s.reads
+  ahead_next row (Some q) m own is unread f = (m.0.below, m.0.is, λ t. by (f t) (ℕ_discrete row (f t).at))
+    where
+      by : (s : Showing ram c n marks row) → Dec (row ≡ s.at) → Showing ram c n marks q
+      by s (yes d) =
+          let l = seen_later row (Some q) own is unread (rw d s.reads) in
+          let e : row + own ≡ q = cc in
+          record { at = q; from = omega arith; below = m.0.below; marked = m.0.is; reads = subst (λ (x : ℕ). T (user_reads ram c n (2 * x))) e l.1 }
+      by s (no d) =
+          showing_from ram c n marks (row + 1) q m.1
           (record { at = s.at; from = omega (arith, s.from); below = s.below; marked = s.marked; reads = s.reads })
 
 -- a marked row shows it, or none does
@@ -334,7 +375,7 @@ row_shows ram c n marks row own l h m e =
 
 -- ---- the turns along a row
 
-pub one_more : (ram : List ℕ) (c n p : ℕ) → 0 < n → p < 512
+one_more : (ram : List ℕ) (c n p : ℕ) → 0 < n → p < 512
     → user_reads ram c n (2 * p)
     ≡ cond (ends_line (get_or ram (2 * p + 1) 0)) false
     (eqb (get_or ram (2 * p + 1) 0) (user_high c) || user_reads ram c (n - 1) (2 * ((p + 1) % 512)))
@@ -347,19 +388,38 @@ one_more ram c (suc n) p pos h =
     cond (ends_line (get_or ram (2 * p + 1) 0)) false (eqb (get_or ram (2 * p + 1) 0) (user_high c) || user_reads ram c m (2 * ((p + 1) % 512))))
     (sym (sub-one (suc n)))
 
-pub reads_none : (ram : List ℕ) (c n a : ℕ) → n ≤ 0 → false ≡ user_reads ram c n a
+reads_none : (ram : List ℕ) (c n a : ℕ) → n ≤ 0 → false ≡ user_reads ram c n a
 unfolding user_reads
 reads_none ram c zero a h = refl
 reads_none ram c (suc n) a h = absurd (not-suc-le-zero h)
+
+-- of n codes, k were passed
+module _ (ram : List ℕ) (c n k p : ℕ) where
+  turn : k < n → p < 512
+      → user_reads ram c (n - k) (2 * p)
+      ≡ cond (ends_line (get_or ram (2 * p + 1) 0)) false
+      (eqb (get_or ram (2 * p + 1) 0) (user_high c) || user_reads ram c (n - (k + 1)) (2 * ((p + 1) % 512)))
+  turn h l = let f : n - (k + 1) ≡ n - k - 1 = omega arith in rw f (one_more ram c (n - k) p (omega arith) l)
+
+  pub user_ends : k < n → p < 512 → ends_line (get_or ram (2 * p + 1) 0) ≡ true → user_reads ram c (n - k) (2 * p) ≡ false
+  user_ends h l e = turn h l ∙ rw e
+
+  pub user_shows : k < n → p < 512 → ends_line (get_or ram (2 * p + 1) 0) ≡ false → get_or ram (2 * p + 1) 0 ≡ user_high c
+      → user_reads ram c (n - k) (2 * p) ≡ true
+  user_shows h l e f = turn h l ∙ rw (e, eq-eqb _ _ f)
+
+  pub user_on : k < n → p < 512 → ends_line (get_or ram (2 * p + 1) 0) ≡ false → (get_or ram (2 * p + 1) 0 ≡ user_high c → ⊥)
+      → user_reads ram c (n - k) (2 * p) ≡ user_reads ram c (n - (k + 1)) (2 * ((p + 1) % 512))
+  user_on h l e f = turn h l ∙ rw (e, ne_eqb _ _ f)
+
+  pub user_none : n ≤ k → user_reads ram c (n - k) (2 * p) ≡ false
+  user_none h = sym (reads_none ram c (n - k) (2 * p) (omega arith))
 
 -- ---- no row is marked
 
 none_marked : (p : ℕ) → p < 512 → is_marked (replicate 16 0) p ≡ false
 unfolding is_marked
 none_marked p h = rw (get_or-replicate {A = ℕ} 16 (p / 32) 0 0 (omega arith), digit-zero)
-
-pub none_kept : Kept (replicate 16 0)
-none_kept = record { words = length-replicate {A = ℕ} 16 0; fits = λ i h. rw (get_or-replicate {A = ℕ} 16 i 0 0 h) (omega arith) }
 
 pub no_row : (ram : List ℕ) (c n : ℕ) → any_row ram c n (replicate 16 0) ≡ false
 no_row ram c n =

@@ -1,2 +1,4 @@
 pub mod Ahead
 pub mod Looking
+pub mod Question
+pub mod Search

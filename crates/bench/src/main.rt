@@ -6,7 +6,8 @@ ghost use Rattle.std.specs.Io.KnownBytes.{Appends};
 ghost use Rattle.report.specs.Report.{text_outcome, bench_text};
 ghost use Rattle.report.specs.Parts.{printed, frame_parts};
 
-use device::{Device, StartAnswer};
+use device::Device;
+use refusals::Numbered;
 use std::io;
 use std::io::Write;
 
@@ -17,53 +18,46 @@ fn main(rt: HostRuntime) -> io::Result<()> {
     run(&mut rt.stdout(), &input[..n])
 }
 
+// test_bench has a `run` and a `show` like these, which leave lines out: no crate stands on a program.
 fn run<W: Write>(out: &mut W, input: &[u8]) -> io::Result<()>
     ensures { OnOk result (Appends (W.contents out.old) (W.contents out.new) (bench_text input.now)) }
 {
-    let begun = report::begin(input);
-    let answer = begun.answer;
-    let device = begun.device;
-    match answer {
-        StartAnswer::Refused(refusal) => {
+    match report::begin(input) {
+        Ok(mut device) => show(
+            out,
+            &mut device,
+            report::ram_part(input),
+            report::font_part(input),
+        ),
+        Err(refused) => {
             let mut text = [0u8; 16];
-            let n = report::refusal_text(refusal.number(), &mut text);
+            let n = report::refusal_text(refused.refusal.number(), &mut text);
             print(out, &text, n)
-        }
-        StartAnswer::Started => {
-            show(
-                out,
-                device,
-                report::ram_part(input),
-                report::font_part(input),
-            )
         }
     }
 }
 
 // A frame that is started: the heading, then every line.
-fn show<'a, W: Write>(out: &mut W, device: Device, ram: &'a [u8], font: &'a [u8]) -> io::Result<()>
-    ensures { OnOk result (Appends (W.contents out.old) (W.contents out.new) (flatten (frame_parts device ram.now font.now (replicate 1024 0)))) }
+fn show<W: Write>(out: &mut W, device: &mut Device, ram: &[u8], font: &[u8]) -> io::Result<()>
+    ensures { OnOk result (Appends (W.contents out.old) (W.contents out.new) (flatten (frame_parts device.old ram.now font.now (replicate 1024 0)))) }
 {
     let mut text = [0u8; 1024];
-    let frame = device.frame;
-    let n = report::heading(frame.left, device.width(), &mut text);
+    let lines = device.frame.left;
+    let n = report::heading(lines, device.width(), &mut text);
     print(out, &text, n)?;
-    let mut next = device;
-    let mut left = frame.left;
-    while left > 0 {
-        let done = report::next_text(next, ram, font, &mut text);
-        print(out, &text, done.length)?;
-        next = done.device;
-        left -= 1;
+    for _ in 0..lines {
+        let n = report::next_text(device, ram, font, &mut text);
+        print(out, &text, n)?;
     }
     Ok(())
 }
 
-fn print<W: Write>(out: &mut W, text: &[u8], n: usize) -> io::Result<()>
+// The first n bytes; nothing where there is no text.
+fn print<W: Write>(out: &mut W, text: &[u8], n: Option<usize>) -> io::Result<()>
     ensures { OnOk result (Appends (W.contents out.old) (W.contents out.new) (printed (text_outcome n text.now))) }
 {
-    if n <= text.len() {
-        return out.write_all(&text[..n]);
+    match n {
+        Some(n) if n <= text.len() => out.write_all(&text[..n]),
+        _ => Ok(()),
     }
-    Ok(())
 }

@@ -1,21 +1,25 @@
 #![tactic(auto)]
 // What code does with bytes in a buffer, whatever they mean: a number of two bytes, low byte first, is read; bytes are put at a place; a part
 // is filled. And the digit that shows four bits.
-ghost use Rattle.std.specs.Prelude.{◌≡◌, ◌+◌, ◌*◌, ◌≤◌, ◌<◌, ◌++◌, length, replicate, min, take, drop};
+ghost use Rattle.std.specs.Prelude.{◌≡◌, ◌+◌, ◌≤◌, ◌<◌, ◌++◌, length, replicate, min, take, drop};
 ghost use Rattle.std.proofs.lemmas.List.Edits.{sets};
 ghost use Rattle.buffers.specs.Buffers.{word, hex_digit};
-
-fn word(low: u8, high: u8) -> u16
-    ensures { result ≡ low + 256 * high }
-{
-    low as u16 + 256 * high as u16
-}
 
 pub fn word_at(bytes: &[u8], i: usize) -> u16
     requires { i + 1 < length bytes.now }
     ensures { result ≡ word bytes.now i }
 {
-    word(bytes[i], bytes[i + 1])
+    u16::from_le_bytes([bytes[i], bytes[i + 1]])
+}
+
+// A slice of a known length as an array. The library's `as_array` answers an Option of an address, which the ports do without.
+pub fn array_of<const N: usize>(bytes: &[u8]) -> &[u8; N]
+    requires some { 0 < N }
+    requires long { length bytes.now ≡ N }
+    ensures { result.now ≡ bytes.now }
+{
+    let (arrays, _) = bytes.as_chunks();
+    &arrays[0]
 }
 
 // Bytes put at an offset; all others stay.
@@ -26,30 +30,25 @@ pub fn put(out: &mut [u8], at: usize, bytes: &[u8])
     copy(bytes, &mut out[at..]);
 }
 
-// As many bytes as there is room for, and how many; the bytes behind them stay.
+// As many bytes as there is room for, and how many; the bytes behind them stay. A loop, since `copy_from_slice` would need memcpy, which the
+// ports do without, and since nothing is known of what a `zip` over `iter_mut` has written.
 pub fn copy(from: &[u8], to: &mut [u8]) -> usize
     ensures count { result ≡ min (length from.now) (length to.old) }
     ensures bytes { to.new ≡ take result from.now ++ drop result to.old }
 {
-    let mut n = from.len();
-    if to.len() < n {
-        n = to.len();
-    }
-    let mut i = 0;
-    while i < n {
+    let n = from.len().min(to.len());
+    for i in 0..n {
         to[i] = from[i];
-        i += 1;
     }
     n
 }
 
+// A loop, since the library's `fill` has a branch that traps, which the ports do without.
 pub fn fill(out: &mut [u8], byte: u8)
     ensures { out.new ≡ replicate (length out.old) byte }
 {
-    let mut i = 0;
-    while i < out.len() {
-        out[i] = byte;
-        i += 1;
+    for x in out.iter_mut() {
+        *x = byte;
     }
 }
 

@@ -1,11 +1,12 @@
 -- Document 01, "Bus": events, the address counter, stores and fetches; and document 02, K6: why an event is not acknowledged.
 -- Assumes nothing.
-use Rattle.std.specs.Prelude.{ℕ, ◌+◌, ◌-◌, ◌*◌, ◌%◌, Bool, not, cond, List, eqb, leb, ltb, length, get_or, set, replicate}
+use Rattle.std.specs.Prelude.{ℕ, ◌+◌, ◌-◌, ◌*◌, ◌%◌, Bool, not, cond, List, eqb, leb, ltb, length, get_or, set, replicate, Result, Ok, Err}
 use Rattle.limits.specs.Limits.{ram_length, address_space, first_register}
 use Rattle.refusals.specs.declared.Unheard.{Unheard}
 use Rattle.refusals.specs.declared.Unheard.TheVariants as unheard
+use Rattle.refusals.specs.declared.Refusal.{Refusal}
 use Rattle.refusals.specs.declared.Refusal.TheVariants.{RamLength, NotAcknowledged}
-use Rattle.refusals.specs.Refusals.{Reply, accepted, refused}
+use Rattle.refusals.specs.Refusals.{Reply, refused, reply_of}
 use Rattle.registers.specs.declared.Registers.{Registers}
 use Rattle.registers.specs.Registers.{stored, fetched}
 use Rattle.bus.specs.declared.Event.{Event}
@@ -16,9 +17,6 @@ use Rattle.bus.specs.declared.Bus.{Bus}
 use Rattle.bus.specs.declared.Effect.{Effect}
 use Rattle.bus.specs.declared.Effect.TheVariants.{Acknowledge, Ignore, Store, Load}
 use Rattle.bus.specs.declared.Step.{Step}
-use Rattle.bus.specs.declared.BusAnswer.{BusAnswer}
-use Rattle.bus.specs.declared.BusAnswer.TheVariants.{Acknowledged, Refused}
-use Rattle.bus.specs.declared.Heard.{Heard}
 
 -- a reset sets the bus to idle and the counter to 0
 abbrev pub fresh_bus : Bus
@@ -126,16 +124,15 @@ abbrev pub byte_in : ℕ → Registers → List ℕ → ℕ
 byte_in a r ram = cond (is_ram a) (get_or ram a 0) (cond (is_register a) (fetched r (a - first_register)) 0)
 
 -- the byte given with every acknowledged event but a fetch is 0
-unfoldable pub answer_to : Effect → Registers → List ℕ → BusAnswer
-answer_to Acknowledge r ram = Acknowledged 0
-answer_to (Ignore why) r ram = Refused (NotAcknowledged why)
-answer_to (Store a x) r ram = Acknowledged 0
-answer_to (Load a) r ram = Acknowledged (byte_in a r ram)
+unfoldable pub answer_to : Effect → Registers → List ℕ → Result ℕ Refusal
+answer_to Acknowledge r ram = Ok 0
+answer_to (Ignore why) r ram = Err (NotAcknowledged why)
+answer_to (Store a x) r ram = Ok 0
+answer_to (Load a) r ram = Ok (byte_in a r ram)
 
 -- document 01's numbers for an answer: the refusal and the byte
-abbrev pub bus_reply : BusAnswer → Reply
-bus_reply (Acknowledged x) = accepted x
-bus_reply (Refused r) = refused r
+abbrev pub bus_reply : Result ℕ Refusal → Reply
+bus_reply = reply_of (λ x. x) refused
 
 -- ---- a whole event
 
@@ -161,7 +158,3 @@ bus_event b r ram e =
     cond (not (eqb (length ram) ram_length))
     (record { bus = b; registers = r; ram = ram; reply = refused RamLength })
     (taken (step b e) r ram)
-
--- what a call returned and left, in the same form
-abbrev pub outcome_of : Heard → List ℕ → BusOutcome
-outcome_of h ram = record { bus = h.bus; registers = h.registers; ram = ram; reply = bus_reply h.answer }

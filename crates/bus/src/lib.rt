@@ -2,7 +2,7 @@
 // The two-wire bus: what an event does to the bus, the registers and the lent RAM, and how it is answered.
 ghost use Rattle.std.specs.Prelude.{◌≡◌, length};
 ghost use Rattle.limits.specs.Limits.{ram_length};
-ghost use Rattle.bus.specs.Bus.{fresh_bus, fresh_ram, event_of, next_address, goes, ignores, steps, slave, byte_at, fetch_at, step, registers_with, ram_with, byte_in, bus_event, outcome_of, bus_reply};
+ghost use Rattle.bus.specs.Bus.{fresh_bus, fresh_ram, event_of, next_address, goes, ignores, steps, slave, byte_at, fetch_at, step, registers_with, ram_with, byte_in, bus_event, bus_reply};
 
 use refusals::{Refusal, Unheard};
 use registers::Registers;
@@ -16,7 +16,7 @@ pub const FETCH: u8 = 2;
 
 pub const STOP: u8 = 3;
 
-#[derive(Clone, Copy)]
+#[derive(Clone, Copy, Debug, PartialEq, Eq)]
 pub enum Event {
     Start,
     Byte(u8),
@@ -25,7 +25,7 @@ pub enum Event {
 }
 
 // What the bus waits for.
-#[derive(Clone, Copy)]
+#[derive(Clone, Copy, Debug, PartialEq, Eq)]
 pub enum BusState {
     // a start
     Idle,
@@ -66,19 +66,6 @@ pub enum Effect {
 pub struct Step {
     pub bus: Bus,
     pub effect: Effect,
-}
-
-#[derive(Clone, Copy)]
-pub enum BusAnswer {
-    Acknowledged(u8),
-    Refused(Refusal),
-}
-
-#[derive(Clone, Copy)]
-pub struct Heard {
-    pub bus: Bus,
-    pub registers: Registers,
-    pub answer: BusAnswer,
 }
 
 impl Event {
@@ -129,39 +116,33 @@ impl Bus {
         ensures { result ≡ goes self state effect }
     {
         Step {
-            bus: Bus {
-                state: state,
-                counter: self.counter,
-            },
-            effect: effect,
+            bus: Bus { state, ..self },
+            effect,
         }
     }
 
     fn ignores(self, why: Unheard) -> Step
         ensures { result ≡ ignores self why }
     {
-        let state = self.state;
-        self.goes_to(state, Effect::Ignore(why))
+        self.goes_to(self.state, Effect::Ignore(why))
     }
 
     fn steps_on(self, effect: Effect) -> Step
         ensures { result ≡ steps self effect }
     {
-        let state = self.state;
         Step {
             bus: Bus {
-                state: state,
                 counter: next_address(self.counter),
+                ..self
             },
-            effect: effect,
+            effect,
         }
     }
 
     fn take_byte(self, x: u8) -> Step
         ensures { result ≡ byte_at self.state self x }
     {
-        let state = self.state;
-        match state {
+        match self.state {
             BusState::Idle => self.ignores(Unheard::Idle),
             BusState::Deaf => self.ignores(Unheard::NotAddressed),
             BusState::Slave => self.take_slave(x),
@@ -169,7 +150,7 @@ impl Bus {
             BusState::Low(high) => Step {
                 bus: Bus {
                     state: BusState::Write,
-                    counter: (high % 64) as u16 * 256 + x as u16,
+                    counter: u16::from_le_bytes([x, high % 64]),
                 },
                 effect: Effect::Acknowledge,
             },
@@ -184,26 +165,21 @@ impl Bus {
     fn take_slave(self, x: u8) -> Step
         ensures { result ≡ slave self x }
     {
-        if x == 0xBA {
-            return self.goes_to(BusState::High, Effect::Acknowledge);
+        match x {
+            0xBA => self.goes_to(BusState::High, Effect::Acknowledge),
+            0xBB => self.goes_to(BusState::Read, Effect::Acknowledge),
+            _ => self.goes_to(BusState::Deaf, Effect::Ignore(Unheard::NotAddressed)),
         }
-        if x == 0xBB {
-            return self.goes_to(BusState::Read, Effect::Acknowledge);
-        }
-        self.goes_to(BusState::Deaf, Effect::Ignore(Unheard::NotAddressed))
     }
 
     fn take_fetch(self) -> Step
         ensures { result ≡ fetch_at self.state self }
     {
-        let state = self.state;
-        match state {
+        match self.state {
             BusState::Idle => self.ignores(Unheard::Idle),
             BusState::Deaf => self.ignores(Unheard::NotAddressed),
             BusState::Slave => self.ignores(Unheard::Writing),
-            BusState::High => self.ignores(Unheard::Writing),
-            BusState::Low(_) => self.ignores(Unheard::Writing),
-            BusState::Write => self.ignores(Unheard::Writing),
+            BusState::High | BusState::Low(_) | BusState::Write => self.ignores(Unheard::Writing),
             BusState::Read => self.steps_on(Effect::Load(self.counter % limits::ADDRESS_SPACE)),
         }
     }
@@ -216,48 +192,29 @@ pub fn next_address(a: u16) -> u16
     (a % limits::ADDRESS_SPACE + 1) % limits::ADDRESS_SPACE
 }
 
-// One bus event, on the whole of what it can touch. Refusals in the order 1; then 5, 12, 13 or 14.
+// One bus event, on the whole of what it can touch; the byte on the bus where it is acknowledged. Refusals in the order 1; then 5, 12, 13 or 14.
 #[tactic(auto, unfolding(crate::specs::Bus::bus_event, crate::specs::Bus::taken, crate::specs::Bus::registers_with, crate::specs::Bus::ram_with, crate::specs::Bus::answer_to))]
-pub fn hear(bus: Bus, registers: Registers, ram: &mut [u8], event: Event) -> Heard
-    ensures { outcome_of result ram.new ≡ bus_event bus registers ram.old event }
+pub fn hear(
+    bus: &mut Bus,
+    registers: &mut Registers,
+    ram: &mut [u8],
+    event: Event,
+) -> Result<u8, Refusal>
+    ensures { record { bus = bus.new; registers = registers.new; ram = ram.new; reply = bus_reply result } ≡ bus_event bus.old registers.old ram.old event }
 {
     if ram.len() != limits::RAM_LENGTH {
-        return Heard {
-            bus: bus,
-            registers: registers,
-            answer: BusAnswer::Refused(Refusal::RamLength),
-        };
+        return Err(Refusal::RamLength);
     }
     let step = bus.take(event);
-    let next = step.bus;
-    let effect = step.effect;
-    match effect {
-        Effect::Acknowledge => Heard {
-            bus: next,
-            registers: registers,
-            answer: BusAnswer::Acknowledged(0),
-        },
-        Effect::Ignore(why) => Heard {
-            bus: next,
-            registers: registers,
-            answer: BusAnswer::Refused(Refusal::NotAcknowledged(why)),
-        },
-        Effect::Store(a, x) => {
-            let kept = store(registers, ram, a, x);
-            Heard {
-                bus: next,
-                registers: kept,
-                answer: BusAnswer::Acknowledged(0),
-            }
+    *bus = step.bus;
+    match step.effect {
+        Effect::Acknowledge => Ok(0),
+        Effect::Ignore(why) => Err(Refusal::NotAcknowledged(why)),
+        Effect::Store(address, x) => {
+            *registers = store(*registers, ram, address, x);
+            Ok(0)
         }
-        Effect::Load(a) => {
-            let byte = load(registers, ram, a);
-            Heard {
-                bus: next,
-                registers: registers,
-                answer: BusAnswer::Acknowledged(byte),
-            }
-        }
+        Effect::Load(address) => Ok(load(*registers, ram, address)),
     }
 }
 
@@ -290,26 +247,4 @@ fn load(registers: Registers, ram: &[u8], address: u16) -> u8
         return registers.fetch((address - limits::FIRST_REGISTER) as usize);
     }
     0
-}
-
-impl BusAnswer {
-    // The refusal's number; 0 where the event is acknowledged.
-    pub fn refusal(self) -> u8
-        ensures { result ≡ (bus_reply self).refusal }
-    {
-        match self {
-            BusAnswer::Acknowledged(_) => 0,
-            BusAnswer::Refused(r) => r.number(),
-        }
-    }
-
-    // The byte on the bus.
-    pub fn byte(self) -> u8
-        ensures { result ≡ (bus_reply self).value }
-    {
-        match self {
-            BusAnswer::Acknowledged(x) => x,
-            BusAnswer::Refused(r) => r.value(),
-        }
-    }
 }

@@ -1,7 +1,7 @@
 -- A bus event on the bytes, from what the inner functions leave: the cases of the definitions.
 -- Assumes nothing.
 use Prim.Native.Nat.{ℕ, ◌+◌, ◌-◌, ◌%◌, ◌≤◌, ◌<◌}
-use mathlib.Core.Path.{◌≡◌, refl, sym, ap, ap₂, ◌∙◌}
+use mathlib.Core.Path.{◌≡◌, refl, sym, ap, ◌∙◌}
 use mathlib.Core.Bool.{Bool, true, false, cond}
 use mathlib.Core.List.{List, [], ◌∷◌}
 use native.Mathlib.Omega.{arith}
@@ -22,7 +22,7 @@ use Rattle.bus.specs.declared.Event.{Event}
 use Rattle.bus.specs.declared.Event.TheVariants.{Start, Byte, Fetch, Stop}
 use Rattle.bus.specs.declared.Effect.{Effect}
 use Rattle.bus.specs.declared.Effect.TheVariants.{Acknowledge, Ignore, Store, Load}
-use Rattle.bus.specs.Bus.{event_of, goes, step, is_register, registers_with, ram_with, answer_to, taken, bus_event, byte_in, last_kind, next_address}
+use Rattle.bus.specs.Bus.{event_of, address, goes, step, is_register, registers_with, ram_with, answer_to, taken, bus_event, byte_in, last_kind, next_address}
 use Rattle.bus.proofs.Unheard.{Asks, asks}
 use Rattle.device.specs.declared.Device.{Device}
 use Rattle.layout.specs.Layout.{bus_at, registers_at, registers_length, record_length, state_number, is_deaf, bus_bytes, put_bus, state_byte, put_registers, device_in}
@@ -127,34 +127,33 @@ module _ (xs ram ys : List ℕ) where
 
 -- ---- a data byte and a fetch, seen by the number of the state
 
--- the bus with its counter gone up
+-- the bus with its counter gone up from an address
 abbrev pub up : BusState → ℕ → Bus
-up s n = record { state = s; counter = next_address (n % address_space) }
+up s a = record { state = s; counter = next_address a }
 
-module _ (xs ram ys : List ℕ) (n : ℕ) (p : n ≡ (device_in xs).bus.counter) where
-  pub written_next : (x : ℕ) (zs ram' : List ℕ) → state_byte xs ≡ state_number Write → ys ≡ put_bus (up Write n) xs → zs ≡ stored_on (n % address_space) x ys
-      → ram' ≡ ram_with (Store (n % address_space) x) ram → ◌≡◌ {A = face.BusDone} (record { device = zs; ram = ram'; answer = 0 }) (event_on xs ram (Byte x))
+module _ (xs ram ys : List ℕ) (a : ℕ) (p : a ≡ address (device_in xs).bus) where
+  pub written_next : (x : ℕ) (zs ram' : List ℕ) → state_byte xs ≡ state_number Write → ys ≡ put_bus (up Write a) xs → zs ≡ stored_on a x ys
+      → ram' ≡ ram_with (Store a x) ram → ◌≡◌ {A = face.BusDone} (record { device = zs; ram = ram'; answer = 0 }) (event_on xs ram (Byte x))
   unfolding step
   written_next x zs ram' writing e q r =
-      applied_store xs ram ys (record { bus = up Write n; effect = Store (n % address_space) x }) e (n % address_space) x zs ram' refl q r
-      ∙ ap (λ (m : ℕ). step_on xs ram (record { bus = up Write m; effect = Store (m % address_space) x })) p
+      applied_store xs ram ys (record { bus = up Write a; effect = Store a x }) e a x zs ram' refl q r
+      ∙ ap (λ (m : ℕ). step_on xs ram (record { bus = up Write m; effect = Store m x })) p
       ∙ ap (step_on xs ram) (sym by)
     where
-      by : step (device_in xs).bus (Byte x) ≡ record { bus = up Write (device_in xs).bus.counter; effect = Store ((device_in xs).bus.counter % address_space) x }
+      by : step (device_in xs).bus (Byte x) ≡ record { bus = up Write (address (device_in xs).bus); effect = Store (address (device_in xs).bus) x }
       by = rw (state-byte xs, writing)
 
-  pub fetched-next : (byte : ℕ) → length xs ≡ record_length → state_byte xs ≡ state_number Read → ys ≡ put_bus (up Read n) xs
-      → byte ≡ byte_in (n % address_space) (device_in ys).registers ram
+  pub fetched-next : (byte : ℕ) → length xs ≡ record_length → state_byte xs ≡ state_number Read → ys ≡ put_bus (up Read a) xs
+      → byte ≡ byte_in a (device_in ys).registers ram
       → ◌≡◌ {A = face.BusDone} (record { device = ys; ram = ram; answer = byte }) (event_on xs ram Fetch)
   unfolding step
   fetched-next byte h reading e q =
-      applied_load xs ram ys (record { bus = up Read n; effect = Load (n % address_space) }) e (n % address_space) byte refl
-      (q ∙ ap (λ (d : Device). byte_in (n % address_space) d.registers ram)
-      (ap device_in e ∙ bus-put (up Read n) xs h))
-      ∙ ap (λ (m : ℕ). step_on xs ram (record { bus = up Read m; effect = Load (m % address_space) })) p
+      applied_load xs ram ys (record { bus = up Read a; effect = Load a }) e a byte refl
+      (q ∙ ap (λ (d : Device). byte_in a d.registers ram) (ap device_in e ∙ bus-put (up Read a) xs h))
+      ∙ ap (λ (m : ℕ). step_on xs ram (record { bus = up Read m; effect = Load m })) p
       ∙ ap (step_on xs ram) (sym by)
     where
-      by : step (device_in xs).bus Fetch ≡ record { bus = up Read (device_in xs).bus.counter; effect = Load ((device_in xs).bus.counter % address_space) }
+      by : step (device_in xs).bus Fetch ≡ record { bus = up Read (address (device_in xs).bus); effect = Load (address (device_in xs).bus) }
       by = rw (state-byte xs, reading)
 
 -- ---- bus event
@@ -176,8 +175,3 @@ module _ (xs ram : List ℕ) (kind byte : ℕ) (h : length xs ≡ record_length)
     where
       by : event_on xs ram (event_of kind byte) ≡ heard_on xs (bus_event (device_in xs).bus (device_in xs).registers ram (event_of kind byte))
       by = rw (eq-eqb _ _ r)
-
-  -- the step of the bus, applied
-  pub bus_applied : (b : Bus) (e : Event) (s : Step) (o : face.BusDone) → length ram ≡ 1024 → b ≡ (device_in xs).bus → e ≡ event_of kind byte → s ≡ step b e
-      → o ≡ step_on xs ram s → o ≡ bus_on xs ram kind byte
-  bus_applied b e s o r p q t u = bus-heard (event_of kind byte) o r refl (u ∙ ap (step_on xs ram) (t ∙ ap₂ step p q))

@@ -1,13 +1,13 @@
 #![tactic(auto)]
 // Bus events on the device record's lent bytes, in place: of the record only the bus part and at most one register are read and written.
-ghost use Rattle.std.specs.Prelude.{◌≡◌, ◌≤◌, ◌<◌, length};
+ghost use Rattle.std.specs.Prelude.{◌≡◌, ◌<◌, length};
 ghost use Rattle.limits.specs.Limits.{ram_length, address_space};
 ghost use Rattle.bus.specs.declared.BusState.TheVariants.{Write, Read};
 ghost use Rattle.bus.specs.declared.Event.TheVariants.{Byte, Fetch};
 ghost use Rattle.bus.specs.declared.Effect.TheVariants.{Store};
-ghost use Rattle.bus.specs.Bus.{ram_with, byte_in, last_kind};
+ghost use Rattle.bus.specs.Bus.{address, next_address, ram_with, byte_in};
 ghost use Rattle.layout.specs.Layout.{record_length, state_number, is_deaf, put_bus, state_byte, device_in};
-ghost use Rattle.interface.specs.Interface.{ignored_on, bus_on};
+ghost use Rattle.interface.specs.Interface.{ignored_on};
 ghost use Rattle.bus_bytes.specs.Steps.{InSpace, step_on, event_on, stored_on};
 
 use bus::{Bus, BusState, Effect, Event, Step};
@@ -63,58 +63,57 @@ fn apply(device: &mut [u8], ram: &mut [u8], step: Step) -> u32
     requires { (length device.old ≡ record_length) × (length ram.old ≡ ram_length) × InSpace step.effect }
     ensures { record { device = device.new; ram = ram.new; answer = result } ≡ step_on device.old ram.old step }
 {
-    let next = step.bus;
-    let effect = step.effect;
-    match effect {
+    match step.effect {
         Effect::Acknowledge => {
-            layout::write_bus(device, next);
+            layout::write_bus(device, step.bus);
             0
         }
         Effect::Ignore(why) => {
-            let state = next.state;
-            ignore(device, state);
+            ignore(device, step.bus.state);
             interface::refuse(Refusal::NotAcknowledged(why))
         }
         Effect::Store(address, x) => {
-            layout::write_bus(device, next);
+            layout::write_bus(device, step.bus);
             store(device, ram, address, x);
             0
         }
         Effect::Load(address) => {
             let byte = load(device, ram, address);
-            layout::write_bus(device, next);
-            byte as u32
+            layout::write_bus(device, step.bus);
+            u32::from(byte)
         }
     }
 }
 
-// A data byte: stored at the counter, which goes up.
+// The address at the counter, which goes up.
+fn count_up(device: &mut [u8], state: BusState) -> u16
+    requires { length device.old ≡ record_length }
+    ensures address { result ≡ address (device_in device.old).bus }
+    ensures bus { device.new ≡ put_bus (record { state = state; counter = next_address result }) device.old }
+{
+    let address = layout::counter_of(device) % limits::ADDRESS_SPACE;
+    let counter = bus::next_address(address);
+    layout::write_bus(device, Bus { state, counter });
+    address
+}
+
+// A data byte: stored at the counter.
 pub fn write_next(device: &mut [u8], ram: &mut [u8], x: u8) -> u32
     requires { (length device.old ≡ record_length) × (length ram.old ≡ ram_length) × (state_byte device.old ≡ state_number Write) }
     ensures { record { device = device.new; ram = ram.new; answer = result } ≡ event_on device.old ram.old (Byte x) }
 {
-    let address = layout::counter_of(device) % limits::ADDRESS_SPACE;
-    let next = Bus {
-        state: BusState::Write,
-        counter: bus::next_address(address),
-    };
-    layout::write_bus(device, next);
+    let address = count_up(device, BusState::Write);
     store(device, ram, address, x);
     0
 }
 
-// A fetch: the byte at the counter, which goes up.
+// A fetch: the byte at the counter.
 pub fn read_next(device: &mut [u8], ram: &mut [u8]) -> u32
     requires { (length device.old ≡ record_length) × (length ram.old ≡ ram_length) × (state_byte device.old ≡ state_number Read) }
     ensures { record { device = device.new; ram = ram.new; answer = result } ≡ event_on device.old ram.old Fetch }
 {
-    let address = layout::counter_of(device) % limits::ADDRESS_SPACE;
-    let next = Bus {
-        state: BusState::Read,
-        counter: bus::next_address(address),
-    };
-    layout::write_bus(device, next);
-    load(device, ram, address) as u32
+    let address = count_up(device, BusState::Read);
+    u32::from(load(device, ram, address))
 }
 
 // A start or a stop: the bus waits for something else, and the counter stays.
@@ -123,28 +122,26 @@ fn go(device: &mut [u8], state: BusState)
     ensures { device.new ≡ put_bus (record { state = state; counter = (device_in device.old).bus.counter }) device.old }
 {
     let counter = layout::counter_of(device);
-    layout::write_bus(
-        device,
-        Bus {
-            state: state,
-            counter: counter,
-        },
-    );
+    layout::write_bus(device, Bus { state, counter });
 }
 
 // Any event. A start and a stop leave the counter and are written at once; the others go by the step of the bus.
-pub fn hear(device: &mut [u8], ram: &mut [u8], kind: u8, byte: u8) -> u32
-    requires { (length device.old ≡ record_length) × (length ram.old ≡ ram_length) × (kind ≤ last_kind) }
-    ensures { record { device = device.new; ram = ram.new; answer = result } ≡ bus_on device.old ram.old kind byte }
+pub fn hear(device: &mut [u8], ram: &mut [u8], event: Event) -> u32
+    requires { (length device.old ≡ record_length) × (length ram.old ≡ ram_length) }
+    ensures { record { device = device.new; ram = ram.new; answer = result } ≡ event_on device.old ram.old event }
 {
-    if kind == bus::START {
-        go(device, BusState::Slave);
-        return 0;
+    match event {
+        Event::Start => {
+            go(device, BusState::Slave);
+            0
+        }
+        Event::Stop => {
+            go(device, BusState::Idle);
+            0
+        }
+        Event::Byte(_) | Event::Fetch => {
+            let step = layout::bus_of(device).take(event);
+            apply(device, ram, step)
+        }
     }
-    if kind == bus::STOP {
-        go(device, BusState::Idle);
-        return 0;
-    }
-    let bus = layout::bus_of(device);
-    apply(device, ram, bus.take(Event::of_kind(kind, byte)))
 }

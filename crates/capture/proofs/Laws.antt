@@ -1,6 +1,6 @@
 -- The laws of a chunk: of each byte, of all bytes from a place on, of the room that the output takes, and of the tests before it.
 -- Assumes nothing.
-use Prim.Native.Nat.{ℕ, suc, ◌+◌, ◌-◌, ◌*◌, ◌≤◌, ◌<◌}
+use Prim.Native.Nat.{ℕ, suc, ◌+◌, ◌-◌, ◌*◌, ◌/◌, ◌≤◌, ◌<◌}
 use mathlib.Core.Path.{◌≡◌, refl, sym, ap, ◌∙◌}
 use mathlib.Core.Bool.{Bool, true, false, not, cond, true≢false}
 use mathlib.Core.List.{List, [], ◌∷◌, ◌++◌}
@@ -14,10 +14,10 @@ use lib.ListN.{length, get_or, drop, drop_of_length-le}
 use lib.Seq.{sets, drop-cons, sets-eq}
 use Rattle.limits.specs.Limits.{ram_length}
 use Rattle.runs.specs.Runs.{Machine, log, end}
-use Rattle.facts.proofs.Choice.{either}
 use Rattle.refusals.specs.declared.Refusal.TheVariants.{RamLength, FeedShut, OutputRoom}
 use Rattle.refusals.proofs.Laws.{failed-not}
 use Rattle.refusals.specs.Refusals.{Reply, accepted, Verdict, passed, failed, refuse_if}
+use Rattle.bus.specs.declared.Event.{Event}
 use Rattle.bus.specs.Bus.{event_of, bad_kind}
 use Rattle.device.specs.Device.{EventOutcome, hear_event}
 use Rattle.capture.specs.declared.Feed.{Feed}
@@ -70,6 +70,24 @@ module _ {S : Type 0} (m : Machine S Logged Reply) where
       by (no l) =
           unfold rest finished feed_after in
           rw (drop_of_length-le chunk {i = i} (omega arith), drop_of_length-le chunk {i = suc i} (omega arith), lt-ltb (length chunk) (suc i) (omega arith)) refl
+
+  -- ---- the byte at a place, by what is held before it
+
+  module _ (s : S) (chunk : List ℕ) (i : ℕ) (out : List ℕ) (n : ℕ) (l : i < length chunk) where
+    -- a kind
+    pub next_kind : {j : ℕ} → j ≡ suc i → rest m s (Half (get_or chunk i 0)) (drop j chunk) out n ≡ rest m s Open (drop i chunk) out n
+    unfolding rest finished feed_after
+    next_kind e = rw (drop-cons chunk i 0 l, e)
+
+    -- the byte of an event
+    pub next_event : (kind : ℕ) → bad_kind kind ≡ false
+        → let e : Logged = record { kind = kind; byte = get_or chunk i 0 } in
+        rest m (m.after s e) Open (drop (suc i) chunk) (sets out n (output_of (m.answer s e))) (suc (suc n)) ≡ rest m s (Half kind) (drop i chunk) out n
+    next_event kind b = rw (drop-cons chunk i 0 l) (sym (rest-event s kind _ _ out n b))
+
+    -- of a bad kind
+    pub next_bad : (kind : ℕ) → bad_kind kind ≡ true → rest m s (Half kind) (drop i chunk) out n ≡ record { state = s; feed = Shut; out = out; written = n }
+    next_bad kind b = rw (drop-cons chunk i 0 l) (rest_bad s kind _ _ out n b)
 
   -- ---- from a place on where a byte completes an event, of a chunk with a kind held before it
 
@@ -126,6 +144,17 @@ output-room m s (Half kind) (x ∷ more) = by (bad_kind kind) (output-room m (m.
     by true h = omega arith
     by false h = omega (arith, h)
 
+-- room for what is left is room for what is left behind a kind, and behind the byte of an event, which takes two bytes
+pub room-kind : (f : Feed) (kind long i n room : ℕ) {j : ℕ} → f ≡ Open → i < long → n + 2 * would_complete f (long - i) ≤ room → j ≡ suc i
+    → n + 2 * would_complete (Half kind) (long - j) ≤ room
+room-kind f kind long i n room {j} e l h k =
+    let b : n + 2 * ((0 + (long - i)) / 2) ≤ room = rw e at h in omega (arith, b, k)
+
+pub room-event : (f : Feed) (kind long i n room : ℕ) {j m left : ℕ} → f ≡ Half kind → i < long → n + 2 * would_complete f (long - i) ≤ room → j ≡ suc i
+    → m ≡ suc (suc n) → left ≡ room → m + 2 * would_complete Open (long - j) ≤ left
+room-event f kind long i n room {j} {m} {left} e l h k p q =
+    let b : n + 2 * ((1 + (long - i)) / 2) ≤ room = rw e at h in omega (arith, b, k, p, q)
+
 -- what is left of a whole chunk has its output in front of the buffer, where there is room
 pub rest-whole : {S : Type 0} (m : Machine S Logged Reply) (s : S) (f : Feed) (chunk out : List ℕ) → 2 * would_complete f (length chunk) ≤ length out
     → rest m s f chunk out 0 ≡ play_chunk m s f chunk out
@@ -165,13 +194,12 @@ passed_takes f ram chunk out =
 
 -- ---- the device's chunk
 
--- an event that was heard: what is left from the next place on is what was left
-pub from-heard : (c : Chip) (chunk : List ℕ) (held i : ℕ) (out : List ℕ) (n : ℕ) {o : EventOutcome} {out' : List ℕ} {i' n' : ℕ}
-    → i < length chunk → bad_kind (kind_at chunk held i) ≡ false
-    → o ≡ hear_event c.device c.ram (event_of (kind_at chunk held i) (get_or chunk i 0))
-    → out' ≡ sets out n (output_of o.reply) → i' ≡ suc (suc i) → n' ≡ suc (suc n)
-    → from bus_events (chip o.device o.ram) chunk held i' out' n' ≡ from bus_events c chunk held i out n
-from-heard c chunk held i out n l b p q j k = rw (q, j, k, p) (sym (from-event bus_events c chunk held i out n l b))
+-- an event that was heard: what is left behind its byte is what was left
+pub next-heard : (c : Chip) (chunk : List ℕ) (i kind : ℕ) (out : List ℕ) (n : ℕ) {o : EventOutcome} {e : Event} {out' : List ℕ} {i' n' : ℕ}
+    → i < length chunk → bad_kind kind ≡ false → o ≡ hear_event c.device c.ram e → e ≡ event_of kind (get_or chunk i 0)
+    → out' ≡ sets out n (output_of o.reply) → i' ≡ suc i → n' ≡ suc (suc n)
+    → rest bus_events (chip o.device o.ram) Open (drop i' chunk) out' n' ≡ rest bus_events c (Half kind) (drop i chunk) out n
+next-heard c chunk i kind out n l b p e q j k = rw (q, j, k, p, e) (next_event bus_events c chunk i out n l kind b)
 
 -- the value of a chunk that was taken, whatever feed it leaves
 pub taken-value : (f : Feed) (n : ℕ) → (taken_reply f n).value ≡ n
@@ -179,9 +207,11 @@ taken-value Open n = refl
 taken-value (Half kind) n = refl
 taken-value Shut n = refl
 
--- behind the end no kind was bad
-pub taken-reply : (chunk : List ℕ) (held i n : ℕ) → accepted n ≡ taken_reply (feed_at chunk held i) n
-taken-reply chunk held i n = either (λ (f : Feed). accepted n ≡ taken_reply f n) (ltb (length chunk) i) _ _ refl refl
+-- where no kind was bad it is accepted
+pub taken-open : (f : Feed) (n : ℕ) → is_shut f ≡ false → accepted n ≡ taken_reply f n
+taken-open Open n h = refl
+taken-open (Half kind) n h = refl
+taken-open Shut n h = absurd (true≢false h)
 
 -- what a chunk leaves, by what is left of it at its start
 pub chunk_fed_lem : (c : Chip) (f : Feed) (chunk out : List ℕ) {r : Played Chip} → 2 * would_complete f (length chunk) ≤ length out

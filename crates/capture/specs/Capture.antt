@@ -1,7 +1,7 @@
 -- Document 02, K1: bus captures in chunks. A logger stores two bytes an event, its kind (0 start, 1 host byte, 2 fetch, 3 stop) and a
 -- byte, ignored unless the kind is 1; a feed takes what has arrived, sometimes half an event or nothing.
 -- Assumes nothing.
-use Rattle.std.specs.Prelude.{ℕ, ◌+◌, ◌*◌, ◌/◌, Bool, true, false, not, cond, List, [], ◌∷◌, ◌++◌, eqb, ltb, length, drop}
+use Rattle.std.specs.Prelude.{ℕ, ◌+◌, ◌*◌, ◌/◌, Bool, true, false, not, cond, List, [], ◌∷◌, ◌++◌, eqb, ltb, length, drop, Result, Ok, Err}
 use Rattle.limits.specs.Limits.{ram_length}
 use Rattle.runs.specs.Runs.{Machine, Entry, log, end}
 use Rattle.refusals.specs.declared.Refusal.{Refusal}
@@ -12,11 +12,7 @@ use Rattle.device.specs.declared.Device.{Device}
 use Rattle.device.specs.Device.{hear_event}
 use Rattle.capture.specs.declared.Feed.{Feed}
 use Rattle.capture.specs.declared.Feed.TheVariants.{Open, Half, Shut}
-use Rattle.capture.specs.declared.FeedAnswer.{FeedAnswer}
-use Rattle.capture.specs.declared.FeedAnswer.TheVariants as answer
-use Rattle.capture.specs.declared.FeedTest.{FeedTest}
-use Rattle.capture.specs.declared.FeedTest.TheVariants as test
-use Rattle.capture.specs.declared.FeedDone.{FeedDone}
+use Rattle.capture.specs.declared.FeedRefusal.{FeedRefusal}
 
 -- ---- the events of a capture
 
@@ -114,14 +110,14 @@ feed_verdict f ram chunk out =
     (refuse_if (ltb out (2 * would_complete f chunk)) OutputRoom passed))
 
 -- what the code's tests found, in the same form
-abbrev pub verdict_in : FeedTest → Verdict
-verdict_in test.Passed = passed
-verdict_in (test.Failed r) = failed r
+abbrev pub verdict_in : Result Unit Refusal → Verdict
+verdict_in (Ok u) = passed
+verdict_in (Err r) = failed r
 
 -- document 02's numbers for an answer: the value is the number of output bytes that this chunk wrote, also with a refusal
-abbrev pub feed_reply : FeedAnswer → Reply
-feed_reply (answer.Fed n) = accepted n
-feed_reply (answer.Refused r n) = refused_with r n
+abbrev pub feed_reply : Result ℕ FeedRefusal → Reply
+feed_reply (Ok n) = accepted n
+feed_reply (Err r) = refused_with r.refusal r.written
 
 -- the reply to a chunk that was taken (a shut feed takes none), by the feed after it: shut by a bad kind, or not
 abbrev pub taken_reply : Feed → ℕ → Reply
@@ -177,13 +173,3 @@ fed_events c f chunk out = events_by (feed_verdict f (length c.ram) (length chun
 
 unfoldable pub feed_chunk : Chip → Feed → List ℕ → List ℕ → FeedOutcome
 feed_chunk c f chunk out = feed_by (feed_verdict f (length c.ram) (length chunk) (length out)) c f chunk out
-
--- what a call returned and left, in the same form
-abbrev pub feed_outcome : FeedDone → List ℕ → List ℕ → FeedOutcome
-feed_outcome d ram out =
-    record {
-      chip = record { device = d.device; ram = ram };
-      feed = d.feed;
-      out = out;
-      reply = feed_reply d.answer;
-    }

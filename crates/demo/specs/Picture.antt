@@ -1,13 +1,11 @@
 -- The picture: the traffic of a host, then each line of the frame mixed with the camera's line by fast blanking.
 -- Assumes nothing.
-use Rattle.std.specs.Prelude.{ℕ, suc, ◌+◌, ◌*◌, ◌/◌, ◌%◌, cond, List, [], ◌∷◌, ◌++◌, eqb, drop, replicate}
+use Rattle.std.specs.Prelude.{ℕ, suc, ◌+◌, ◌*◌, ◌/◌, ◌%◌, cond, List, [], ◌∷◌, ◌++◌, eqb, drop, replicate, Result, Ok, Err}
 use Rattle.refusals.specs.Refusals.{Reply}
 use Rattle.device.specs.declared.Device.{Device}
 use Rattle.device.specs.Device.{DrawOutcome, draw_line, line_width}
 use Rattle.capture.specs.Capture.{fresh_feed, Chip, chip, FeedOutcome, feed_chunk}
-use Rattle.demo.specs.declared.Played.{Played}
-use Rattle.demo.specs.declared.Traffic.{Traffic}
-use Rattle.demo.specs.declared.Traffic.TheVariants.{Whole, BadKind}
+use Rattle.demo.specs.declared.BadKind.{BadKind}
 use Rattle.demo.specs.declared.camera.Colour.{Colour}
 use Rattle.demo.specs.Camera.{rgb, camera}
 
@@ -20,15 +18,12 @@ input_length = 65536
 -- what the traffic leaves, and how it ends
 pub record Host : Type 0 where
   pub chip : Chip
-  pub traffic : Traffic
-
-abbrev pub host : Played → List ℕ → Host
-host p ram = record { chip = chip p.device ram; traffic = p.traffic }
+  pub traffic : Result Unit BadKind
 
 -- by the reply of a feed with a RAM of 1,024 bytes and room: it refuses nothing but a bad kind. An event has two bytes of output, and is
 -- counted from 1
-abbrev pub end_of : Reply → Traffic
-end_of r = cond (eqb r.refusal 0) Whole (BadKind (r.value / 2 + 1))
+abbrev pub end_of : Reply → Result Unit BadKind
+end_of r = cond (eqb r.refusal 0) (Ok tt) (Err (record { event = r.value / 2 + 1 }))
 
 -- the traffic is one chunk for a feed made anew. The output is as long as the longest input, so it has room; the RAM has 1,024 bytes: the
 -- traffic is taken (`play` asks for both)

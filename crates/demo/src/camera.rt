@@ -2,7 +2,7 @@
 ghost use Rattle.std.specs.Prelude.{◌≡◌, ◌≤◌, ◌<◌};
 ghost use Rattle.demo.specs.Camera.{rgb, lighter, apart, sky, roof, wall, pane, house_at, town, asphalt, middle_line, pavement, street, car_half, cabin, front, car, traffic, post, sill, scene, camera};
 
-#[derive(Clone, Copy)]
+#[derive(Clone, Copy, Debug, PartialEq, Eq)]
 pub struct Colour {
     pub r: u8,
     pub g: u8,
@@ -24,17 +24,14 @@ fn shade(r: u8, g: u8, b: u8, n: usize) -> Colour
 fn solid(r: u8, g: u8, b: u8) -> Colour
     ensures { result ≡ rgb r g b }
 {
-    Colour { r: r, g: g, b: b }
+    Colour { r, g, b }
 }
 
 // How far two columns are apart.
 fn distance(a: usize, b: usize) -> usize
     ensures { result ≡ apart a b }
 {
-    if a < b {
-        return b - a;
-    }
-    a - b
+    a.abs_diff(b)
 }
 
 fn sky_at(y: usize) -> Colour

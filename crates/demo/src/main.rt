@@ -3,40 +3,41 @@
 // blanking, and writes the frame as a binary PPM. Standard input: a font of 4,608 bytes, then two bytes an event, its kind (0 start,
 // 1 host byte, 2 fetch, 3 stop) and the byte; 65,536 bytes at the most. Where a kind is bad, a line says so and nothing is drawn.
 // The stored input and output come from tests/demo.py, with a sample font of our own drawing (tests/sample_font.txt).
-ghost use Rattle.std.specs.Prelude.{◌≡◌, ◌*◌, ◌≤◌, length};
-ghost use Rattle.limits.specs.Limits.{ram_length, line_max};
-ghost use Rattle.device.specs.Device.{draw_line};
-ghost use Rattle.capture.specs.Capture.{feed_reply};
-ghost use Rattle.demo.specs.Picture.{input_length, host, played, end_of, full, mix, mixed, line_outcome, mixed_draw, picture_line};
+ghost use Rattle.std.specs.Prelude.{◌≡◌, ◌+◌, ◌*◌, ◌/◌, ◌≤◌, length};
+ghost use Rattle.limits.specs.Limits.{line_max};
+ghost use Rattle.capture.specs.Capture.{chip, feed_reply};
+ghost use Rattle.demo.specs.Picture.{input_length, played, end_of, full, mix, mixed, line_outcome, picture_line};
 
 use camera::Colour;
-use capture::{Feed, FeedAnswer};
+use capture::{Feed, FeedRefusal};
 use device::Device;
 use std::io;
 use std::io::Write;
 
 mod camera;
 
+const INPUT: usize = 65536;
+
 const LINES: usize = 216;
 
-// How the traffic ends.
-#[derive(Clone, Copy)]
-enum Traffic {
-    // each event was heard; half an event at the end is none yet
-    Whole,
-    // at an event that has no kind 0 to 3: its number, counted from 1
-    BadKind(usize),
+// The traffic ends at an event that has no kind 0 to 3: its number, counted from 1.
+#[derive(Clone, Copy, Debug, PartialEq, Eq)]
+struct BadKind {
+    event: usize,
 }
 
-// The device after the traffic, up to where it ends.
-#[derive(Clone, Copy)]
-struct Played {
-    device: Device,
-    traffic: Traffic,
+impl From<FeedRefusal> for BadKind {
+    ghost from_gives = { λ r b. b ≡ record { event = r.written / 2 + 1 } };
+
+    fn from(refused: FeedRefusal) -> BadKind {
+        BadKind {
+            event: refused.written / 2 + 1,
+        }
+    }
 }
 
 fn main(rt: HostRuntime) -> io::Result<()> {
-    let mut input = [0u8; 65536];
+    let mut input = [0u8; INPUT];
     let n = streams::read_full(&mut rt.stdin(), &mut input)?;
     run(&mut rt.stdout(), &input[..n])
 }
@@ -47,114 +48,66 @@ fn run<W: Write>(out: &mut W, input: &[u8]) -> io::Result<()>
     if input.len() < limits::FONT_LENGTH {
         return out.write_all(b"demo: the input begins with a font of 4608 bytes\n");
     }
+    let (font, traffic) = input.split_at(limits::FONT_LENGTH);
+    let mut device = Device::fresh();
     let mut ram = bus::fresh_ram();
-    let after = play(Device::fresh(), &mut ram, &input[limits::FONT_LENGTH..]);
-    let traffic = after.traffic;
-    match traffic {
-        Traffic::Whole => {
-            let started = after.device.start_frame(LINES as u32);
-            show(out, started.device, &ram, &input[..limits::FONT_LENGTH])
-        }
-        Traffic::BadKind(event) => tell(out, event),
+    if let Err(bad) = play(&mut device, &mut ram, traffic) {
+        let event = bad.event;
+        return write!(
+            out,
+            "demo: event {event} of the traffic has no kind 0 to 3\n"
+        );
     }
+    let _ = device.start_frame(LINES as u32);
+    show(out, &mut device, &ram, font)
 }
 
-// Feeds the traffic. An event has as many bytes of output as it has itself, so an output as long as the longest input has room.
-fn play(device: Device, ram: &mut [u8], traffic: &[u8]) -> Played
-    requires ram_len { length ram.old ≡ ram_length }
-    requires traffic_len_bound { length traffic.now ≤ input_length }
-    ensures { host result ram.new ≡ played device ram.old traffic.now }
+// Feeds the traffic; half an event at its end is none yet. An event has as many bytes of output as it has itself, so an output as long
+// as the longest input has room.
+fn play(
+    device: &mut Device,
+    ram: &mut [u8; limits::RAM_LENGTH],
+    traffic: &[u8],
+) -> Result<(), BadKind>
+    requires { length traffic.now ≤ input_length }
+    ensures { record { chip = chip device.new ram.new; traffic = result } ≡ played device.old ram.old traffic.now }
 {
-    let mut out = [0u8; 65536];
-    let done = Feed::fresh().take(device, ram, traffic, &mut out);
-    let next = done.device;
-    let answer = done.answer;
-    Played {
-        device: next,
-        traffic: end_of(answer),
-    }
+    let mut out = [0u8; INPUT];
+    let mut feed = Feed::fresh();
+    end_of(feed.take(device, ram, traffic, &mut out))
 }
 
 // By the answer of a feed that had room.
-fn end_of(answer: FeedAnswer) -> Traffic
+fn end_of(answer: Result<usize, FeedRefusal>) -> Result<(), BadKind>
     ensures { result ≡ end_of (feed_reply answer) }
 {
-    if answer.refusal() == 0 {
-        return Traffic::Whole;
-    }
-    Traffic::BadKind(answer.value() / 2 + 1)
-}
-
-fn tell<W: Write>(out: &mut W, event: usize) -> io::Result<()> {
-    out.write_all(b"demo: event ")?;
-    streams::write_decimal(out, event as u64)?;
-    out.write_all(b" of the traffic has no kind 0 to 3\n")
+    answer?;
+    Ok(())
 }
 
 // The heading of the PPM, then every line.
-fn show<'a, W: Write>(
-    out: &mut W,
-    device: Device,
-    ram: &'a [u8],
-    font: &'a [u8],
-) -> io::Result<()> {
-    let width = device.width() as usize;
-    heading(out, width)?;
+fn show<W: Write>(out: &mut W, device: &mut Device, ram: &[u8], font: &[u8]) -> io::Result<()> {
+    let width = usize::from(device.width());
+    write!(out, "P6\n{width} {LINES}\n255\n")?;
     let mut line = [0u8; 3 * limits::LINE_MAX];
-    let mut next = device;
     for y in 0..LINES {
-        next = picture_line(next, ram, font, y, &mut line);
-        print(out, &line, 3 * width)?;
+        picture_line(device, ram, font, y, &mut line);
+        out.write_all(&line[..3 * width])?;
     }
     Ok(())
 }
 
-fn heading<W: Write>(out: &mut W, width: usize) -> io::Result<()> {
-    out.write_all(b"P6\n")?;
-    streams::write_decimal(out, width as u64)?;
-    out.write_all(b" 216\n255\n")
-}
-
-fn print<W: Write>(out: &mut W, bytes: &[u8], n: usize) -> io::Result<()> {
-    if n <= bytes.len() {
-        out.write_all(&bytes[..n])?;
-    }
-    Ok(())
-}
-
-// Draws the frame's next line, which is line y of the picture, and mixes it into the first bytes of out.
-fn picture_line<'a>(
-    device: Device,
-    ram: &'a [u8],
-    font: &'a [u8],
-    y: usize,
-    out: &mut [u8],
-) -> Device
+// Draws the frame's next line, which is line y of the picture, and mixes it into the first bytes of out. Where the draw is refused, the
+// camera's line stands alone.
+fn picture_line(device: &mut Device, ram: &[u8], font: &[u8], y: usize, out: &mut [u8])
     requires { 3 * line_max ≤ length out.old }
-    ensures { line_outcome result out.new ≡ picture_line device ram.now font.now y out.old }
+    ensures { line_outcome device.new out.new ≡ picture_line device.old ram.now font.now y out.old }
 {
-    let width = device.width() as usize;
-    let n = 3 * width;
-    let mut line = [0u8; limits::LINE_MAX];
-    draw_mixed(device, ram, font, &mut line[..width], y, &mut out[..n])
-}
-
-// The same, in a lent line buffer.
-fn draw_mixed<'a>(
-    device: Device,
-    ram: &'a [u8],
-    font: &'a [u8],
-    line: &mut [u8],
-    y: usize,
-    out: &mut [u8],
-) -> Device
-    requires { length out.old ≡ 3 * length line.old }
-    ensures mixed { line_outcome result out.new ≡ mixed_draw (draw_line device ram.now font.now line.old) y }
-    ensures pixels { line.new ≡ (draw_line device ram.now font.now line.old).line }
-{
-    let drawn = device.draw_line(ram, font, line);
-    mix_line(line, y, out);
-    drawn.device
+    let width = usize::from(device.width());
+    let mut space = [0u8; limits::LINE_MAX];
+    let line = &mut space[..width];
+    let _ = device.draw_line(ram, font, line);
+    mix_line(line, y, &mut out[..3 * width]);
 }
 
 // A line of the overlay over the camera's line y.
@@ -162,13 +115,11 @@ fn mix_line(line: &[u8], y: usize, out: &mut [u8])
     requires { length out.old ≡ 3 * length line.now }
     ensures { out.new ≡ mixed y 0 line.now }
 {
-    let mut x = 0;
-    while x < line.len() {
+    for x in 0..line.len() {
         let c = mix_pixel(line[x], camera::pixel(x, y));
         out[3 * x] = c.r;
         out[3 * x + 1] = c.g;
         out[3 * x + 2] = c.b;
-        x += 1;
     }
 }
 
@@ -178,13 +129,14 @@ fn mix_pixel(pixel: u8, behind: Colour) -> Colour
     ensures { result ≡ mix pixel behind }
 {
     if pixel / 8 % 2 == 1 {
-        return Colour {
+        Colour {
             r: part(pixel / 4),
             g: part(pixel / 2),
             b: part(pixel),
-        };
+        }
+    } else {
+        behind
     }
-    behind
 }
 
 // 255 where the lowest bit is set.

@@ -1,48 +1,35 @@
 -- The calls that a host makes: what each returns and leaves, refused calls too. Of document 01: the reset of "Registers", the frame
 -- start of "Walk of a frame", "Refusal numbers" with their order, and the cell question.
 -- Assumes nothing.
-use Rattle.std.specs.Prelude.{ℕ, ◌+◌, ◌-◌, ◌%◌, not, cond, List, ◌++◌, eqb, leb, ltb, length, drop}
+use Rattle.std.specs.Prelude.{ℕ, ◌+◌, ◌-◌, ◌%◌, Bool, not, cond, List, ◌++◌, eqb, leb, ltb, length, drop, Result}
 use Rattle.limits.specs.Limits.{ram_length, font_length, bad_line_count}
 use Rattle.cells.specs.Reading.{Reading, value, cells, among}
 use Rattle.refusals.specs.declared.Refusal.{Refusal}
 use Rattle.refusals.specs.declared.Refusal.TheVariants.{RamLength, FontLength, LineLength, NoLine, FrameLines, CellRange}
-use Rattle.refusals.specs.Refusals.{Reply, accepted, refused, Verdict, passed, failed, refuse_if}
+use Rattle.refusals.specs.Refusals.{Reply, accepted, refused, reply_of, Verdict, passed, failed, refuse_if}
 use Rattle.registers.specs.Registers.{fresh_registers, settings_of, page_of}
 use Rattle.raster.specs.Raster.{width_of}
 use Rattle.bus.specs.declared.Event.{Event}
-use Rattle.bus.specs.Bus.{fresh_bus, BusOutcome, bus_event, bus_reply}
+use Rattle.bus.specs.Bus.{fresh_bus, BusOutcome, bus_event}
 use Rattle.walk.specs.declared.Walk.{Walk}
 use Rattle.walk.specs.Walk.{walk_from}
 use Rattle.line.specs.Line.{Scanned, scan, paint}
 use Rattle.ahead.specs.Ahead.{remaining}
 use Rattle.device.specs.declared.Device.{Device}
-use Rattle.device.specs.declared.EventDone.{EventDone}
-use Rattle.device.specs.declared.StartDone.{StartDone}
-use Rattle.device.specs.declared.DrawDone.{DrawDone}
-use Rattle.device.specs.declared.StartAnswer.{StartAnswer}
-use Rattle.device.specs.declared.StartAnswer.TheVariants as start
-use Rattle.device.specs.declared.DrawAnswer.{DrawAnswer}
-use Rattle.device.specs.declared.DrawAnswer.TheVariants as draw
-use Rattle.device.specs.declared.CellAnswer.{CellAnswer}
-use Rattle.device.specs.declared.CellAnswer.TheVariants as cell
 
 -- ---- document 01's numbers for each answer
 
 -- an accepted frame start has no number of its own
-abbrev pub start_reply : StartAnswer → Reply
-start_reply start.Started = accepted 0
-start_reply (start.Refused r) = refused r
+abbrev pub start_reply : Result Unit Refusal → Reply
+start_reply = reply_of (λ _. 0) refused
 
 -- the value of a drawn line is its read count
-abbrev pub draw_reply : DrawAnswer → Reply
-draw_reply (draw.Drawn n) = accepted n
-draw_reply (draw.Refused r) = refused r
+abbrev pub draw_reply : Result ℕ Refusal → Reply
+draw_reply = reply_of (λ n. n) refused
 
 -- yes is 1, no is 0
-abbrev pub cell_reply : CellAnswer → Reply
-cell_reply cell.Yes = accepted 1
-cell_reply cell.No = accepted 0
-cell_reply (cell.Refused r) = refused r
+abbrev pub cell_reply : Result Bool Refusal → Reply
+cell_reply = reply_of (λ yes. cond yes 1 0) refused
 
 -- ---- reset
 
@@ -75,10 +62,6 @@ hear_event d ram e =
       reply = o.reply;
     }
 
--- what a call returned and left, in the same form
-abbrev pub event_outcome : EventDone → List ℕ → EventOutcome
-event_outcome d ram = record { device = d.device; ram = ram; reply = bus_reply d.answer }
-
 -- ---- frame start
 
 -- frame numbers are 0 to 63 and round again
@@ -106,9 +89,6 @@ start_frame d lines =
     cond (bad_line_count lines)
     (record { device = d; reply = refused FrameLines })
     (record { device = in_frame d lines; reply = accepted 0 })
-
-abbrev pub start_outcome : StartDone → StartOutcome
-start_outcome d = record { device = d.device; reply = start_reply d.answer }
 
 -- ---- draw
 
@@ -169,9 +149,6 @@ draw_by (failed r) d ram font line = not_drawn d line r
 
 unfoldable pub draw_line : Device → (ram font line : List ℕ) → DrawOutcome
 draw_line d ram font line = draw_by (draw_verdict d (length ram) (length font) (length line)) d ram font line
-
-abbrev pub draw_outcome : DrawDone → List ℕ → DrawOutcome
-draw_outcome d line = record { device = d.device; line = line; reply = draw_reply d.answer }
 
 -- ---- cell question
 

@@ -2,11 +2,10 @@
 // The device that a host uses: the record, and the calls on it. Every call takes any record and slices of any length, and refuses.
 ghost use Rattle.std.specs.Prelude.{◌≡◌, ◌≤◌};
 ghost use Rattle.limits.specs.Limits.{line_max};
-ghost use Rattle.refusals.specs.declared.Refusal.TheVariants.{FrameLines};
-ghost use Rattle.refusals.specs.Refusals.{refused};
-ghost use Rattle.device.specs.Device.{fresh_device, event_outcome, hear_event, start_outcome, start_frame, line_width, draw_outcome, draw_line, ask_cell, start_reply, draw_reply, cell_reply};
+ghost use Rattle.bus.specs.Bus.{bus_reply};
+ghost use Rattle.device.specs.Device.{fresh_device, hear_event, start_reply, start_frame, line_width, draw_reply, draw_line, cell_reply, ask_cell};
 
-use bus::{Bus, BusAnswer, Event};
+use bus::{Bus, Event};
 use refusals::Refusal;
 use registers::Registers;
 use walk::Walk;
@@ -29,46 +28,8 @@ pub struct Device {
     pub next: u8,
 }
 
-#[derive(Clone, Copy)]
-pub enum StartAnswer {
-    Started,
-    Refused(Refusal),
-}
-
-#[derive(Clone, Copy)]
-pub enum DrawAnswer {
-    // with the number of RAM cells read
-    Drawn(u16),
-    Refused(Refusal),
-}
-
-#[derive(Clone, Copy)]
-pub enum CellAnswer {
-    Yes,
-    No,
-    Refused(Refusal),
-}
-
-// What a bus event, a frame start and a draw leave and answer.
-#[derive(Clone, Copy)]
-pub struct EventDone {
-    pub device: Device,
-    pub answer: BusAnswer,
-}
-
-#[derive(Clone, Copy)]
-pub struct StartDone {
-    pub device: Device,
-    pub answer: StartAnswer,
-}
-
-#[derive(Clone, Copy)]
-pub struct DrawDone {
-    pub device: Device,
-    pub answer: DrawAnswer,
-}
-
 impl Device {
+    #[tactic(auto, unfolding(crate::specs::Device::fresh_device))]
     pub fn fresh() -> Device
         ensures { result ≡ fresh_device }
     {
@@ -85,196 +46,91 @@ impl Device {
     }
 
     // RAM is not touched.
-    pub fn reset(self) -> Device
-        ensures { result ≡ fresh_device }
+    pub fn reset(&mut self)
+        ensures { self.new ≡ fresh_device }
     {
-        Device::fresh()
+        *self = Device::fresh();
     }
 
-    // Refusals 1; then 5, 12, 13 or 14.
-    pub fn hear(self, ram: &mut [u8], event: Event) -> EventDone
-        ensures { event_outcome result ram.new ≡ hear_event self ram.old event }
+    // One bus event; answers the byte on the bus. Refusals 1; then 5, 12, 13 or 14.
+    #[tactic(auto, unfolding(crate::specs::Device::hear_event))]
+    pub fn hear(&mut self, ram: &mut [u8], event: Event) -> Result<u8, Refusal>
+        ensures { record { device = self.new; ram = ram.new; reply = bus_reply result } ≡ hear_event self.old ram.old event }
     {
-        let bus = self.bus;
-        let registers = self.registers;
-        let heard = bus::hear(bus, registers, ram, event);
-        let next_bus = heard.bus;
-        let next_registers = heard.registers;
-        let answer = heard.answer;
-        let frame = self.frame;
-        EventDone {
-            device: Device {
-                bus: next_bus,
-                registers: next_registers,
-                frame: frame,
-                next: self.next,
-            },
-            answer: answer,
-        }
+        bus::hear(&mut self.bus, &mut self.registers, ram, event)
     }
 
     // Refusal 6.
-    pub fn start_frame(self, lines: u32) -> StartDone
-        ensures { start_outcome result ≡ start_frame self lines }
+    #[tactic(auto, unfolding(crate::specs::Device::in_frame, crate::specs::Device::start_frame))]
+    pub fn start_frame(&mut self, lines: u32) -> Result<(), Refusal>
+        ensures { record { device = self.new; reply = start_reply result } ≡ start_frame self.old lines }
     {
         if limits::bad_line_count(lines) {
-            return self.not_started();
+            return Err(Refusal::FrameLines);
         }
-        let bus = self.bus;
-        let registers = self.registers;
-        StartDone {
-            device: Device {
-                bus: bus,
-                registers: registers,
-                frame: Frame {
-                    left: lines as u16,
-                    number: self.next % 64,
-                    walk: Walk::of_page(registers.page()),
-                },
-                next: (self.next % 64 + 1) % 64,
-            },
-            answer: StartAnswer::Started,
-        }
-    }
-
-    fn not_started(self) -> StartDone
-        ensures { start_outcome result ≡ record { device = self; reply = refused FrameLines } }
-    {
-        StartDone {
-            device: self,
-            answer: StartAnswer::Refused(Refusal::FrameLines),
-        }
+        self.frame = Frame {
+            left: lines as u16,
+            number: self.next % 64,
+            walk: Walk::of_page(self.registers.page()),
+        };
+        self.next = (self.next % 64 + 1) % 64;
+        Ok(())
     }
 
     // The width of its lines.
-    pub fn width(self) -> u16
-        ensures { (result ≡ line_width self) × (result ≤ line_max) }
+    pub fn width(&self) -> u16
+        ensures { (result ≡ line_width self.now) × (result ≤ line_max) }
     {
-        let registers = self.registers;
-        let settings = registers.settings();
-        raster::width(settings.ld)
+        raster::width(self.registers.settings().ld)
     }
 
-    // Refusals 1, 2, 4, then 3.
-    pub fn draw_line<'a>(self, ram: &'a [u8], font: &'a [u8], line: &mut [u8]) -> DrawDone
-        ensures { draw_outcome result line.new ≡ draw_line self ram.now font.now line.old }
+    // Draws the frame's next line; answers how many RAM cells that read. Refusals 1, 2, 4, then 3.
+    #[tactic(auto, unfolding(crate::specs::Device::draw_verdict, crate::specs::Device::draw_by, crate::specs::Device::draw_line))]
+    pub fn draw_line(&mut self, ram: &[u8], font: &[u8], line: &mut [u8]) -> Result<u16, Refusal>
+        ensures { record { device = self.new; line = line.new; reply = draw_reply result } ≡ draw_line self.old ram.now font.now line.old }
     {
         if ram.len() != limits::RAM_LENGTH {
-            return self.not_drawn(Refusal::RamLength);
+            return Err(Refusal::RamLength);
         }
         if font.len() != limits::FONT_LENGTH {
-            return self.not_drawn(Refusal::FontLength);
+            return Err(Refusal::FontLength);
         }
-        let frame = self.frame;
-        if frame.left == 0 {
-            return self.not_drawn(Refusal::NoLine);
+        if self.frame.left == 0 {
+            return Err(Refusal::NoLine);
         }
         if line.len() < self.width() as usize {
-            return self.not_drawn(Refusal::LineLength);
+            return Err(Refusal::LineLength);
         }
-        let registers = self.registers;
-        let walk = frame.walk;
-        let drawn = line::draw(line, ram, font, registers, walk, frame.number);
-        let bus = self.bus;
-        let next_walk = drawn.walk;
-        DrawDone {
-            device: Device {
-                bus: bus,
-                registers: registers,
-                frame: Frame {
-                    left: frame.left - 1,
-                    number: frame.number,
-                    walk: next_walk,
-                },
-                next: self.next,
-            },
-            answer: DrawAnswer::Drawn(drawn.cells),
-        }
+        let walked = line::draw(
+            line,
+            buffers::array_of(ram),
+            buffers::array_of(font),
+            self.registers,
+            self.frame.walk,
+            self.frame.number,
+        );
+        self.frame.left -= 1;
+        self.frame.walk = walked.walk;
+        Ok(walked.cells)
     }
 
     // The cell question: do the frame's remaining lines read the cell? Refusals 1, then 8.
-    pub fn ask(self, ram: &[u8], cell: u32) -> CellAnswer
-        ensures { cell_reply result ≡ ask_cell self ram.now cell }
+    #[tactic(auto, unfolding(crate::specs::Device::cells_left, crate::specs::Device::ask_cell))]
+    pub fn ask(&self, ram: &[u8], cell: u32) -> Result<bool, Refusal>
+        ensures { cell_reply result ≡ ask_cell self.now ram.now cell }
     {
         if ram.len() != limits::RAM_LENGTH {
-            return CellAnswer::Refused(Refusal::RamLength);
+            return Err(Refusal::RamLength);
         }
         if cell >= limits::RAM_CELLS {
-            return CellAnswer::Refused(Refusal::CellRange);
+            return Err(Refusal::CellRange);
         }
-        let registers = self.registers;
-        let frame = self.frame;
-        let walk = frame.walk;
-        if ahead::reads(ram, registers.settings(), frame.left, walk, cell as u16) {
-            return CellAnswer::Yes;
-        }
-        CellAnswer::No
-    }
-
-    fn not_drawn(self, refusal: Refusal) -> DrawDone
-        ensures { (result.device ≡ self) × (draw_reply result.answer ≡ refused refusal) }
-    {
-        DrawDone {
-            device: self,
-            answer: DrawAnswer::Refused(refusal),
-        }
-    }
-}
-
-impl StartAnswer {
-    // The refusal's number; 0 where the frame is started.
-    pub fn refusal(self) -> u8
-        ensures { result ≡ (start_reply self).refusal }
-    {
-        match self {
-            StartAnswer::Started => 0,
-            StartAnswer::Refused(r) => r.number(),
-        }
-    }
-}
-
-impl DrawAnswer {
-    // The refusal's number; 0 where the line is drawn.
-    pub fn refusal(self) -> u8
-        ensures { result ≡ (draw_reply self).refusal }
-    {
-        match self {
-            DrawAnswer::Drawn(_) => 0,
-            DrawAnswer::Refused(r) => r.number(),
-        }
-    }
-
-    // The read count; 0 with a refusal.
-    pub fn cells(self) -> u16
-        ensures { result ≡ (draw_reply self).value }
-    {
-        match self {
-            DrawAnswer::Drawn(n) => n,
-            DrawAnswer::Refused(r) => r.value() as u16,
-        }
-    }
-}
-
-impl CellAnswer {
-    // The refusal's number; 0 with yes and no.
-    pub fn refusal(self) -> u8
-        ensures { result ≡ (cell_reply self).refusal }
-    {
-        match self {
-            CellAnswer::Yes => 0,
-            CellAnswer::No => 0,
-            CellAnswer::Refused(r) => r.number(),
-        }
-    }
-
-    // 1 for yes, 0 for no and with a refusal.
-    pub fn value(self) -> u8
-        ensures { result ≡ (cell_reply self).value }
-    {
-        match self {
-            CellAnswer::Yes => 1,
-            CellAnswer::No => 0,
-            CellAnswer::Refused(r) => r.value(),
-        }
+        Ok(ahead::reads(
+            buffers::array_of(ram),
+            self.registers.settings(),
+            self.frame.left,
+            self.frame.walk,
+            cell as u16,
+        ))
     }
 }

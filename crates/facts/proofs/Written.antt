@@ -6,7 +6,7 @@ use mathlib.Core.List.{List, [], ◌∷◌, ◌++◌, append-nil, append_assoc}
 use native.Mathlib.Nat.{not-suc-le-zero}
 use native.Mathlib.Numerals.{add-one, sub-one}
 use native.Mathlib.Omega.{arith}
-use lib.ListN.{length, get_or, take, drop, set, length-set, drop_of_length-le}
+use lib.ListN.{length, get_or, take, drop, set, length-set}
 use lib.Seq.{take_all, drop-cons, take-suc-set, drop-set-lt, get_or-set_same}
 
 -- ---- from the front
@@ -24,10 +24,6 @@ pub written-more : (all out : List ℕ) (i v d : ℕ) → i < length out → i <
     → take (i + 1) (set out i v) ++ drop (i + 1) all ≡ all
 written-more all out i v d h k e p =
     front-more all out (drop (i + 1) all) i (i + 1) v (omega arith) h (rw (p, add-one, ← drop-cons all i d k) e)
-
--- and nothing more is to be written
-pub written-whole : (all out : List ℕ) (i : ℕ) → i ≡ length out → i ≡ length all → take i out ++ drop i all ≡ all → out ≡ all
-written-whole all out i h k e = front-whole all out i (omega arith) (rw (drop_of_length-le all {i = i} (omega arith)) at e)
 
 -- ---- from the back: digits of a number, the last one first
 

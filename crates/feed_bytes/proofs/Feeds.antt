@@ -10,6 +10,7 @@ use lib.ListN.{length, get_or}
 use lib.Seq.{sets}
 use Rattle.refusals.specs.declared.Refusal.{Refusal}
 use Rattle.refusals.specs.Refusals.{Reply, refused, Verdict, passed, failed}
+use Rattle.bus.specs.declared.Event.{Event}
 use Rattle.bus.specs.Bus.{event_of, bad_kind, last_kind}
 use Rattle.buffers.specs.Buffers.{Bytes}
 use Rattle.device.specs.Device.{hear_event}
@@ -22,6 +23,8 @@ use Rattle.interface.specs.Interface.{answer_of, is_accepted, BusDone, heard_on,
 use Rattle.layout.specs.FeedLayout.{feed_length, feed_bytes, feed_in}
 use Rattle.interface.proofs.Claims.{crossing}
 use Rattle.interface.proofs.Laws.{refusal-zero, bus-is, feed-is}
+use Rattle.bus_bytes.specs.Steps.{event_on}
+use Rattle.bus_bytes.proofs.Events.{bus-heard}
 use Rattle.feed_bytes.specs.Turns.{output_in}
 
 -- ---- an answer's two bytes
@@ -46,19 +49,20 @@ turn xs ram chunk held j out n kind l k few p q =
     ∙ λ i. from bus_calls (lent (o i).device (o i).ram) chunk held (suc (suc j)) (sets out n (output_of (w i))) (suc (suc n))
 
 -- an event that was heard: what is left from the next place on is what was left
-pub from-heard : (xs ram chunk : List ℕ) (held i : ℕ) (out : List ℕ) (n : ℕ) {o : BusDone} {out' : List ℕ} {kind i' n' : ℕ}
-    → length xs ≡ record_length → Bytes xs → Bytes ram → i < length chunk → kind ≡ kind_at chunk held i → kind ≤ last_kind
-    → o ≡ bus_on xs ram kind (get_or chunk i 0) → out' ≡ sets out n (output_in o.answer) → i' ≡ suc (suc i) → n' ≡ suc (suc n)
+pub from-heard : (xs ram chunk : List ℕ) (held i : ℕ) (out : List ℕ) (n : ℕ) {o : BusDone} {out' : List ℕ} {kind i' n' : ℕ} {e : Event}
+    → length xs ≡ record_length → length ram ≡ 1024 → Bytes xs → Bytes ram → i < length chunk → kind ≡ kind_at chunk held i → kind ≤ last_kind
+    → e ≡ event_of kind (get_or chunk i 0) → o ≡ event_on xs ram e → out' ≡ sets out n (output_in o.answer) → i' ≡ suc (suc i) → n' ≡ suc (suc n)
     → from bus_calls (lent o.device o.ram) chunk held i' out' n' ≡ from bus_calls (lent xs ram) chunk held i out n
 unfolding heard_on hear_event
-from-heard xs ram chunk held i out n {o} {out'} {kind} l h k m p b q u j v =
+from-heard xs ram chunk held i out n {o} {out'} {kind} {e} l r h k m p b w q u j v =
     let x : ℕ = get_or chunk i 0 in
+    let on : o ≡ bus_on xs ram kind x = bus-heard xs ram kind x l b e o r w q in
     let two : output_in o.answer ≡ output_of (hear_event (device_in xs) ram (event_of kind x)).reply =
-    output-is _ _ (crossing.value-bus xs ram kind x h k) (ap (λ (r : BusDone). r.answer) (q ∙ sym (bus-is xs ram kind x l b)))
+    output-is _ _ (crossing.value-bus xs ram kind x h k) (ap (λ (r : BusDone). r.answer) (on ∙ sym (bus-is xs ram kind x l b)))
     in
     let written = u ∙ ap (sets out n) two in
     (λ z. from bus_calls (lent o.device o.ram) chunk held (j z) (written z) (v z))
-    ∙ sym (turn xs ram chunk held i out n kind m (sym p) b (sym q) refl)
+    ∙ sym (turn xs ram chunk held i out n kind m (sym p) b (sym on) refl)
 
 -- what a chunk's events leave, by what is left of it at its first place
 pub all_taken : (c : ChipBytes) (f : Feed) (chunk out : List ℕ) (kind bytes : ℕ) {r : Played ChipBytes} → kind ≡ held_kind f → bytes ≡ held_bytes f → is_shut f ≡ false

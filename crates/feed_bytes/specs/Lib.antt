@@ -1,1 +1,3 @@
+pub mod Events
+pub mod Laws
 pub mod Turns

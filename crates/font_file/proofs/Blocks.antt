@@ -7,7 +7,7 @@ use mathlib.Core.List.{List, [], ◌∷◌, ◌++◌, append_assoc}
 use native.Mathlib.Decide.{dec_lt}
 use native.Mathlib.Numerals.{add-one}
 use native.Mathlib.Omega.{arith}
-use borrow.Author.Tests.{eq-eqb, eqb-true, eqb-false}
+use borrow.Author.Tests.{eq-eqb, eqb-true}
 use lib.Dec.{eqb}
 use lib.ListN.{length, get_or, take, drop, set, replicate, length-append, length-take, length-drop, length-replicate, length-set, take-append-drop, drop_of_length-le}
 use lib.Seq.{drop-cons, drop-drop, drop_at, take_at, take-take, take-set-le, take-set-lt, drop-set-lt, get_or-take, get_or-drop, get_or-set_same}
@@ -19,17 +19,14 @@ use Rattle.facts.proofs.Parts.{drop-take}
 use Rattle.facts.proofs.Tests.{and_both}
 use Rattle.refusals.specs.declared.FileRefusal.{FileRefusal}
 use Rattle.refusals.specs.declared.FileRefusal.TheVariants.{Checks}
-use Rattle.refusals.specs.Refusals.{file_number_of}
-use Rattle.refusals.proofs.Laws.{file-not-zero}
-use Rattle.font_file.specs.declared.FileAnswer.{FileAnswer}
-use Rattle.font_file.specs.declared.FileAnswer.TheVariants.{Done, Refused}
-use Rattle.font_file.specs.FontFile.{last_block, block_length, checked_length, heading_length, payload_length, used_length, sum_check, weighted_check, content_of, with_checks, checks_right, all_zero, unused_in, format_right, block_test, file_reply}
+use Rattle.std.specs.Prelude.{Result, Ok, Err}
+use Rattle.font_file.specs.FontFile.{last_block, block_length, checked_length, heading_length, payload_length, used_length, sum_check, weighted_check, content_of, with_checks, checks_right, all_zero, unused_in, format_right, block_test}
 use Rattle.font_file.specs.Checked.{exchanged}
 use Rattle.font_file.proofs.Sums.{sum-set, weighted_exchanged}
 
 -- a refusal is not the answer that all is done
-pub refused-not : (r : FileRefusal) → Refused r ≡ Done → ⊥
-refused-not r e = eqb-false (file_number_of r) 0 (file-not-zero r) (ap (λ (v : FileAnswer). (file_reply v).refusal) e)
+pub refused-not : (r : FileRefusal) → let answer : Result (Unit {0}) FileRefusal = Err r in answer ≡ Ok tt → ⊥
+refused-not r e = cc
 
 -- ---- bytes
 
@@ -56,6 +53,10 @@ bytes-zeros : (n : ℕ) → Bytes (replicate n 0)
 bytes-zeros zero i = omega arith
 bytes-zeros (suc n) zero = omega arith
 bytes-zeros (suc n) (suc i) = bytes-zeros n i
+
+-- the two bytes as the code makes them
+pub two_bytes : (n : ℕ) → n < 65536 → n % 256 ∷ n / 256 % 256 ∷ [] ≡ word_bytes n
+two_bytes n h = let high : n / 256 % 256 ≡ n / 256 = omega arith in rw high
 
 -- ---- the block that is written
 
@@ -101,7 +102,7 @@ module _ (number : ℕ) (font : List ℕ) (h : length font ≡ used_length numbe
   unfolding with_checks content_of
   block_font rest = simp append_assoc (take_at font _ (used_length number) h)
 
-  pub block_passes : block_test number (block_of number font) ≡ Done
+  pub block_passes : block_test number (block_of number font) ≡ Ok tt
   unfolding block_test format_right with_checks content_of
   block_passes =
       let c : List ℕ = content_of number font in
@@ -114,7 +115,7 @@ module _ (number : ℕ) (font : List ℕ) (h : length font ≡ used_length numbe
 
 -- ---- a block that passes its tests
 
-passed_both : (place : ℕ) (block : List ℕ) → block_test place block ≡ Done → (checks_right block ≡ true) × (format_right place block ≡ true)
+passed_both : (place : ℕ) (block : List ℕ) → block_test place block ≡ Ok tt → (checks_right block ≡ true) × (format_right place block ≡ true)
 unfolding block_test
 passed_both place block e =
     let c : checks_right block ≡ true = not-eq-not.0 (λ n. refused-not _ (rw n at e)) in (c, not-eq-not.0 (λ n. refused-not _ (rw (c, n) at e)))
@@ -169,18 +170,18 @@ format_back place block l h e =
     (ap (take checked_length) (words_back block rest place u h (omega arith) (eqb-true _ _ p) (eqb-true _ _ q) refl))
 
 -- it is the one that is written with its bytes of font
-pub block_back : (place : ℕ) (block : List ℕ) → length block ≡ block_length → Bytes block → block_test place block ≡ Done
+pub block_back : (place : ℕ) (block : List ℕ) → length block ≡ block_length → Bytes block → block_test place block ≡ Ok tt
     → block_of place (take (used_length place) (drop heading_length block)) ≡ block
 block_back place block l h e =
     let (p, q) = passed_both place block e in ap with_checks (format_back place block l h q) ∙ checks_back block l h p
 
 -- ---- then damaged: if its checks are right, nothing was changed
 
-bad_checks_lem : (place : ℕ) (block : List ℕ) → (checks_right block ≡ true → ⊥) → block_test place block ≡ Refused (Checks place)
+bad_checks_lem : (place : ℕ) (block : List ℕ) → (checks_right block ≡ true → ⊥) → block_test place block ≡ Err (Checks place)
 unfolding block_test
 bad_checks_lem place block n = let c : checks_right block ≡ false = not-eq-not.0 n in rw c
 
-module _ (place : ℕ) (block : List ℕ) (l : length block ≡ block_length) (h : Bytes block) (e : block_test place block ≡ Done) where
+module _ (place : ℕ) (block : List ℕ) (l : length block ≡ block_length) (h : Bytes block) (e : block_test place block ≡ Ok tt) where
   right : checks_right block ≡ true
   right = (passed_both place block e).0
 
@@ -193,7 +194,7 @@ module _ (place : ℕ) (block : List ℕ) (l : length block ≡ block_length) (h
       rw (← t) (sym m ∙ ap (λ (xs : List ℕ). word xs 0) d ∙ p, sym n ∙ ap (λ (xs : List ℕ). word xs 2) d ∙ q)
 
   -- one byte
-  pub changed : (i v : ℕ) → i < block_length → v < 256 → (v ≡ get_or block i 0 → ⊥) → block_test place (set block i v) ≡ Refused (Checks place)
+  pub changed : (i v : ℕ) → i < block_length → v < 256 → (v ≡ get_or block i 0 → ⊥) → block_test place (set block i v) ≡ Err (Checks place)
   changed i v m k n = bad_checks_lem place (set block i v) (λ s. n (by s (dec_lt i checked_length)))
     where
       by : checks_right (set block i v) ≡ true → Dec (i < checked_length) → v ≡ get_or block i 0
@@ -210,7 +211,7 @@ module _ (place : ℕ) (block : List ℕ) (l : length block ≡ block_length) (h
 
   -- two neighbours
   pub swapped : (i : ℕ) → suc i < checked_length → (get_or block i 0 ≡ get_or block (suc i) 0 → ⊥)
-      → block_test place (exchanged block i (suc i)) ≡ Refused (Checks place)
+      → block_test place (exchanged block i (suc i)) ≡ Err (Checks place)
   swapped i m n =
       bad_checks_lem place (exchanged block i (suc i)) (λ s. n
       (let b : i < checked_length = omega arith in

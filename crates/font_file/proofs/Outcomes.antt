@@ -12,7 +12,7 @@ use Rattle.limits.specs.Limits.{font_length, font_file_length}
 use Rattle.refusals.specs.declared.FileRefusal.{FileRefusal}
 use Rattle.refusals.specs.declared.FileRefusal.TheVariants.{Length}
 use Rattle.refusals.specs.Refusals.{place_in, accepted, file_refused}
-use Rattle.font_file.specs.declared.FileAnswer.TheVariants.{Done, Refused}
+use Rattle.std.specs.Prelude.{Ok, Err}
 use Rattle.font_file.specs.FontFile.{block_count, last_block, file_of, blocks_test, font_in, lengths_fit, WriteOutcome, written_by, write_font, ReadOutcome, read_by, read_font}
 use Rattle.font_file.proofs.Files.{blocks_read, by_place, font-long}
 
@@ -22,17 +22,17 @@ module _ (P : WriteOutcome → Type 0) (font file : List ℕ) where
   unfolding write_font written_by
   write_cases done bad = by (lengths_fit font file) refl
     where
-      by : (t : Bool) → lengths_fit font file ≡ t → P (written_by (cond (not t) (Refused Length) Done) font file)
+      by : (t : Bool) → lengths_fit font file ≡ t → P (written_by (cond (not t) (Err Length) (Ok tt)) font file)
       by true e = let (f, l) = and_both _ _ e in done (eqb-true _ _ f) (eqb-true _ _ l)
       by false e = bad
 
 module _ (P : ReadOutcome → Type 0) (file font : List ℕ) where
-  pub read_cases : (length font ≡ font_length → length file ≡ font_file_length → blocks_test block_count 0 file ≡ Done → P (record { font = font_in file; reply = accepted 0 }))
+  pub read_cases : (length font ≡ font_length → length file ≡ font_file_length → blocks_test block_count 0 file ≡ Ok tt → P (record { font = font_in file; reply = accepted 0 }))
       → ((r : FileRefusal) → place_in r ≤ last_block → P (record { font = font; reply = file_refused r })) → P (read_font file font)
   unfolding read_font read_by
   read_cases done bad = by (lengths_fit font file) refl
     where
-      by : (t : Bool) → lengths_fit font file ≡ t → P (read_by (cond (not t) (Refused Length) (blocks_test block_count 0 file)) file font)
+      by : (t : Bool) → lengths_fit font file ≡ t → P (read_by (cond (not t) (Err Length) (blocks_test block_count 0 file)) file font)
       by true e =
           let (f, l) = and_both _ _ e in
           by_place (λ v. blocks_test block_count 0 file ≡ v → P (read_by v file font)) block_count 0 file refl (done (eqb-true _ _ f) (eqb-true _ _ l)) (λ r h q. bad r h) refl

@@ -1,14 +1,12 @@
--- The sums: under a changed number, under two exchanged, and of zeros.
+-- The sums: under a changed number, under two exchanged.
 -- Assumes nothing.
 use Prim.Native.Nat.{ℕ, zero, suc, ◌+◌, ◌<◌}
-use mathlib.Core.Path.{◌≡◌, refl}
+use mathlib.Core.Path.{◌≡◌}
 use mathlib.Core.List.{List, [], ◌∷◌}
-use native.Mathlib.Nat.{zero-add, suc-mul, not-suc-le-zero}
+use native.Mathlib.Nat.{suc-mul, not-suc-le-zero}
 use native.Mathlib.Omega.{arith}
-use borrow.Author.Tests.{ne_eqb}
-use lib.Dec.{eqb}
 use lib.ListN.{length, get_or, set}
-use Rattle.font_file.specs.FontFile.{sum, weighted_sum, all_zero}
+use Rattle.font_file.specs.FontFile.{sum, weighted_sum}
 use Rattle.font_file.specs.Checked.{exchanged}
 
 -- one number changed: the sum changes by as much
@@ -26,10 +24,3 @@ weighted_exchanged [] k i h = absurd (not-suc-le-zero h)
 weighted_exchanged (x ∷ []) k i h = absurd (omega arith)
 weighted_exchanged (x ∷ y ∷ xs) k zero h = omega (arith, suc-mul k x, suc-mul k y)
 weighted_exchanged (x ∷ y ∷ xs) k (suc i) h = omega (arith, weighted_exchanged (y ∷ xs) (suc k) i (omega arith))
-
--- all are zero exactly if their sum is
-pub zero-sum : (bytes : List ℕ) → eqb (sum bytes) 0 ≡ all_zero bytes
-unfolding sum all_zero
-zero-sum [] = refl
-zero-sum (zero ∷ bytes) = rw zero-add (zero-sum bytes)
-zero-sum (suc b ∷ bytes) = rw (ne_eqb (suc b) 0 (λ e. omega arith), ne_eqb (suc b + sum bytes) 0 (λ e. omega arith))

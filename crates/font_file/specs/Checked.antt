@@ -1,12 +1,11 @@
 -- Document 02, K8: what a font file is for, as a claim about writing and reading.
 -- Assumes nothing.
-use Rattle.std.specs.Prelude.{ℕ, ◌+◌, ◌*◌, ◌/◌, ◌%◌, ◌≤◌, ◌<◌, ◌≡◌, false, List, [], ◌∷◌, ◌++◌, length, get_or, set, take, drop, replicate}
+use Rattle.std.specs.Prelude.{ℕ, ◌+◌, ◌*◌, ◌/◌, ◌%◌, ◌≤◌, ◌<◌, ◌≡◌, false, List, [], ◌∷◌, ◌++◌, length, get_or, set, take, drop, replicate, Ok, Err}
 use Rattle.buffers.specs.Buffers.{Bytes}
 use Rattle.limits.specs.Limits.{font_length, font_file_length}
 use Rattle.refusals.specs.declared.FileRefusal.{FileRefusal}
 use Rattle.refusals.specs.declared.FileRefusal.TheVariants.{Length, Checks}
 use Rattle.refusals.specs.Refusals.{accepted, file_refused}
-use Rattle.font_file.specs.declared.FileAnswer.TheVariants.{Done, Refused}
 use Rattle.font_file.specs.FontFile.{block_count, last_block, block_length, heading_length, payload_length, content_of, with_checks, block_test, lengths_fit, write_font, ReadOutcome, read_font}
 
 -- the list with what stands at i and at j exchanged
@@ -61,10 +60,10 @@ pub record FontFiles : Type 0 where
       → (write_font font file ≡ record { file = file; reply = file_refused Length }) × (read_font file font ≡ record { font = font; reply = file_refused Length })
   -- the first bad block is named: what its tests find is the answer, whatever stands in later blocks
   pub first_bad : (file buffer : List ℕ) (p : ℕ) (r : FileRefusal) → length file ≡ font_file_length → length buffer ≡ font_length → p < block_count
-      → ((q : ℕ) → q < p → block_test q (block_at q file) ≡ Done) → block_test p (block_at p file) ≡ Refused r
+      → ((q : ℕ) → q < p → block_test q (block_at q file) ≡ Ok tt) → block_test p (block_at p file) ≡ Err r
       → read_font file buffer ≡ record { font = buffer; reply = file_refused r }
   -- and a file whose blocks all pass is accepted
   pub all_good : (file buffer : List ℕ) → length file ≡ font_file_length → length buffer ≡ font_length
-      → ((q : ℕ) → q < block_count → block_test q (block_at q file) ≡ Done) → (read_font file buffer).reply ≡ accepted 0
+      → ((q : ℕ) → q < block_count → block_test q (block_at q file) ≡ Ok tt) → (read_font file buffer).reply ≡ accepted 0
   -- 16 and 17 come with the block's place, 0 to 9: no answer has a larger number beside it
   pub place_range : (file buffer : List ℕ) → (read_font file buffer).reply.value ≤ last_block

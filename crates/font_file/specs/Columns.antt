@@ -2,7 +2,7 @@
 -- writing and reading promise does not speak of it.
 -- Assumes nothing.
 use Rattle.std.specs.Prelude.{ℕ, zero, suc, ◌+◌, List, get_or, drop}
-use Rattle.font_file.specs.declared.Column.{Column}
+use Rattle.font_file.specs.declared.CheckSums.{CheckSums}
 
 abbrev pub column_count : ℕ
 column_count = 72
@@ -20,5 +20,5 @@ unfoldable pub column_weighted : (rows : ℕ) (bytes : List ℕ) → ℕ
 column_weighted zero bytes = 0
 column_weighted (suc rows) bytes = column_sum rows (drop column_count bytes) + column_weighted rows (drop column_count bytes)
 
-abbrev pub column_of : (rows : ℕ) (bytes : List ℕ) → Column
+abbrev pub column_of : (rows : ℕ) (bytes : List ℕ) → CheckSums
 column_of rows bytes = record { sum = column_sum rows bytes; weighted = column_weighted rows bytes }

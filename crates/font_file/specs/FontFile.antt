@@ -8,14 +8,14 @@
 --   508, 509  check: the sum of bytes 0 to 507, modulo 65,536
 --   510, 511  check: the sum of each of them times its position counted from 1, modulo 65,536
 -- Assumes nothing.
-use Rattle.std.specs.Prelude.{ℕ, zero, suc, ◌+◌, ◌-◌, ◌*◌, ◌%◌, Bool, true, not, cond, ◌&&◌, List, [], ◌∷◌, ◌++◌, eqb, length, take, drop, replicate}
+use Rattle.std.specs.Prelude.{ℕ, zero, suc, ◌+◌, ◌-◌, ◌*◌, ◌%◌, Bool, not, cond, ◌&&◌, List, [], ◌∷◌, ◌++◌, eqb, length, take, drop, replicate, Result, Ok, Err}
+use Rattle.std.specs.List.{list_all}
 use Rattle.limits.specs.Limits.{font_length, font_file_length}
 use Rattle.buffers.specs.Buffers.{word, word_bytes}
+use Rattle.refusals.specs.declared.FileRefusal.{FileRefusal}
 use Rattle.refusals.specs.declared.FileRefusal.TheVariants.{Length, Checks, Format}
-use Rattle.refusals.specs.Refusals.{Reply, accepted, file_refused}
+use Rattle.refusals.specs.Refusals.{Reply, accepted, file_refused, reply_of}
 use Rattle.font_file.specs.declared.CheckSums.{CheckSums}
-use Rattle.font_file.specs.declared.FileAnswer.{FileAnswer}
-use Rattle.font_file.specs.declared.FileAnswer.TheVariants.{Done, Refused}
 
 -- ---- lengths
 
@@ -96,8 +96,7 @@ checks_right block =
 
 -- every byte is 0
 unfoldable pub all_zero : List ℕ → Bool
-all_zero [] = true
-all_zero (b ∷ bytes) = eqb b 0 && all_zero bytes
+all_zero bytes = list_all (λ b. eqb b 0) bytes
 
 -- the unused bytes of the block at this place
 abbrev pub unused_in : (place : ℕ) (block : List ℕ) → List ℕ
@@ -108,20 +107,20 @@ unfoldable pub format_right : (place : ℕ) (block : List ℕ) → Bool
 format_right place block = eqb (word block 0) place && (eqb (word block 2) (used_length place) && all_zero (unused_in place block))
 
 -- each block is tested for 16 and then 17, which come with its place
-unfoldable pub block_test : (place : ℕ) (block : List ℕ) → FileAnswer
+unfoldable pub block_test : (place : ℕ) (block : List ℕ) → Result (Unit {0}) FileRefusal
 block_test place block =
-    cond (not (checks_right block)) (Refused (Checks place))
-    (cond (not (format_right place block)) (Refused (Format place))
-    Done)
+    cond (not (checks_right block)) (Err (Checks place))
+    (cond (not (format_right place block)) (Err (Format place))
+    (Ok tt))
 
 -- what a test finds; where it finds no fault, the later tests decide
-unfoldable pub or_later : FileAnswer → FileAnswer → FileAnswer
-or_later Done later = later
-or_later (Refused r) later = Refused r
+unfoldable pub or_later : Result (Unit {0}) FileRefusal → Result (Unit {0}) FileRefusal → Result (Unit {0}) FileRefusal
+or_later (Ok _) later = later
+or_later (Err r) later = Err r
 
 -- so many blocks in turn, from this place on
-unfoldable pub blocks_test : (count place : ℕ) (file : List ℕ) → FileAnswer
-blocks_test zero place file = Done
+unfoldable pub blocks_test : (count place : ℕ) (file : List ℕ) → Result (Unit {0}) FileRefusal
+blocks_test zero place file = Ok tt
 blocks_test (suc count) place file = or_later (block_test place (take block_length file)) (blocks_test count (suc place) (drop block_length file))
 
 -- the bytes of font in so many blocks, from this place on
@@ -141,12 +140,11 @@ abbrev pub lengths_fit : (font file : List ℕ) → Bool
 lengths_fit font file = eqb (length font) font_length && eqb (length file) font_file_length
 
 -- an answer as document 02 has it
-abbrev pub file_reply : FileAnswer → Reply
-file_reply Done = accepted 0
-file_reply (Refused r) = file_refused r
+abbrev pub file_reply : Result (Unit {0}) FileRefusal → Reply
+file_reply = reply_of (λ _. 0) file_refused
 
-abbrev pub length_test : (font file : List ℕ) → FileAnswer → FileAnswer
-length_test font file later = cond (not (lengths_fit font file)) (Refused Length) later
+abbrev pub length_test : (font file : List ℕ) → Result (Unit {0}) FileRefusal → Result (Unit {0}) FileRefusal
+length_test font file later = cond (not (lengths_fit font file)) (Err Length) later
 
 -- the file buffer after a call that writes, and the answer
 pub record WriteOutcome : Type 0 where
@@ -154,13 +152,13 @@ pub record WriteOutcome : Type 0 where
   pub reply : Reply
 
 -- by what the tests find
-unfoldable pub written_by : FileAnswer → (font file : List ℕ) → WriteOutcome
-written_by Done font file = record { file = file_of font; reply = accepted 0 }
-written_by (Refused r) font file = record { file = file; reply = file_refused r }
+unfoldable pub written_by : Result (Unit {0}) FileRefusal → (font file : List ℕ) → WriteOutcome
+written_by (Ok _) font file = record { file = file_of font; reply = accepted 0 }
+written_by (Err r) font file = record { file = file; reply = file_refused r }
 
 -- a font, and the file buffer at entry
 unfoldable pub write_font : (font file : List ℕ) → WriteOutcome
-write_font font file = written_by (length_test font file Done) font file
+write_font font file = written_by (length_test font file (Ok tt)) font file
 
 -- the font buffer after a call that reads, and the answer
 pub record ReadOutcome : Type 0 where
@@ -168,9 +166,9 @@ pub record ReadOutcome : Type 0 where
   pub reply : Reply
 
 -- by what the tests find
-unfoldable pub read_by : FileAnswer → (file font : List ℕ) → ReadOutcome
-read_by Done file font = record { font = font_in file; reply = accepted 0 }
-read_by (Refused r) file font = record { font = font; reply = file_refused r }
+unfoldable pub read_by : Result (Unit {0}) FileRefusal → (file font : List ℕ) → ReadOutcome
+read_by (Ok _) file font = record { font = font_in file; reply = accepted 0 }
+read_by (Err r) file font = record { font = font; reply = file_refused r }
 
 -- a file, and the font buffer at entry
 unfoldable pub read_font : (file font : List ℕ) → ReadOutcome

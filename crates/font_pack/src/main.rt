@@ -6,7 +6,6 @@ ghost use Rattle.limits.specs.Limits.{font_file_length};
 ghost use Rattle.font_file.specs.FontFile.{write_font};
 ghost use Rattle.depot.specs.Depot.{Packs};
 
-use font_file::FileAnswer;
 use std::io;
 use std::io::Write;
 
@@ -21,9 +20,8 @@ fn pack<W: Write>(out: &mut W, font: &[u8]) -> io::Result<()>
     ensures { OnOk result (Packs (W.contents out.old) (W.contents out.new) (write_font font.now (replicate font_file_length 0))) }
 {
     let mut file = [0u8; limits::FONT_FILE_LENGTH];
-    let answer = font_file::write(font, &mut file);
-    match answer {
-        FileAnswer::Done => out.write_all(&file),
-        FileAnswer::Refused(_) => depot::tell_not_font(out),
+    match font_file::write(font, &mut file) {
+        Ok(()) => out.write_all(&file),
+        Err(_) => depot::tell_not_font(out),
     }
 }

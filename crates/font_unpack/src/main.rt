@@ -6,7 +6,6 @@ ghost use Rattle.limits.specs.Limits.{font_length};
 ghost use Rattle.font_file.specs.FontFile.{read_font};
 ghost use Rattle.depot.specs.Depot.{Unpacks};
 
-use font_file::FileAnswer;
 use std::io;
 use std::io::Write;
 
@@ -21,9 +20,8 @@ fn unpack<W: Write>(out: &mut W, file: &[u8]) -> io::Result<()>
     ensures { OnOk result (Unpacks (W.contents out.old) (W.contents out.new) (read_font file.now (replicate font_length 0))) }
 {
     let mut font = [0u8; limits::FONT_LENGTH];
-    let answer = font_file::read(file, &mut font);
-    match answer {
-        FileAnswer::Done => out.write_all(&font),
-        FileAnswer::Refused(refusal) => depot::tell(out, FileAnswer::Refused(refusal)),
+    match font_file::read(file, &mut font) {
+        Ok(()) => out.write_all(&font),
+        Err(refusal) => depot::tell(out, Err(refusal)),
     }
 }

@@ -1,8 +1,8 @@
 -- Document 01, "Codes and glyphs": what a code shows in a slice, and which cells that reads. A slice is 1 to 18; no line asks for another
 -- (`SlicesAsked` of `line`), so what these definitions give for another number is never shown.
 -- Assumes nothing.
-use Rattle.std.specs.Prelude.{ℕ, ◌+◌, ◌-◌, ◌*◌, ◌/◌, ◌%◌, ◌<◌, ◌≡◌, Bool, false, cond, List, eqb, ltb, length, get_or, take, drop}
-use Rattle.limits.specs.Limits.{ram_length, font_length, user_characters, user_length}
+use Rattle.std.specs.Prelude.{ℕ, ◌+◌, ◌-◌, ◌*◌, ◌/◌, ◌%◌, ◌<◌, ◌≡◌, Bool, false, cond, List, eqb, ltb, get_or, take, drop}
+use Rattle.limits.specs.Limits.{user_characters, user_length}
 use Rattle.cells.specs.Reading.{slice, Reading, done, read}
 use Rattle.raster.specs.declared.Slice.{Slice}
 
@@ -74,11 +74,6 @@ bits_of = of_bytes twelve
 unfoldable pub slice_part : (ram fnt : List ℕ) (high s : ℕ) → List ℕ
 slice_part ram fnt high s =
     cond (from_font high) (take 2 (drop (font_byte (number_in high) s) fnt)) (take 2 (drop (user_cell (number_in high) s) ram))
-
--- the RAM and the font are lent at their lengths
-pub record Lent (ram fnt : List ℕ) : Type 0 where
-  pub ram-length : length ram ≡ ram_length
-  pub font-length : length fnt ≡ font_length
 
 -- a character with slices: of the font, or a user character 0 to 25
 abbrev pub HasSlices : (high : ℕ) → Type 0

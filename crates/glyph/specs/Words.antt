@@ -1,6 +1,6 @@
 -- What a row's codes show, as the words of their slices.
 -- Assumes nothing.
-use Rattle.std.specs.Prelude.{ℕ, ◌+◌, ◌*◌, List, length}
+use Rattle.std.specs.Prelude.{ℕ, ◌+◌, ◌*◌, cond, List, length, Option, Some, None}
 use Rattle.cells.specs.Reading.{value, cells}
 use Rattle.raster.specs.declared.Slice.{Slice}
 use Rattle.glyph.specs.declared.Word.{Word}
@@ -14,7 +14,8 @@ in_order first second = second * 256 + first
 abbrev pub word_of : (fnt : List ℕ) → Glyph → ℕ
 word_of = of_bytes in_order
 
--- a code's word in a slice, how many cells that read, and is it the end of line?
-unfoldable pub word_in : (ram fnt : List ℕ) (high : ℕ) → Slice → Word
+-- a code's word in a slice, and how many cells that read; nothing at the end of line
+unfoldable pub word_in : (ram fnt : List ℕ) (high : ℕ) → Slice → Option Word
 word_in ram fnt high s =
-    record { bits = word_of fnt (value ram (glyph_of high s)); cells = length (cells ram (glyph_of high s)); ends = ends_line high }
+    cond (ends_line high) None
+    (Some (record { bits = word_of fnt (value ram (glyph_of high s)); cells = length (cells ram (glyph_of high s)) }))

@@ -1,11 +1,11 @@
-#![tactic(auto)]
+#![tactic(auto, unfolding(crate::specs::Cells::user_slice))]
 // Character codes and glyphs: which two bytes a code shows in a slice.
 ghost use Rattle.std.specs.Prelude.{◌≡◌, ◌<◌, length};
 ghost use Rattle.limits.specs.Limits.{ram_length};
-ghost use Rattle.glyph.specs.Glyph.{ends_line, slice_part, Lent, HasSlices};
+ghost use Rattle.glyph.specs.Glyph.{ends_line, slice_part, HasSlices};
 ghost use Rattle.raster.specs.Raster.{OnScreen};
 ghost use Rattle.raster.specs.Search.{InCharacter};
-ghost use Rattle.glyph.specs.Words.{in_order, word_in};
+ghost use Rattle.glyph.specs.Words.{word_in};
 ghost use Rattle.glyph.specs.Cells.{of_user, user_high, user_slice};
 
 use raster::Slice;
@@ -21,8 +21,12 @@ pub fn ends_line(high: u8) -> bool
 }
 
 // The two bytes of a slice: a part of the lent RAM or of the lent font, chosen by SET.
-pub fn slice_bytes<'a>(ram: &'a [u8], font: &'a [u8], high: u8, slice: Slice) -> &'a [u8]
-    requires lent { Lent ram.now font.now }
+pub fn slice_bytes<'a>(
+    ram: &'a [u8; limits::RAM_LENGTH],
+    font: &'a [u8; limits::FONT_LENGTH],
+    high: u8,
+    slice: Slice,
+) -> &'a [u8]
     requires has_slices { HasSlices high }
     requires on_screen { OnScreen slice }
     ensures part { result.now ≡ slice_part ram.now font.now high slice.0 }
@@ -32,55 +36,49 @@ pub fn slice_bytes<'a>(ram: &'a [u8], font: &'a [u8], high: u8, slice: Slice) ->
     let s = slice.0 as usize;
     if high / 128 % 2 == 0 {
         let a = 36 * number + 2 * (s - 1);
-        let e = a + 2;
-        return &font[a..e];
+        return &font[a..a + 2];
     }
     let a = limits::USER_LENGTH as usize * number + 2 * s;
-    let e = a + 2;
-    &ram[a..e]
+    &ram[a..a + 2]
 }
 
-// A code's slice as it lies there, two bytes with PX11 to PX0 in the low bits; how many cells that read; is it the end of line?
-#[derive(Clone, Copy)]
+// A code's slice as it lies there, two bytes with PX11 to PX0 in the low bits; how many cells that read.
+#[derive(Clone, Copy, Debug, PartialEq, Eq)]
 pub struct Word {
     pub bits: u16,
     pub cells: u32,
-    pub ends: bool,
 }
 
-fn two_bytes(first: u8, second: u8) -> u16
-    ensures { result ≡ in_order first second }
-{
-    second as u16 * 256 + first as u16
-}
-
-// What a code's high byte shows in a slice. With SET, numbers 26 to 126 are blank. Font codes come most often and are tested first.
-pub fn lookup<'a>(ram: &'a [u8], font: &'a [u8], high: u8, slice: Slice) -> Word
-    requires lent { Lent ram.now font.now }
-    requires on_screen { OnScreen slice }
+// What a code's high byte shows in a slice; nothing at the end of line. With SET, numbers 26 to 126 are blank. Font codes come most often
+// and are tested first.
+#[tactic(auto, using(crate::proofs::Laws::word_font, crate::proofs::Laws::word_user, crate::proofs::Laws::word_blank, crate::proofs::Laws::word_end))]
+pub fn lookup(
+    ram: &[u8; limits::RAM_LENGTH],
+    font: &[u8; limits::FONT_LENGTH],
+    high: u8,
+    slice: Slice,
+) -> Option<Word>
+    requires { OnScreen slice }
     ensures { result ≡ word_in ram.now font.now high slice }
 {
     if high < 128 {
         let part = slice_bytes(ram, font, high, slice);
-        return Word {
-            bits: two_bytes(part[0], part[1]),
+        return Some(Word {
+            bits: u16::from_le_bytes([part[0], part[1]]),
             cells: 0,
-            ends: false,
-        };
+        });
     }
     if high < BLANK_FROM {
         let part = slice_bytes(ram, font, high, slice);
-        return Word {
-            bits: two_bytes(part[0], part[1]),
+        return Some(Word {
+            bits: u16::from_le_bytes([part[0], part[1]]),
             cells: 2,
-            ends: false,
-        };
+        });
     }
-    Word {
-        bits: 0,
-        cells: 0,
-        ends: ends_line(high),
+    if ends_line(high) {
+        return None;
     }
+    Some(Word { bits: 0, cells: 0 })
 }
 
 // Is a cell one of a user character's?

@@ -4,7 +4,7 @@ ghost use Rattle.std.specs.Prelude.{◌≡◌};
 ghost use Rattle.refusals.specs.Refusals.{refused};
 ghost use Rattle.interface.specs.Interface.{answer_of};
 
-use refusals::Refusal;
+use refusals::{Numbered, Refusal};
 
 // A value has 16 bits.
 pub const VALUE_BOUND: u32 = 65536;

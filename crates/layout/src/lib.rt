@@ -54,12 +54,12 @@ fn state_of(number: u8, held: u8) -> BusState
     ensures { result ≡ state_of number held }
 {
     match number {
-        1 => BusState::Deaf,
+        DEAF => BusState::Deaf,
         2 => BusState::Slave,
         3 => BusState::High,
         4 => BusState::Low(held),
-        5 => BusState::Write,
-        6 => BusState::Read,
+        WRITING => BusState::Write,
+        READING => BusState::Read,
         _ => BusState::Idle,
     }
 }
@@ -82,13 +82,8 @@ fn held_high(state: BusState) -> u8
     ensures { result ≡ held_high state }
 {
     match state {
-        BusState::Idle => 0,
-        BusState::Deaf => 0,
-        BusState::Slave => 0,
-        BusState::High => 0,
         BusState::Low(held) => held,
-        BusState::Write => 0,
-        BusState::Read => 0,
+        _ => 0,
     }
 }
 
@@ -121,18 +116,23 @@ fn put_bus(device: &mut [u8], number: u8, held: u8, counter: u16)
     requires { length device.old ≡ record_length }
     ensures { device.new ≡ put bus_at (number ∷ held ∷ word_bytes counter) device.old }
 {
+    let [low, high] = counter.to_le_bytes();
     device[BUS_AT] = number;
     device[BUS_AT + 1] = held;
-    device[BUS_AT + 2] = (counter % 256) as u8;
-    device[BUS_AT + 3] = (counter / 256) as u8;
+    device[BUS_AT + 2] = low;
+    device[BUS_AT + 3] = high;
 }
 
 pub fn write_bus(device: &mut [u8], bus: Bus)
     requires { length device.old ≡ record_length }
     ensures { device.new ≡ put_bus bus device.old }
 {
-    let state = bus.state;
-    put_bus(device, state_number(state), held_high(state), bus.counter);
+    put_bus(
+        device,
+        state_number(bus.state),
+        held_high(bus.state),
+        bus.counter,
+    );
 }
 
 // ---- the registers
@@ -157,8 +157,7 @@ fn write_registers(device: &mut [u8], registers: Registers)
     requires { length device.old ≡ record_length }
     ensures { device.new ≡ put_registers registers device.old }
 {
-    let bytes = registers.bytes;
-    buffers::put(device, REGISTERS_AT, &bytes);
+    buffers::put(device, REGISTERS_AT, &registers.bytes);
 }
 
 // ---- the frame
@@ -170,7 +169,7 @@ fn strip_in(kind: u8, lines: u8, address: u16, line: u16) -> Strip
         return Strip::Spacing { left: lines };
     }
     Strip::Characters {
-        address: address,
+        address,
         height: lines,
         zoom: kind / 2 % 2 == 1,
         enabled: kind / 4 % 2 == 1,
@@ -205,16 +204,13 @@ fn frame_of(device: &[u8]) -> Frame
 fn kind_of(zoom: bool, enabled: bool) -> u8
     ensures { (result ≡ 1 + cond zoom 2 0 + cond enabled 4 0) × (result < 8) }
 {
-    if zoom {
-        return if enabled { 7 } else { 3 };
-    }
-    if enabled { 5 } else { 1 }
+    1 + 2 * u8::from(zoom) + 4 * u8::from(enabled)
 }
 
 fn plain_bit(plain: bool) -> u8
     ensures { (result ≡ cond plain 8 0) × (result ≤ 8) }
 {
-    if plain { 8 } else { 0 }
+    8 * u8::from(plain)
 }
 
 fn pack(plain: bool, strip: Strip) -> Packed
@@ -236,7 +232,7 @@ fn pack(plain: bool, strip: Strip) -> Packed
         } => Packed {
             kind: kind_of(zoom, enabled) + plain_bit(plain),
             lines: height,
-            address: address,
+            address,
             line: line.0,
         },
     }
@@ -246,19 +242,22 @@ fn pack(plain: bool, strip: Strip) -> Packed
 fn frame_bytes(frame: Frame, strip: Packed) -> [u8; FRAME_LENGTH]
     ensures { result ≡ frame_with frame strip }
 {
-    let walk = frame.walk;
+    let [left, left_high] = frame.left.to_le_bytes();
+    let [descriptor, descriptor_high] = frame.walk.descriptor.to_le_bytes();
+    let [address, address_high] = strip.address.to_le_bytes();
+    let [line, line_high] = strip.line.to_le_bytes();
     [
         frame.number,
-        (frame.left % 256) as u8,
-        (frame.left / 256) as u8,
-        (walk.descriptor % 256) as u8,
-        (walk.descriptor / 256) as u8,
+        left,
+        left_high,
+        descriptor,
+        descriptor_high,
         strip.kind,
         strip.lines,
-        (strip.address % 256) as u8,
-        (strip.address / 256) as u8,
-        (strip.line % 256) as u8,
-        (strip.line / 256) as u8,
+        address,
+        address_high,
+        line,
+        line_high,
     ]
 }
 
@@ -266,9 +265,7 @@ pub fn write_frame(device: &mut [u8], frame: Frame)
     requires { length device.old ≡ record_length }
     ensures { device.new ≡ put_frame frame device.old }
 {
-    let walk = frame.walk;
-    let strip = walk.strip;
-    let bytes = frame_bytes(frame, pack(walk.plain, strip));
+    let bytes = frame_bytes(frame, pack(frame.walk.plain, frame.walk.strip));
     buffers::put(device, FRAME_AT, &bytes);
 }
 
@@ -299,12 +296,9 @@ pub fn write_device(device: &mut [u8], whole: Device)
     requires { length device.old ≡ record_length }
     ensures { device.new ≡ device_bytes whole }
 {
-    let bus = whole.bus;
-    let registers = whole.registers;
-    let frame = whole.frame;
-    write_bus(device, bus);
-    write_registers(device, registers);
-    write_start(device, whole.next, frame);
+    write_bus(device, whole.bus);
+    write_registers(device, whole.registers);
+    write_start(device, whole.next, whole.frame);
 }
 
 // ---- the feed's record, in 2 bytes of its own

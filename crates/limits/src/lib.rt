@@ -39,8 +39,5 @@ pub const FIRST_REGISTER: u16 = 0x3FF0;
 pub fn bad_line_count(lines: u32) -> bool
     ensures { result ≡ bad_line_count lines }
 {
-    if lines == 0 {
-        return true;
-    }
-    lines > FRAME_LINES
+    lines == 0 || lines > FRAME_LINES
 }

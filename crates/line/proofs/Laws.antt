@@ -14,7 +14,8 @@ use Rattle.registers.specs.Registers.{settings_of}
 use Rattle.registers.proofs.Laws.{fbk_bound}
 use Rattle.raster.specs.Raster.{width_of, first_pixel_of, hidden_in}
 use Rattle.paint.specs.Pixels.{plain_of}
-use Rattle.paint.proofs.Laws.{Pixels, pixels_at, pixels-append, pixels-take, pixels-replicate, twelve-length, twelve-pixels}
+use Rattle.paint.proofs.Laws.{Below, Pixels, pixels_at, twelve-length, twelve-pixels}
+use Rattle.std.proofs.lemmas.List.Elements.{All-append, All-replicate, All-take}
 use Rattle.line.specs.Line.{Place, shown_of, character, painted, paint}
 
 -- ---- the width
@@ -67,19 +68,19 @@ module _ (font : List ℕ) (plain : ℕ) (hidden : Bool) (before room : ℕ) (p 
 painted-pixels : (font : List ℕ) (plain : ℕ) (hidden : Bool) (before room : ℕ) (ps : List Place) → plain < 16
     → Pixels (painted font plain hidden before room ps)
 unfolding painted character
-painted-pixels font plain hidden before room [] h = pixels-replicate room plain h
+painted-pixels font plain hidden before room [] h = All-replicate (Below 16) room plain h
 painted-pixels font plain hidden before room (p ∷ ps) h =
-    pixels-append (pixels-take room (twelve-pixels plain p.low before (shown_of font hidden p) h))
+    All-append (Below 16) _ _ (All-take (Below 16) room _ (twelve-pixels plain p.low before (shown_of font hidden p) h))
     (painted-pixels font plain hidden (shown_of font hidden p) (room - 12) ps h)
 
 paint-pixels : (s : Settings) (font : List ℕ) (f : ℕ) (row : List Place) → s.fbk < 2 → Pixels (paint s font f row)
 unfolding paint
 paint-pixels s font f row h =
     either Pixels s.osd _ _
-    (pixels-append (pixels-replicate (min (first_pixel_of s.dd) (width_of s.ld)) (plain_of s.fbk) (omega arith))
+    (All-append (Below 16) _ _ (All-replicate (Below 16) (min (first_pixel_of s.dd) (width_of s.ld)) (plain_of s.fbk) (omega arith))
     (painted-pixels font (plain_of s.fbk) (hidden_in s.fl f) 0 (width_of s.ld - first_pixel_of s.dd) row (omega arith)))
-    (pixels-replicate (width_of s.ld) 0 (omega arith))
+    (All-replicate (Below 16) (width_of s.ld) 0 (omega arith))
 
 -- each pixel of a line is below 16
 pub paint-below : (r : Registers) (font : List ℕ) (f : ℕ) (row : List Place) (i : ℕ) → get_or (paint (settings_of r) font f row) i 0 < 16
-paint-below r font f row = pixels_at (paint-pixels (settings_of r) font f row (fbk_bound r))
+paint-below r font f row = pixels_at _ (paint-pixels (settings_of r) font f row (fbk_bound r))

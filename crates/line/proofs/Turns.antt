@@ -4,11 +4,12 @@ use Prim.Native.Nat.{ℕ, zero, suc, ◌+◌, ◌-◌, ◌/◌, ◌%◌, ◌≤�
 use mathlib.Core.Path.{◌≡◌, refl, sym, ap, ap₂, ◌∙◌}
 use mathlib.Core.List.{List, [], ◌∷◌, ◌++◌, append-nil, append_assoc}
 use native.Mathlib.Omega.{arith}
-use mathlib.Core.Bool.{Bool, true, false, true≢false}
+use mathlib.Core.Bool.{Bool, true, false}
 use mir.Syntax.{w32}
 use mir.Val.{Fits}
 use lib.ListN.{length, get_or, take, drop, replicate, length-append, length-take, take-append-drop}
 use borrow.Rule.Slice.PartMut.{put_mid, same_len_mid, Post-is, mid_len, drop_put}
+use Rattle.std.specs.Prelude.{is_none, Some, None}
 use Rattle.limits.specs.Limits.{line_max}
 use Rattle.raster.proofs.Laws.{characters_more}
 use borrow.Author.Tests.{eqb-true}
@@ -21,7 +22,7 @@ use Rattle.glyph.specs.declared.Word.{Word}
 use Rattle.glyph.specs.Glyph.{ends_line, glyph_of, in_ram}
 use Rattle.glyph.specs.Words.{word_in}
 use Rattle.glyph.proofs.Cells.{glyph-most}
-use Rattle.glyph.proofs.Laws.{word_low}
+use Rattle.glyph.proofs.Laws.{word_on, word-reads, none_end, word_low}
 use Rattle.paint.specs.declared.Drawn.{Drawn}
 use Rattle.paint.specs.Tables.{column_pixels, CharacterDrawn}
 use Rattle.line.specs.declared.Pen.{Pen}
@@ -42,39 +43,41 @@ no_slice : (high : ℕ) (s : Slice) (ram : List ℕ) → ends_line high ≡ true
 unfolding glyph_of in_ram cells
 no_slice high s ram e = rw (eqb-true high 255 e)
 
--- a code whose word was looked up
-module _ (ram font : List ℕ) (at : ℕ) (pen : Pen) (w : Word) (h : w ≡ word_in ram font (get_or ram (at + 1) 0) pen.slice) where
-  ends-line : w.ends ≡ ends_line (get_or ram (at + 1) 0)
-  unfolding word_in
-  ends-line = ap (λ (x : Word). x.ends) h
-
-  word-reads : w.cells ≡ length (cells ram (glyph_of (get_or ram (at + 1) 0) pen.slice))
-  unfolding word_in
-  word-reads = ap (λ (x : Word). x.cells) h
-
-  -- the count of its cells fits
-  pub word_fits : Fits w32 (2 + w.cells)
-  word_fits = omega (arith, word-reads, glyph-most (get_or ram (at + 1) 0) pen.slice ram)
+module _ (ram font : List ℕ) (at : ℕ) (pen : Pen) where
+  abbrev high : ℕ
+  high = get_or ram (at + 1) 0
 
   -- the end of line
-  pub code-ended : (before : ℕ) (drawn : Drawn) → w.ends ≡ true → CodeShown ram font at pen before (record { ended = true; cells = 2; drawn = drawn })
-  code-ended before drawn e =
-      let end : ends_line (get_or ram (at + 1) 0) ≡ true = sym ends-line ∙ e in
+  pub code_ended : (before : ℕ) → word_in ram font high pen.slice ≡ None → CodeShown ram font at pen before (record { cells = 2; drawn = None })
+  code_ended before h =
+      let end : ends_line high ≡ true = none_end ram font high pen.slice h in
       record {
         ends = sym end;
-        reads = omega (arith, no_slice (get_or ram (at + 1) 0) pen.slice ram end);
-        bits = λ n. absurd (true≢false n);
-        pixels = λ n. absurd (true≢false n);
+        reads = omega (arith, no_slice high pen.slice ram end);
+        bits = λ d e. absurd cc;
+        pixels = λ d e. absurd cc;
       }
 
-  -- a character, of the word's low twelve bits
-  pub code-shown : ((i : ℕ) → get_or ram i 0 < 256) → ((i : ℕ) → get_or font i 0 < 256) → w.ends ≡ false
-      → (before : ℕ) (drawn : Drawn) → CharacterDrawn pen.plain pen.hidden (get_or ram at 0) before (w.bits % 4096) drawn
-      → CodeShown ram font at pen before (record { ended = false; cells = 2 + w.cells; drawn = drawn })
-  unfolding word_in shown_of character
-  code-shown b f e before drawn d =
-      let shown = rw (ap (λ (x : Word). x.bits % 4096) h ∙ word_low ram font (get_or ram (at + 1) 0) pen.slice b f) at d in
-      record { ends = sym e ∙ ends-line; reads = ap (λ (n : ℕ). 2 + n) word-reads; bits = λ n. shown.bits; pixels = λ n. shown.pixels }
+  -- a code whose word was looked up
+  module _ (w : Word) (h : word_in ram font high pen.slice ≡ Some w) where
+    -- the count of its cells fits
+    pub word_fits : Fits w32 (2 + w.cells)
+    word_fits = omega (arith, word-reads ram font high pen.slice w h, glyph-most high pen.slice ram)
+
+    -- a character, of the word's low twelve bits
+    pub code_shown : ((i : ℕ) → get_or ram i 0 < 256) → ((i : ℕ) → get_or font i 0 < 256)
+        → (before : ℕ) (drawn : Drawn) → CharacterDrawn pen.plain pen.hidden (get_or ram at 0) before (w.bits % 4096) drawn
+        → CodeShown ram font at pen before (record { cells = 2 + w.cells; drawn = Some drawn })
+    unfolding shown_of character
+    code_shown b f before drawn d =
+        let shown = rw (word_low ram font high pen.slice b f w h) at d in
+        let same = λ (x : Drawn) (e : Some drawn ≡ Some x). (let q : drawn ≡ x = cc in q) in
+        record {
+          ends = sym (word_on ram font high pen.slice w h);
+          reads = ap (λ (n : ℕ). 2 + n) (word-reads ram font high pen.slice w h);
+          bits = λ x e. sym (ap (λ (y : Drawn). y.bits) (same x e)) ∙ shown.bits;
+          pixels = λ x e. sym (ap (λ (y : Drawn). column_pixels y.columns) (same x e)) ∙ shown.pixels;
+        }
 
 -- a row from an address is the row from the even address of its two bytes
 codes-even : (n : ℕ) (s : Slice) (a : ℕ) → codes n s (even a) ≡ codes n s a
@@ -239,47 +242,47 @@ module _ {ram font : List ℕ} {address : ℕ} {pen : Pen} {first w : ℕ} {out�
   long_enough = omega (arith, t.fits, t.upto.long)
 
   -- the line ends: the room is filled with plain
-  pub row-ended : c.ended ≡ true → (fill : List ℕ) → fill ≡ replicate (length (take (w - x) (drop x out))) pen.plain
+  pub row-ended : c.drawn ≡ None → (fill : List ℕ) → fill ≡ replicate (length (take (w - x) (drop x out))) pen.plain
       → RowDrawn ram font address pen first w out₀ (n + c.cells) (put_mid x (w - x) out fill)
   row-ended off fill f =
-      let end = sym t.code.ends ∙ off in
+      let end = sym t.code.ends ∙ ap is_none off in
       let here = room-ended ram font pen bits (w - x) a t.upto.paired (omega (arith, t.more)) end in
       last _ _ _ _ _ _ _ _ _ _ _ _ t.upto t.fits c.cells fill
       (f ∙ ap (λ (k : ℕ). replicate k pen.plain) (mid_len x w out long_enough) ∙ sym here.0)
       (omega (arith, here.1, t.code.reads, no_slice (get_or ram (a + 1) 0) pen.slice ram end))
 
-  module _ (on : c.ended ≡ false) where
+  module _ (d : Drawn) (on : c.drawn ≡ Some d) where
     twelve : List ℕ
     twelve = character font pen.plain pen.hidden bits (place_at ram pen a)
 
-    here : (room_of ram font pen bits (w - x) a ≡ take (w - x) twelve ++ room_of ram font pen c.drawn.bits (w - x - 12) (even (a + 2)))
+    here : (room_of ram font pen bits (w - x) a ≡ take (w - x) twelve ++ room_of ram font pen d.bits (w - x - 12) (even (a + 2)))
         × (length (cells ram (row_in pen (w - x) a)) ≡ c.cells + length (cells ram (row_in pen (w - x - 12) (even (a + 2)))))
     unfolding twelve
     here =
-        rw (t.code.bits on, t.code.reads)
-        (room_on ram font pen bits (w - x) a t.upto.paired (omega (arith, t.more)) (sym t.code.ends ∙ on))
+        rw (t.code.bits d on, t.code.reads)
+        (room_on ram font pen bits (w - x) a t.upto.paired (omega (arith, t.more)) (sym t.code.ends ∙ ap is_none on))
 
     long : length twelve ≡ 12
     unfolding twelve
     long = character-length font pen.plain pen.hidden bits (place_at ram pen a)
 
-    are_twelve : column_pixels c.drawn.columns ≡ twelve
+    are_twelve : column_pixels d.columns ≡ twelve
     unfolding twelve
-    are_twelve = t.code.pixels on
+    are_twelve = t.code.pixels d on
 
     -- a whole character is drawn
-    pub row-drawn : x + 12 ≤ w → (part : List ℕ) → part ≡ column_pixels c.drawn.columns
-        → RowUpTo ram font address pen first w out₀ (x + 12) (even (a + 2)) (n + c.cells) c.drawn.bits (put_mid x (x + 12 - x) out part)
+    pub row-drawn : x + 12 ≤ w → (part : List ℕ) → part ≡ column_pixels d.columns
+        → RowUpTo ram font address pen first w out₀ (x + 12) (even (a + 2)) (n + c.cells) d.bits (put_mid x (x + 12 - x) out part)
     row-drawn fit part p =
         let left : w - x - 12 ≡ w - (x + 12) = omega arith in
         let whole : take (w - x) twelve ≡ part = take_all (w - x) twelve (omega (arith, long)) ∙ sym (p ∙ are_twelve) in
-        written _ _ _ _ _ _ _ _ _ _ _ _ t.upto t.fits (x + 12) (even (a + 2)) c.cells c.drawn.bits part (omega arith) fit
+        written _ _ _ _ _ _ _ _ _ _ _ _ t.upto t.fits (x + 12) (even (a + 2)) c.cells d.bits part (omega arith) fit
         (omega (arith, ap length (p ∙ are_twelve), long)) (omega arith)
-        (here.0 ∙ ap₂ (λ (y : List ℕ) (k : ℕ). y ++ room_of ram font pen c.drawn.bits k (even (a + 2))) whole left)
+        (here.0 ∙ ap₂ (λ (y : List ℕ) (k : ℕ). y ++ room_of ram font pen d.bits k (even (a + 2))) whole left)
         (here.1 ∙ ap (λ (k : ℕ). c.cells + length (cells ram (row_in pen k (even (a + 2))))) left)
 
     -- the last character is cut
-    pub row_cut : w < x + 12 → (part : List ℕ) → part ≡ take (length (take (w - x) (drop x out))) (column_pixels c.drawn.columns)
+    pub row_cut : w < x + 12 → (part : List ℕ) → part ≡ take (length (take (w - x) (drop x out))) (column_pixels d.columns)
         → RowDrawn ram font address pen first w out₀ (n + c.cells) (put_mid x (w - x) out part)
     row_cut cut part p =
         let none : w - x - 12 ≡ 0 = omega arith in
@@ -287,6 +290,6 @@ module _ {ram font : List ℕ} {address : ℕ} {pen : Pen} {first w : ℕ} {out�
         (p
         ∙ ap₂ take (mid_len x w out long_enough) are_twelve
         ∙ sym (here.0
-        ∙ ap (λ (y : List ℕ). take (w - x) twelve ++ y) (no_room ram font pen c.drawn.bits (w - x - 12) (even (a + 2)) none)
+        ∙ ap (λ (y : List ℕ). take (w - x) twelve ++ y) (no_room ram font pen d.bits (w - x - 12) (even (a + 2)) none)
         ∙ append-nil (take (w - x) twelve)))
         (omega (arith, here.1, no_reads ram pen (w - x - 12) (even (a + 2)) none))

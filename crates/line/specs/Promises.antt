@@ -1,6 +1,6 @@
 -- What the line's functions promise of the bytes that they write and the cells that they read, in the definition's terms.
 -- Assumes nothing.
-use Rattle.std.specs.Prelude.{ℕ, ◌+◌, ◌-◌, min, ◌≡◌, List, ◌++◌, false, length, get_or, take, drop, replicate}
+use Rattle.std.specs.Prelude.{ℕ, ◌+◌, ◌-◌, min, ◌≡◌, List, ◌++◌, is_none, length, get_or, take, drop, replicate, Some}
 use Rattle.cells.specs.Reading.{Reading, value, cells}
 use Rattle.registers.specs.declared.Registers.{Registers}
 use Rattle.registers.specs.declared.Settings.{Settings}
@@ -8,11 +8,12 @@ use Rattle.registers.specs.Registers.{settings_of}
 use Rattle.raster.specs.Raster.{width_of, characters_in}
 use Rattle.walk.specs.declared.Strip.{Strip}
 use Rattle.walk.specs.declared.Walk.{Walk}
+use Rattle.walk.specs.declared.Walked.{Walked}
 use Rattle.glyph.specs.Glyph.{ends_line, glyph_of}
+use Rattle.paint.specs.declared.Drawn.{Drawn}
 use Rattle.paint.specs.Tables.{column_pixels}
 use Rattle.line.specs.declared.Pen.{Pen}
 use Rattle.line.specs.declared.Coded.{Coded}
-use Rattle.line.specs.declared.Line.{Line}
 use Rattle.line.specs.Line.{Place, codes, shown_row, scan, shown_of, character, painted, paint}
 
 -- what stands at the code of an even address
@@ -22,10 +23,10 @@ place_at ram pen a = record { low = get_or ram a 0; glyph = value ram (glyph_of 
 -- the code at an even address, after the bits that the character to its left shows: does it end the line, how many cells did it read, and which
 -- bits and columns does its character have?
 pub record CodeShown (ram font : List ℕ) (at : ℕ) (pen : Pen) (before : ℕ) (c : Coded) : Type 0 where
-  pub ends : c.ended ≡ ends_line (get_or ram (at + 1) 0)
+  pub ends : is_none c.drawn ≡ ends_line (get_or ram (at + 1) 0)
   pub reads : c.cells ≡ 2 + length (cells ram (glyph_of (get_or ram (at + 1) 0) pen.slice))
-  pub bits : c.ended ≡ false → c.drawn.bits ≡ shown_of font pen.hidden (place_at ram pen at)
-  pub pixels : c.ended ≡ false → column_pixels c.drawn.columns ≡ character font pen.plain pen.hidden before (place_at ram pen at)
+  pub bits : (d : Drawn) → c.drawn ≡ Some d → d.bits ≡ shown_of font pen.hidden (place_at ram pen at)
+  pub pixels : (d : Drawn) → c.drawn ≡ Some d → column_pixels d.columns ≡ character font pen.plain pen.hidden before (place_at ram pen at)
 
 -- the codes that there is room for; the pixels of that room, after the bits that the character to the left of it shows
 abbrev pub row_in : Pen → ℕ → ℕ → Reading (List Place)
@@ -50,7 +51,7 @@ pub record StripDrawn (ram font : List ℕ) (s : Settings) (strip : Strip) (f : 
   pub reads : n ≡ length (cells ram (shown_row s strip))
 
 -- a frame's next line; later bytes stay
-pub record LineDrawn (ram font : List ℕ) (r : Registers) (w : Walk) (f : ℕ) (out : List ℕ) (l : Line) (out' : List ℕ) : Type 0 where
+pub record LineDrawn (ram font : List ℕ) (r : Registers) (w : Walk) (f : ℕ) (out : List ℕ) (l : Walked) (out' : List ℕ) : Type 0 where
   pub pixels : out' ≡ paint (settings_of r) font f (value ram (scan (settings_of r) w)).row ++ drop (width_of (settings_of r).ld) out
   pub walk : l.walk ≡ (value ram (scan (settings_of r) w)).walk
   pub reads : l.cells ≡ length (cells ram (scan (settings_of r) w))

@@ -2,20 +2,20 @@
 // One scan line: what it reads, and its pixels.
 ghost use Rattle.std.specs.Prelude.{◌≡◌, ◌+◌, ◌≤◌, ◌<◌, min, ◌++◌, length, drop, replicate};
 ghost use Rattle.limits.specs.Limits.{ram_length, line_max};
+ghost use Rattle.buffers.specs.Buffers.{Bytes};
 ghost use Rattle.registers.specs.Registers.{settings_of};
 ghost use Rattle.raster.specs.Raster.{OnScreen, width_of};
 ghost use Rattle.walk.specs.Walk.{OnLine};
-ghost use Rattle.glyph.specs.Glyph.{Lent};
-ghost use Rattle.paint.specs.Tables.{IsPlain, row_table};
+ghost use Rattle.paint.specs.Tables.{IsPlain};
 ghost use Rattle.line.specs.Promises.{CodeShown, RowDrawn, CharactersDrawn, StripDrawn, LineDrawn};
 
-use paint::Drawn;
+use paint::{Drawn, RowTable};
 use raster::Slice;
 use registers::{Registers, Settings};
-use walk::{Strip, Walk};
+use walk::{Strip, Walk, Walked};
 
 // What is the same along a row of characters.
-#[derive(Clone, Copy)]
+#[derive(Clone, Copy, Debug, PartialEq, Eq)]
 pub struct Pen {
     pub slice: Slice,
     // the plain pixel
@@ -24,95 +24,23 @@ pub struct Pen {
     pub hidden: bool,
 }
 
-// A code: whether it ended the line, how many cells it read, and its character.
+// A row of characters: the RAM and the font that it is read from, where its codes start, and what it is drawn with.
 #[derive(Clone, Copy)]
-pub struct Coded {
-    pub ended: bool,
-    pub cells: u32,
-    pub drawn: Drawn,
-}
-
-// The walk after a line, and how many cells the line read.
-#[derive(Clone, Copy)]
-pub struct Line {
-    pub walk: Walk,
-    pub cells: u16,
-}
-
-// The code at an even address, after the bits that the character to its left shows.
-fn code_at<'a>(
-    ram: &'a [u8],
-    font: &'a [u8],
-    table: &[u32],
-    at: usize,
-    pen: Pen,
-    before: u32,
-) -> Coded
-    requires table_value { table.now ≡ row_table pen.plain pen.hidden }
-    requires lent { Lent ram.now font.now }
-    requires on_screen { OnScreen pen.slice × IsPlain pen.plain }
-    requires at_bound { at + 1 < ram_length }
-    ensures { CodeShown ram.now font.now at pen before result }
-{
-    let low = ram[at];
-    let slice = pen.slice;
-    let word = glyph::lookup(ram, font, ram[at + 1], slice);
-    if word.ends {
-        return Coded {
-            ended: true,
-            cells: 2,
-            drawn: paint::NONE,
-        };
-    }
-    Coded {
-        ended: false,
-        cells: 2 + word.cells,
-        drawn: paint::character(table, pen.plain, pen.hidden, low, before, word.bits as u32),
-    }
-}
-
-// A row of characters from pixel first up to w, and plain from its end on; answers how many cells it read.
-fn draw_row<'a>(
-    out: &mut [u8],
-    ram: &'a [u8],
-    font: &'a [u8],
+struct Row<'a> {
+    ram: &'a [u8; limits::RAM_LENGTH],
+    font: &'a [u8; limits::FONT_LENGTH],
     address: u16,
     pen: Pen,
-    first: usize,
-    w: usize,
-) -> u32
-    requires first_le_w { (first ≤ w) × (w ≤ length out.old) × (w ≤ line_max) }
-    requires lent { Lent ram.now font.now }
-    requires on_screen { OnScreen pen.slice × IsPlain pen.plain }
-    ensures { RowDrawn ram.now font.now address pen first w out.old result out.new }
-{
-    let table = paint::row_table(pen.plain, pen.hidden);
-    // characters that start before here are whole; at most one, here, is cut
-    let cut = w - (w - first) % 12;
-    let mut x = first;
-    let mut a = walk::even_address(address as usize);
-    let mut cells: u32 = 0;
-    // what the character to the left shows; nothing for the first
-    let mut before: u32 = 0;
-    while x < w {
-        let code = code_at(ram, font, &table, a, pen, before);
-        cells += code.cells;
-        if code.ended {
-            buffers::fill(&mut out[x..w], pen.plain);
-            return cells;
-        }
-        let drawn = code.drawn;
-        if cut <= x {
-            paint::put_cut(&mut out[x..w], drawn.columns);
-            return cells;
-        }
-        let e = x + 12;
-        paint::put_twelve(&mut out[x..e], drawn.columns);
-        a = walk::next_address(a);
-        before = drawn.bits;
-        x = e;
-    }
-    cells
+    ghost bytes: { Bytes ram.now × Bytes font.now },
+    ghost on_screen: { OnScreen pen.slice },
+    ghost plain: { IsPlain pen.plain },
+}
+
+// A code: how many cells it read, and its character; none where it ends the line.
+#[derive(Clone, Copy, Debug, PartialEq, Eq)]
+pub struct Coded {
+    pub cells: u32,
+    pub drawn: Option<Drawn>,
 }
 
 // The first w bytes of the line in one pixel.
@@ -123,39 +51,78 @@ fn fill_line(out: &mut [u8], w: usize, pixel: u8)
     buffers::fill(&mut out[..w], pixel);
 }
 
-// A line of a strip of characters: plain up to the first character, then the row.
-fn draw_characters<'a>(
-    out: &mut [u8],
-    ram: &'a [u8],
-    font: &'a [u8],
-    address: u16,
-    pen: Pen,
-    first: usize,
-    w: usize,
-) -> u32
-    requires w_in_bounds { (w ≤ length out.old) × (w ≤ line_max) }
-    requires lent { Lent ram.now font.now }
-    requires on_screen { OnScreen pen.slice × IsPlain pen.plain }
-    ensures { CharactersDrawn ram.now font.now address pen first w out.old result out.new }
-{
-    if first < w {
-        fill_line(out, first, pen.plain);
-        return draw_row(out, ram, font, address, pen, first, w);
+impl<'a> Row<'a> {
+    // The code at an even address, after the bits that the character to its left shows.
+    fn code_at(&self, table: &RowTable, at: usize, before: u32) -> Coded
+        requires made { (table.now.plain ≡ self.now.pen.plain) × (table.now.hidden ≡ self.now.pen.hidden) }
+        requires at_bound { at + 1 < ram_length }
+        ensures { CodeShown self.now.ram.now self.now.font.now at self.now.pen before result }
+    {
+        let low = self.ram[at];
+        let Some(word) = glyph::lookup(self.ram, self.font, self.ram[at + 1], self.pen.slice) else {
+            return Coded {
+                cells: 2,
+                drawn: None,
+            };
+        };
+        Coded {
+            cells: 2 + word.cells,
+            drawn: Some(table.character(low, before, u32::from(word.bits))),
+        }
     }
-    fill_line(out, w, pen.plain);
-    0
+
+    // Its characters from pixel first up to w, and plain from its end on; answers how many cells it read.
+    fn draw(&self, out: &mut [u8], first: usize, w: usize) -> u32
+        requires { (first ≤ w) × (w ≤ length out.old) × (w ≤ line_max) }
+        ensures { RowDrawn self.now.ram.now self.now.font.now self.now.address self.now.pen first w out.old result out.new }
+    {
+        let table = RowTable::new(self.pen.plain, self.pen.hidden);
+        let mut a = walk::even_address(self.address as usize);
+        let mut cells: u32 = 0;
+        // what the character to the left shows; nothing for the first
+        let mut before: u32 = 0;
+        for x in (first..w).step_by(12) {
+            let code = self.code_at(&table, a, before);
+            cells += code.cells;
+            let Some(drawn) = code.drawn else {
+                buffers::fill(&mut out[x..w], self.pen.plain);
+                return cells;
+            };
+            // only the last one can be cut
+            if w - x < 12 {
+                paint::put_cut(&mut out[x..w], drawn.columns);
+                return cells;
+            }
+            paint::put_twelve(&mut out[x..x + 12], drawn.columns);
+            a = walk::next_address(a);
+            before = drawn.bits;
+        }
+        cells
+    }
+
+    // A line of it: plain up to the first character, then the row.
+    fn draw_line(&self, out: &mut [u8], first: usize, w: usize) -> u32
+        requires { (w ≤ length out.old) × (w ≤ line_max) }
+        ensures { CharactersDrawn self.now.ram.now self.now.font.now self.now.address self.now.pen first w out.old result out.new }
+    {
+        if first < w {
+            fill_line(out, first, self.pen.plain);
+            return self.draw(out, first, w);
+        }
+        fill_line(out, w, self.pen.plain);
+        0
+    }
 }
 
 // A line of the strip on screen; answers how many cells its row read.
-fn draw_strip<'a>(
+fn draw_strip(
     out: &mut [u8],
-    ram: &'a [u8],
-    font: &'a [u8],
+    ram: &[u8; limits::RAM_LENGTH],
+    font: &[u8; limits::FONT_LENGTH],
     settings: Settings,
     strip: Strip,
     number: u8,
 ) -> u32
-    requires lent { Lent ram.now font.now }
     requires on_line { OnLine strip }
     requires ld_bound { (settings.ld < 64) × (settings.fbk < 2) × (width_of settings.ld ≤ length out.old) }
     ensures { StripDrawn ram.now font.now settings strip number out.old result out.new }
@@ -167,7 +134,7 @@ fn draw_strip<'a>(
         return 0;
     }
     match strip {
-        Strip::Spacing { left: _ } => {
+        Strip::Spacing { .. } => {
             fill_line(out, w, plain);
             0
         }
@@ -184,45 +151,44 @@ fn draw_strip<'a>(
             }
             let pen = Pen {
                 slice: line.slice(height, zoom),
-                plain: plain,
+                plain,
                 hidden: raster::hidden(settings.fl, number),
             };
-            let first = raster::first_pixel(settings.dd) as usize;
-            draw_characters(out, ram, font, address, pen, first, w)
+            let row = Row {
+                ram,
+                font,
+                address,
+                pen,
+            };
+            row.draw_line(out, raster::first_pixel(settings.dd) as usize, w)
         }
     }
 }
 
-// A count of cells. The test keeps the compiler from counting a row's cells at 16 bits, which is slower.
+// A count of cells. The bound keeps the compiler from counting a row's cells at 16 bits, which is slower.
 fn narrow(cells: u32) -> u16
     ensures { result ≡ min cells 65535 }
 {
-    if cells < 65536 {
-        return cells as u16;
-    }
-    65535
+    cells.min(65535) as u16
 }
 
 // The frame's next line, of W bytes; later bytes stay.
-pub fn draw<'a>(
+pub fn draw(
     out: &mut [u8],
-    ram: &'a [u8],
-    font: &'a [u8],
+    ram: &[u8; limits::RAM_LENGTH],
+    font: &[u8; limits::FONT_LENGTH],
     registers: Registers,
     walk: Walk,
     number: u8,
-) -> Line
-    requires lent { Lent ram.now font.now }
+) -> Walked
     requires registers_in_bounds { width_of (settings_of registers).ld ≤ length out.old }
     ensures { LineDrawn ram.now font.now registers walk number out.old result out.new }
 {
     let settings = registers.settings();
     let walked = walk.next_line(ram, settings.ch);
-    let next = walked.walk;
-    let strip = next.strip;
-    let read = draw_strip(out, ram, font, settings, strip, number);
-    Line {
-        walk: next,
+    let read = draw_strip(out, ram, font, settings, walked.walk.strip, number);
+    Walked {
         cells: walked.cells + narrow(read),
+        ..walked
     }
 }

@@ -2,19 +2,28 @@
 // The device for firmware to link: include/osd.h has each function as C sees it. The device's record crosses as 32 lent bytes, a feed's
 // as 2, a font and its file as they are.
 ghost use Rattle.std.specs.Prelude.{◌≡◌};
+ghost use Rattle.refusals.specs.Refusals.{reply_of};
 ghost use Rattle.layout.specs.Layout.{record_length};
 ghost use Rattle.layout.specs.FeedLayout.{feed_length};
-ghost use Rattle.interface.specs.Interface.{fresh_on, bus_on, start_on, draw_on, cell_on, pixel_on, feed_fresh_on, feed_on, font_write_on, font_read_on};
+ghost use Rattle.interface.specs.Interface.{answer_of, fresh_on, bus_on, start_on, draw_on, cell_on, pixel_on, feed_fresh_on, feed_on, font_write_on, font_read_on};
 
-use capture::{Feed, FeedTest};
-use device::{Device, DrawAnswer, StartAnswer};
-use refusals::Refusal;
+use bus::Event;
+use capture::Feed;
+use device::Device;
+use refusals::{Numbered, Refusal, Value};
 
 // The longest chunk: a value has 16 bits.
 const CHUNK_MAX: usize = 65534;
 
 // Refusal 255, the interface's own.
 const NOT_TAKEN: u32 = 0xFF0000;
+
+// An answer in the number that C is given.
+fn answer<T: Value + Copy, E: Numbered + Copy>(answer: Result<T, E>) -> u32
+    ensures { result ≡ answer_of (reply_of T.own E.numbers answer) }
+{
+    interface::answer(refusals::refusal_of(answer), refusals::value_of(answer))
+}
 
 #[unsafe(no_mangle)]
 pub extern "C" fn osd_device_len() -> u32
@@ -59,17 +68,13 @@ pub extern "C" fn osd_bus(device: &mut [u8], ram: &mut [u8], kind: u8, byte: u8)
         return interface::refuse(Refusal::RamLength);
     }
     let state = device[layout::BUS_AT];
-    if kind == bus::FETCH {
-        if state == layout::READING {
-            return bus_bytes::read_next(device, ram);
-        }
+    if kind == bus::FETCH && state == layout::READING {
+        return bus_bytes::read_next(device, ram);
     }
-    if kind == bus::HOST_BYTE {
-        if state == layout::WRITING {
-            return bus_bytes::write_next(device, ram, byte);
-        }
+    if kind == bus::HOST_BYTE && state == layout::WRITING {
+        return bus_bytes::write_next(device, ram, byte);
     }
-    bus_bytes::hear(device, ram, kind, byte)
+    bus_bytes::hear(device, ram, Event::of_kind(kind, byte))
 }
 
 #[tactic(auto, unfolding(interface::specs::Interface::start_on, interface::specs::Interface::started_on))]
@@ -80,16 +85,13 @@ pub extern "C" fn osd_frame_start(device: &mut [u8], lines: u32) -> u32
     if device.len() != layout::DEVICE_LENGTH {
         return NOT_TAKEN;
     }
-    let done = layout::device_in(device).start_frame(lines);
-    let answer = done.answer;
-    match answer {
-        StartAnswer::Started => {
-            let next = done.device;
-            let frame = next.frame;
-            layout::write_start(device, next.next, frame);
+    let mut next = layout::device_in(device);
+    match next.start_frame(lines) {
+        Ok(()) => {
+            layout::write_start(device, next.next, next.frame);
             0
         }
-        StartAnswer::Refused(refusal) => interface::refuse(refusal),
+        Err(refusal) => interface::refuse(refusal),
     }
 }
 
@@ -106,17 +108,13 @@ pub extern "C" fn osd_draw<'a>(
     if device.len() != layout::DEVICE_LENGTH {
         return NOT_TAKEN;
     }
-    let before = layout::device_in(device);
-    let done = before.draw_line(ram, font, line);
-    let answer = done.answer;
-    match answer {
-        DrawAnswer::Drawn(cells) => {
-            let after = done.device;
-            let frame = after.frame;
-            layout::write_frame(device, frame);
-            cells as u32
+    let mut next = layout::device_in(device);
+    match next.draw_line(ram, font, line) {
+        Ok(cells) => {
+            layout::write_frame(device, next.frame);
+            u32::from(cells)
         }
-        DrawAnswer::Refused(refusal) => interface::refuse(refusal),
+        Err(refusal) => interface::refuse(refusal),
     }
 }
 
@@ -128,8 +126,7 @@ pub extern "C" fn osd_cell(device: &[u8], ram: &[u8], cell: u32) -> u32
     if device.len() != layout::DEVICE_LENGTH {
         return NOT_TAKEN;
     }
-    let reply = layout::device_in(device).ask(ram, cell);
-    interface::answer(reply.refusal(), reply.value() as u16)
+    answer(layout::device_in(device).ask(ram, cell))
 }
 
 // Of the record only the registers are looked at.
@@ -149,8 +146,7 @@ pub extern "C" fn osd_pixel<'a>(
     if device.len() != layout::DEVICE_LENGTH {
         return NOT_TAKEN;
     }
-    let reply = pixel::ask(layout::device_in(device), ram, font, lines, frame, x, y);
-    interface::answer(reply.refusal(), reply.value() as u16)
+    answer(pixel::ask(&layout::device_in(device), ram, font, lines, frame, x, y))
 }
 
 #[unsafe(no_mangle)]
@@ -193,15 +189,13 @@ pub extern "C" fn osd_feed(
         return NOT_TAKEN;
     }
     let before = layout::feed_in(feed);
-    let test = before.test(ram.len(), chunk.len(), out.len());
-    match test {
-        FeedTest::Passed => {
+    match before.test(ram.len(), chunk.len(), out.len()) {
+        Ok(()) => {
             let taken = feed_bytes::take_events(device, ram, chunk, out, before);
-            let after = taken.feed;
-            layout::write_feed(feed, after);
-            feed_bytes::fed(after, taken.written)
+            layout::write_feed(feed, taken.feed);
+            feed_bytes::fed(taken.feed, taken.written)
         }
-        FeedTest::Failed(refusal) => interface::refuse(refusal),
+        Err(refusal) => interface::refuse(refusal),
     }
 }
 
@@ -210,8 +204,7 @@ pub extern "C" fn osd_feed(
 pub extern "C" fn osd_font_write(font: &[u8], file: &mut [u8]) -> u32
     ensures { record { file = file.new; answer = result } ≡ font_write_on font.now file.old }
 {
-    let reply = font_file::write(font, file);
-    interface::answer(reply.refusal(), reply.value() as u16)
+    answer(font_file::write(font, file))
 }
 
 #[tactic(auto, unfolding(interface::specs::Interface::font_read_on))]
@@ -219,6 +212,5 @@ pub extern "C" fn osd_font_write(font: &[u8], file: &mut [u8]) -> u32
 pub extern "C" fn osd_font_read(file: &[u8], font: &mut [u8]) -> u32
     ensures { record { font = font.new; answer = result } ≡ font_read_on file.now font.old }
 {
-    let reply = font_file::read(file, font);
-    interface::answer(reply.refusal(), reply.value() as u16)
+    answer(font_file::read(file, font))
 }

@@ -3,10 +3,12 @@
 use Prim.Native.Nat.{ℕ, zero, suc, ◌/◌, ◌%◌, ◌^◌, ◌≤◌, ◌<◌}
 use mathlib.Core.Path.{◌≡◌, refl, ap}
 use mathlib.Core.Bool.{Bool, true, false}
-use mathlib.Core.List.{List, [], ◌∷◌, ◌++◌}
+use mathlib.Core.List.{List, [], ◌∷◌}
 use native.Mathlib.Omega.{arith}
 use lib.Dec.{eqb}
-use lib.ListN.{length, get_or, take, replicate}
+use lib.ListN.{length, get_or}
+use Rattle.std.specs.List.{All}
+use Rattle.std.proofs.lemmas.List.Elements.{All-nil, All-cons, All-head, All-tail}
 use Rattle.facts.proofs.Choice.{either}
 use Rattle.paint.specs.Pixels.{Ink, background, ink_of, columns, twelve_columns}
 
@@ -23,31 +25,18 @@ twelve-length plain low before bits = columns-length 12 (ink_of plain low) bits 
 
 -- ---- each below 16
 
--- every number of the list is a pixel
-pub data Pixels : List ℕ → Type 0 where
-  none : Pixels []
-  more : {x : ℕ} {xs : List ℕ} → x < 16 → Pixels xs → Pixels (x ∷ xs)
-
-pub pixels_at : {xs : List ℕ} → Pixels xs → (i : ℕ) → get_or xs i 0 < 16
-pixels_at none i = omega arith
-pixels_at (more h p) zero = h
-pixels_at (more h p) (suc i) = pixels_at p i
-
-pub pixels-append : {xs ys : List ℕ} → Pixels xs → Pixels ys → Pixels (xs ++ ys)
-pixels-append none q = q
-pixels-append (more h p) q = more h (pixels-append p q)
-
-pub pixels-take : (n : ℕ) {xs : List ℕ} → Pixels xs → Pixels (take n xs)
-pixels-take zero p = none
-pixels-take (suc n) none = none
-pixels-take (suc n) (more h p) = more h (pixels-take n p)
-
-pub pixels-replicate : (n x : ℕ) → x < 16 → Pixels (replicate n x)
-pixels-replicate zero x h = none
-pixels-replicate (suc n) x h = more h (pixels-replicate n x h)
-
-abbrev Below : ℕ → ℕ → Type 0
+abbrev pub Below : ℕ → ℕ → Type 0
 Below m x = x < m
+
+-- every number of the list is a pixel
+abbrev pub Pixels : List ℕ → Type 0
+Pixels = All (Below 16)
+
+-- what stands behind a list is below 16 too
+pub pixels_at : (xs : List ℕ) → Pixels xs → (i : ℕ) → get_or xs i 0 < 16
+pixels_at [] p i = omega arith
+pixels_at (x ∷ xs) p zero = All-head (Below 16) x xs p
+pixels_at (x ∷ xs) p (suc i) = pixels_at xs (All-tail (Below 16) x xs p) i
 
 -- the pixels that a code draws with lie below m
 pub record Inks (m : ℕ) (ink : Ink) : Type 0 where
@@ -68,9 +57,9 @@ ink_below m plain low l h =
 
 columns-pixels : (n : ℕ) (ink : Ink) (bits left : ℕ) → Inks 16 ink → Pixels (columns n ink bits left)
 unfolding columns
-columns-pixels zero ink bits left h = none
+columns-pixels zero ink bits left h = All-nil (Below 16)
 columns-pixels (suc n) ink bits left h =
-    more
+    All-cons (Below 16) _ _
     (either (Below 16) (eqb (bits / 2 ^ n % 2) 1) _ _ h.fore (either (Below 16) (eqb left 1) _ _ h.cast h.back))
     (columns-pixels n ink bits (bits / 2 ^ n % 2) h)
 

@@ -6,9 +6,8 @@ use mathlib.Core.Bool.{Bool, true, false, cond, ◌&&◌}
 use mathlib.Core.List.{List, [], ◌∷◌, ◌++◌}
 use native.Mathlib.Nat.{div-div-eq-div-mul}
 use native.Mathlib.Omega.{arith}
-use lib.Arith.{bin_ind}
 use Rattle.facts.proofs.Choice.{either, cond_same}
-use lib.Bits.{differ, bit_and, bit_or, bit_xor, xor_step, xor_zero_l, xor_zero_r, xor_lt, or_zero_r, and_zero_l, and_zero_r, and_comm, and_mask, and_mod, or_mod, xor_mod, and_shr, or_shr, xor_shr}
+use lib.Bits.{bit_and, bit_or, bit_xor, xor_assoc, xor_self, xor_zero_l, xor_zero_r, xor_lt, or_zero_r, and_zero_l, and_zero_r, and_comm, and_mask, and_mod, or_mod, xor_mod, and_shr, or_shr, xor_shr}
 use native.Mathlib.Decide.{ℕ_discrete}
 use borrow.Author.Tests.{eq-eqb, ne_eqb, lt-ltb, le-ltb, le-leb, lt-leb}
 use borrow.Rule.Slice.PartMut.{put_mid}
@@ -23,36 +22,8 @@ use Rattle.paint.proofs.Laws.{Inks, ink_below}
 
 -- ---- exclusive or and masks on bytes
 
-differ-again : (a b : ℕ) → a < 2 → b < 2 → differ a (differ a b) ≡ b
-differ-again zero b h k = refl
-differ-again (suc zero) zero h k = refl
-differ-again (suc zero) (suc zero) h k = refl
-differ-again (suc zero) (suc (suc b)) h k = omega arith
-differ-again (suc (suc a)) b h k = omega arith
-
 xor_again : (a b : ℕ) → bit_xor a (bit_xor a b) ≡ b
-xor_again = bin_ind (λ (a : ℕ). (b : ℕ) → bit_xor a (bit_xor a b) ≡ b) base step
-  where
-    base : (b : ℕ) → bit_xor 0 (bit_xor 0 b) ≡ b
-    base b = xor_zero_l (bit_xor 0 b) ∙ xor_zero_l b
-
-    small : (a b : ℕ) → a < 2 → b < 2 → differ a b < 2
-    small zero b h k = k
-    small (suc zero) zero h k = h
-    small (suc zero) (suc zero) h k = omega arith
-    small (suc zero) (suc (suc b)) h k = omega arith
-    small (suc (suc a)) b h k = omega arith
-
-    step : (a : ℕ) → ((b : ℕ) → bit_xor (a / 2) (bit_xor (a / 2) b) ≡ b) → (b : ℕ) → bit_xor a (bit_xor a b) ≡ b
-    step a ih b =
-        let e = xor_step a b in
-        let d = small (a % 2) (b % 2) (omega arith) (omega arith) in
-        let half : bit_xor a b / 2 ≡ bit_xor (a / 2) (b / 2) = omega arith in
-        let odd : bit_xor a b % 2 ≡ differ (a % 2) (b % 2) = omega arith in
-        xor_step a (bit_xor a b)
-        ∙ ap₂ (λ (x y : ℕ). bit_xor (a / 2) x * 2 + differ (a % 2) y) half odd
-        ∙ ap₂ (λ (x y : ℕ). x * 2 + y) (ih (b / 2)) (differ-again (a % 2) (b % 2) (omega arith) (omega arith))
-        ∙ omega arith
+xor_again a b = sym (xor_assoc a a b) ∙ ap (λ (x : ℕ). bit_xor x b) (xor_self a) ∙ xor_zero_l b
 
 -- the byte that starts at bit k
 abbrev lane : ℕ → ℕ → ℕ
@@ -352,6 +323,11 @@ module _ (hidden : Bool) (low word : ℕ) (h : low < 256) where
   bits_fit plain p e = rw (bits_are plain p e) (bits_most hidden low word)
 
 -- ---- a character
+
+-- twelve columns, each four by one rule
+pub fours : (four : ℕ → ℕ) (bits : ℕ) (c : Fours) → c.left ≡ four (bits / 256) → c.middle ≡ four (bits / 16 % 32) → c.right ≡ four (bits % 32) → c ≡ in_fours four bits
+unfolding in_fours
+fours four bits c l m r = λ i. record { left = l i; middle = m i; right = r i }
 
 module _ (plain : ℕ) (hidden : Bool) (low before word : ℕ) (h : IsPlain plain) (k : low < 256) (p : Paint) (e : p ≡ paint_of plain hidden low) where
   -- the code's paint, and the bits that are shown

@@ -1,6 +1,6 @@
 -- The tables that characters are drawn from, four columns at a time: a column is a byte of a number, the leftmost the lowest.
 -- Assumes nothing.
-use Rattle.std.specs.Prelude.{ℕ, zero, suc, ◌+◌, ◌-◌, ◌*◌, ◌/◌, ◌%◌, ◌<◌, ◌≡◌, Bool, cond, ◌&&◌, List, [], ◌∷◌, ◌++◌, ltb, leb, take}
+use Rattle.std.specs.Prelude.{ℕ, zero, suc, ◌+◌, ◌-◌, ◌*◌, ◌/◌, ◌%◌, ◌<◌, ◌≡◌, Bool, cond, ◌&&◌, List, [], ◌∷◌, ◌++◌, ltb, leb}
 use Rattle.std.specs.Int.Bits.{bit_and, bit_or, bit_xor}
 use Rattle.paint.specs.declared.Paint.{Paint}
 use Rattle.paint.specs.declared.Fours.{Fours}
@@ -43,10 +43,6 @@ shows hidden i = cond (leb 8 i && hidden) 0 4095
 
 unfoldable pub mask_table : List ℕ
 mask_table = tabulate facing 0 32 ++ tabulate casting 0 32
-
--- a table begins with the masks and shadows
-abbrev pub HasMasks : List ℕ → Type 0
-HasMasks table = take 64 table ≡ mask_table
 
 -- what a row makes once and lends to its characters
 unfoldable pub row_table : ℕ → Bool → List ℕ

@@ -2,12 +2,16 @@
 -- Assumes nothing.
 use Prim.Native.Nat.{ℕ, zero, suc, ◌+◌, ◌-◌, ◌*◌, ◌/◌, ◌%◌, ◌≤◌, ◌<◌}
 use mathlib.Core.Path.{◌≡◌, refl, sym, ap, ap₂, ◌∙◌}
-use mathlib.Core.Bool.{Bool, true, false, cond, ◌||◌, or-true, false≢true}
+use mathlib.Core.Bool.{Bool, true, false, not, cond, ◌&&◌, ◌||◌, and-false, or-true, false≢true}
 use mathlib.Core.List.{List}
+use native.Mathlib.Nat.{div-eq_of_lt}
 use native.Mathlib.Omega.{arith}
 use borrow.Author.Tests.{eqb-true, eqb-false, eq-eqb, ltb-true, lt-ltb, le-ltb, lt-leb}
 use lib.Dec.{eqb, leb, ltb}
 use lib.ListN.{length, get_or}
+use lib.Pow.{pow_pos}
+use Rattle.std.specs.Prelude.{Some, None}
+use Rattle.buffers.specs.Buffers.{Bytes}
 use Rattle.limits.specs.Limits.{ram_length, font_length, frame_lines, bad_line_count}
 use Rattle.limits.proofs.Laws.{some_frame}
 use Rattle.facts.proofs.Choice.{by_test}
@@ -22,13 +26,15 @@ use Rattle.raster.proofs.Laws.{all_after}
 use Rattle.walk.specs.declared.Strip.TheVariants.{Spacing, Characters}
 use Rattle.walk.specs.Walk.{even, next, height_of, is_spacing, enabled_by, zoomed_by, codes_at, shows_codes, strip_of, lines_left}
 use Rattle.walk.proofs.Laws.{next-same, none_passed, codes_begin, passed_at}
+use Rattle.glyph.specs.declared.Word.{Word}
 use Rattle.glyph.specs.Words.{word_in}
 use Rattle.glyph.proofs.Laws.{word_low}
 use Rattle.glyph.specs.Glyph.{font, user, blank, ends_line, user_cell, font_byte, in_ram, glyph_of, of_bytes, bits_of}
+use Rattle.paint.specs.Pixels.{flashes}
 use Rattle.device.specs.Device.{frame_number}
 use Rattle.pixel.specs.declared.Pair.{Pair}
 use Rattle.pixel.specs.declared.StripLine.{StripLine}
-use Rattle.pixel.specs.Pixel.{pair_at, lines_of, is_passed, strip_from, line_at, falls_in, ended, twelve_at, slice_bits, pixel_at}
+use Rattle.pixel.specs.Pixel.{pair_at, lines_of, is_passed, strip_from, line_at, falls_in, ended, twelve_at, slice_bits, is_foreground, pixel_at}
 use Rattle.pixel.specs.Ask.{pixel_verdict, pixel_by, ask_pixel}
 
 -- ---- the lines of a strip
@@ -283,6 +289,14 @@ module _ (ram : List ℕ) (a : ℕ) where
   unfolding ended
   end_later k e = rw e
 
+  pub end_at : (n k : ℕ) → n ≤ k → ended (n - k) ram a ≡ ends_line (pair_at ram a).high
+  end_at n k h = let none : n - k ≡ 0 = omega arith in ap (λ (m : ℕ). ended m ram a) none ∙ end_last
+
+  pub end_on : (n k : ℕ) → k < n → ends_line (pair_at ram a).high ≡ false → ended (n - k) ram a ≡ ended (n - (k + 1)) ram (next a)
+  end_on n k h e =
+      let one : n - k ≡ suc (n - (k + 1)) = omega arith in
+      ap (λ (m : ℕ). ended m ram a) one ∙ end_later (n - (k + 1)) e
+
 -- what the glyph lookup gives of a code
 pub bits-glyph : (ram f : List ℕ) (high : ℕ) (s : Slice) → slice_bits ram f high s.0 ≡ bits_of f (value ram (glyph_of high s))
 unfolding glyph_of in_ram value of_bytes
@@ -301,9 +315,31 @@ bits-glyph ram f high s = by (eqb (high / 128 % 2) 0) (ltb (high % 128) 26)
     by false false = refl
 
 -- of a word that is looked up
-pub bits-word : (ram f : List ℕ) (high : ℕ) (s : Slice) → ((i : ℕ) → get_or ram i 0 < 256) → ((i : ℕ) → get_or f i 0 < 256)
-    → (word_in ram f high s).bits % 4096 ≡ slice_bits ram f high s.0
-bits-word ram f high s b d = word_low ram f high s b d ∙ sym (bits-glyph ram f high s)
+pub bits-word : (ram f : List ℕ) (high : ℕ) (s : Slice) → Bytes ram → Bytes f → (w : Word) → word_in ram f high s ≡ Some w
+    → w.bits % 4096 ≡ slice_bits ram f high s.0
+bits-word ram f high s b d w e = word_low ram f high s b d w e ∙ sym (bits-glyph ram f high s)
+
+-- the columns of a word that is looked up
+pub word_shown : (ram f : List ℕ) (high : ℕ) (s : Slice) (hidden : Bool) (low c : ℕ) (w : Word) → Bytes ram → Bytes f → word_in ram f high s ≡ Some w
+    → is_foreground hidden low (w.bits % 4096) c ≡ is_foreground hidden low (slice_bits ram f high s.0) c
+word_shown ram f high s hidden low c w b d e = ap (λ (n : ℕ). is_foreground hidden low n c) (bits-word ram f high s b d w e)
+
+-- the end of line has none, and no foreground
+none-lit : (hidden : Bool) (low c : ℕ) → is_foreground hidden low 0 c ≡ false
+none-lit hidden low c = rw (div-eq_of_lt (pow_pos (11 - c))) (and-false (not (hidden && flashes low)))
+
+end-dark : (ram f : List ℕ) (high : ℕ) (s : Slice) → ends_line high ≡ true → slice_bits ram f high s.0 ≡ 0
+end-dark ram f high s e =
+    let h : high ≡ 255 = eqb-true high 255 e in
+    ap (λ (x : ℕ). slice_bits ram f x s.0) h
+
+pub end_unlit : (ram f : List ℕ) (high : ℕ) (s : Slice) (hidden : Bool) (low c : ℕ) → word_in ram f high s ≡ None
+    → is_foreground hidden low (slice_bits ram f high s.0) c ≡ false
+unfolding word_in
+end_unlit ram f high s hidden low c e =
+    by_test (ends_line high)
+    (λ h. rw (end-dark ram f high s h) (none-lit hidden low c))
+    (λ h. let g = rw h at e in cc)
 
 -- ---- a question's tests
 

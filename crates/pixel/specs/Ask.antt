@@ -1,21 +1,19 @@
 -- Request K5, the call: the pixel (specs/Pixel.antt), or a refusal.
 -- Assumes nothing.
-use Rattle.std.specs.Prelude.{ℕ, ◌||◌, List, leb, length}
+use Rattle.std.specs.Prelude.{ℕ, ◌||◌, List, Result, leb, length}
 use Rattle.limits.specs.Limits.{bad_line_count}
+use Rattle.refusals.specs.declared.Refusal.{Refusal}
 use Rattle.refusals.specs.declared.Refusal.TheVariants.{FrameLines, PixelRange}
-use Rattle.refusals.specs.Refusals.{Reply, accepted, refused, Verdict, passed, failed, refuse_if}
+use Rattle.refusals.specs.Refusals.{Reply, accepted, refused, reply_of, Verdict, passed, failed, refuse_if}
 use Rattle.registers.specs.declared.Registers.{Registers}
 use Rattle.registers.specs.Registers.{settings_of}
 use Rattle.raster.specs.Raster.{width_of}
 use Rattle.device.specs.Device.{frame_number, lent_verdict}
-use Rattle.pixel.specs.declared.PixelAnswer.{PixelAnswer}
-use Rattle.pixel.specs.declared.PixelAnswer.TheVariants as answer
 use Rattle.pixel.specs.Pixel.{pixel_at}
 
 -- document 01's numbers: the value is the pixel
-abbrev pub pixel_reply : PixelAnswer → Reply
-pixel_reply (answer.Shown p) = accepted p
-pixel_reply (answer.Refused r) = refused r
+abbrev pub pixel_reply : Result ℕ Refusal → Reply
+pixel_reply = reply_of (λ p. p) refused
 
 -- order of refusals: 1, 2, by the lengths that are lent, 6, then 11 for x at W or beyond, or y at the line count or beyond
 unfoldable pub pixel_verdict : Registers → (ram font lines x y : ℕ) → Verdict

@@ -1,37 +1,39 @@
 -- A text preview of a picture: which headings are taken, and the character that stands for 4 columns of 8 lines.
 -- Assumes nothing.
-use Rattle.std.specs.Prelude.{ℕ, ◌+◌, ◌-◌, ◌*◌, ◌/◌, ◌%◌, cond, List, [], ◌∷◌, eqb, ltb, get_or}
+use Rattle.std.specs.Prelude.{ℕ, ◌+◌, ◌-◌, ◌*◌, ◌/◌, ◌%◌, cond, List, [], ◌∷◌, eqb, ltb, get_or, Option, Some, None, option_and_then}
 use Rattle.limits.specs.Limits.{line_max}
 use Rattle.preview.specs.declared.Size.{Size}
 
 -- ---- the heading: `P6`, a newline, the width and the height in three digits each with a space between, a newline, `255` and one byte
 
--- a byte that is no digit counts 1,000, so that its number is too large
-abbrev pub digit : ℕ → ℕ
-digit b = cond (ltb b 48) 1000 (cond (ltb 57 b) 1000 (b - 48))
+-- none for a byte that is no digit
+abbrev pub digit : ℕ → Option ℕ
+digit b = cond (ltb b 48) None (cond (ltb 57 b) None (Some (b - 48)))
 
-abbrev pub number : ℕ → ℕ → ℕ → ℕ
-number a b c = 100 * digit a + 10 * digit b + digit c
+-- none where a byte is no digit
+abbrev pub number : ℕ → ℕ → ℕ → Option ℕ
+number a b c =
+    option_and_then (λ h. option_and_then (λ t. option_and_then (λ o. Some (100 * h + 10 * t + o)) (digit c)) (digit b)) (digit a)
 
 -- four bytes as one number, the first of them highest
 abbrev pub four_bytes : ℕ → ℕ → ℕ → ℕ → ℕ
 four_bytes a b c d = ((a * 256 + b) * 256 + c) * 256 + d
 
--- a size of at most 768 × 999, or 0 × 0 where the picture is not shown
-abbrev pub none : Size
-none = record { width = 0; height = 0 }
+-- a width of 1 to 768, and any height of three digits
+abbrev pub shown : ℕ → ℕ → Option Size
+shown width height =
+    cond (eqb width 0) None (cond (ltb line_max width) None (Some (record { width = width; height = height })))
 
-unfoldable pub shown : ℕ → ℕ → Size
-shown width height = cond (ltb line_max width) none (cond (ltb 999 height) none (record { width = width; height = height }))
-
--- 50 36 0A 20 is `P6`, newline, space, and 0A 32 35 35 is newline, `255`
-unfoldable pub size_of : List ℕ → Size
+-- 50 36 0A 20 is `P6`, newline, space, and 0A 32 35 35 is newline, `255`; none where the picture is not shown
+unfoldable pub size_of : List ℕ → Option Size
 size_of h =
     cond (eqb (four_bytes (get_or h 0 0) (get_or h 1 0) (get_or h 2 0) (get_or h 6 0)) 0x50360A20)
     (cond (eqb (four_bytes (get_or h 10 0) (get_or h 11 0) (get_or h 12 0) (get_or h 13 0)) 0x0A323535)
-    (shown (number (get_or h 3 0) (get_or h 4 0) (get_or h 5 0)) (number (get_or h 7 0) (get_or h 8 0) (get_or h 9 0)))
-    none)
-    none
+    (option_and_then (λ w. option_and_then (λ t. shown w t)
+    (number (get_or h 7 0) (get_or h 8 0) (get_or h 9 0)))
+    (number (get_or h 3 0) (get_or h 4 0) (get_or h 5 0)))
+    None)
+    None
 
 -- ---- a character: two columns of four dots, each for one of the pixels in every second column and line
 

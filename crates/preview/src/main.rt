@@ -2,14 +2,14 @@
 // Shows a picture as text: reads a binary PPM as `demo` writes it, and prints a Braille character for every 4 columns of 8 lines. A dot
 // stands for one pixel of every second column and line, and is set where the pixel is bright enough; how bright differs from dot to
 // dot, so that grey shows as some of them.
-ghost use Rattle.std.specs.Prelude.{◌≡◌, ◌+◌, ◌*◌, ◌≤◌, ◌<◌, length, IfOk};
+ghost use Rattle.std.specs.Prelude.{◌≡◌, ◌+◌, ◌*◌, ◌≤◌, ◌<◌, length, IfSome};
 ghost use Rattle.limits.specs.Limits.{line_max};
-ghost use Rattle.preview.specs.Preview.{digit, number, four_bytes, none, shown, size_of, brightness, dot, dots, upper, cell, braille};
+ghost use Rattle.preview.specs.Preview.{digit, number, four_bytes, size_of, brightness, dot, dots, upper, cell, braille};
 
 use std::io;
 use std::io::{Read, Write};
 
-#[derive(Clone, Copy)]
+#[derive(Clone, Copy, Debug, PartialEq, Eq)]
 pub struct Size {
     pub width: usize,
     pub height: usize,
@@ -20,147 +20,90 @@ fn main(rt: HostRuntime) -> io::Result<()> {
     let mut input = rt.stdin();
     let mut out = rt.stdout();
     streams::read_full(&mut input, &mut heading)?;
-    let size = size_of(&heading);
-    if size.width == 0 {
-        return out.write_all(
+    match size_of(&heading) {
+        Some(size) => show(&mut input, &mut out, size),
+        None => out.write_all(
             b"preview: not a PPM of at most 768 x 999 with sizes in three digits\n",
-        );
+        ),
     }
-    show(&mut input, &mut out, size.width, size.height / 8)
 }
 
-fn show<R: Read, W: Write>(input: &mut R, out: &mut W, width: usize, rows: usize) -> io::Result<()>
-    requires { width ≤ line_max }
+// A row of characters for each band of eight lines, up to where the picture ends early.
+fn show<R: Read, W: Write>(input: &mut R, out: &mut W, size: Size) -> io::Result<()>
+    requires { size.width ≤ line_max }
 {
-    let mut left = rows;
-    while left > 0 {
-        left = next_row(input, out, width, left)?;
+    let mut space = [0u8; 24 * limits::LINE_MAX];
+    let n = 24 * size.width;
+    for _ in 0..size.height / 8 {
+        let band = &mut space[..n];
+        if streams::read_full(input, band)? < n {
+            return out.write_all(b"preview: the picture is cut short\n");
+        }
+        show_row(out, band, size.width)?;
     }
     Ok(())
 }
 
-fn next_row<R: Read, W: Write>(
-    input: &mut R,
-    out: &mut W,
-    width: usize,
-    left: usize,
-) -> io::Result<usize>
-    requires { (width ≤ line_max) × (0 < left) }
-    ensures { IfOk result (λ rows. rows < left) }
-{
-    let mut band = [0u8; 24 * limits::LINE_MAX];
-    read_row(input, out, &mut band, width, left)
-}
-
-// A row of characters, from a band of eight lines. Answers how many rows are left: none where the picture ends early.
-fn read_row<R: Read, W: Write>(
-    input: &mut R,
-    out: &mut W,
-    band: &mut [u8],
-    width: usize,
-    left: usize,
-) -> io::Result<usize>
-    requires { (24 * width ≤ length band.old) × (width ≤ line_max) × (0 < left) }
-    ensures { IfOk result (λ rows. rows < left) }
-{
-    let n = 24 * width;
-    if streams::read_full(input, &mut band[..n])? < n {
-        out.write_all(b"preview: the picture is cut short\n")?;
-        return Ok(0);
-    }
-    show_row(out, band, width)?;
-    Ok(left - 1)
-}
-
 fn show_row<W: Write>(out: &mut W, band: &[u8], width: usize) -> io::Result<()>
-    requires { (24 * width ≤ length band.now) × (width ≤ line_max) }
+    requires { 24 * width ≤ length band.now }
 {
+    // by columns, since a character's dots lie in four lines of the band
     for column in 0..width / 4 {
-        let text = braille_of(cell_at(band, 12 * column, 3 * width));
-        out.write_all(&text)?;
+        out.write_all(&braille_of(cell_at(band, 12 * column, 3 * width)))?;
     }
     out.write_all(b"\n")
 }
 
-// The size in a heading; 0 × 0 where the picture is not shown.
-#[tactic(auto, unfolding(crate::specs::Preview::size_of))]
-fn size_of(heading: &[u8; 15]) -> Size
+// The size in a heading; none where the picture is not shown.
+#[tactic(auto, unfolding(crate::specs::Preview::size_of, crate::specs::Preview::shown))]
+fn size_of(heading: &[u8; 15]) -> Option<Size>
     ensures value { result ≡ size_of heading.now }
-    ensures width_le_line_max { result.width ≤ line_max }
+    ensures width_le_line_max { IfSome result (λ size. size.width ≤ line_max) }
 {
-    if four_bytes(heading[0], heading[1], heading[2], heading[6]) != 0x50360A20 {
-        return not_shown();
+    if four_bytes(heading[0], heading[1], heading[2], heading[6]) != u32::from_be_bytes(*b"P6\n ") {
+        return None;
     }
-    if four_bytes(heading[10], heading[11], heading[12], heading[13]) != 0x0A323535 {
-        return not_shown();
+    if four_bytes(heading[10], heading[11], heading[12], heading[13])
+        != u32::from_be_bytes(*b"\n255")
+    {
+        return None;
     }
-    let width = number_of(heading[3], heading[4], heading[5]);
-    checked(width, number_of(heading[7], heading[8], heading[9]))
-}
-
-fn not_shown() -> Size
-    ensures { (result ≡ none) × (result.width ≡ 0) }
-{
-    Size {
-        width: 0,
-        height: 0,
+    let width = number_of(heading[3], heading[4], heading[5])?;
+    let height = number_of(heading[7], heading[8], heading[9])?;
+    if width == 0 || width > limits::LINE_MAX {
+        return None;
     }
-}
-
-#[tactic(auto, unfolding(crate::specs::Preview::shown))]
-fn checked(width: usize, height: usize) -> Size
-    ensures value { result ≡ shown width height }
-    ensures width_le_line_max { result.width ≤ line_max }
-{
-    if width > limits::LINE_MAX {
-        return not_shown();
-    }
-    if height > 999 {
-        return not_shown();
-    }
-    Size {
-        width: width,
-        height: height,
-    }
+    Some(Size { width, height })
 }
 
 fn four_bytes(a: u8, b: u8, c: u8, d: u8) -> u32
     ensures { result ≡ four_bytes a b c d }
 {
-    ((a as u32 * 256 + b as u32) * 256 + c as u32) * 256 + d as u32
+    u32::from_be_bytes([a, b, c, d])
 }
 
-fn number_of(a: u8, b: u8, c: u8) -> usize
-    ensures { result ≡ number a b c }
+fn number_of(a: u8, b: u8, c: u8) -> Option<usize>
+    ensures value { result ≡ number a b c }
+    ensures upper_bound { IfSome result (λ n. n < 1000) }
 {
-    100 * digit_of(a) + 10 * digit_of(b) + digit_of(c)
+    Some(100 * digit_of(a)? + 10 * digit_of(b)? + digit_of(c)?)
 }
 
-// A byte that is no digit counts 1,000.
-fn digit_of(b: u8) -> usize
+fn digit_of(b: u8) -> Option<usize>
     ensures value { result ≡ digit b }
-    ensures upper_bound { result ≤ 1000 }
+    ensures upper_bound { IfSome result (λ n. n < 10) }
 {
-    if b < b'0' {
-        return 1000;
+    match b {
+        b'0'..=b'9' => Some(usize::from(b - b'0')),
+        _ => None,
     }
-    if b > b'9' {
-        return 1000;
-    }
-    (b - b'0') as usize
-}
-
-fn wide(x: u8) -> usize
-    ensures { (result ≡ x) × (result ≤ 255) }
-{
-    x as usize
 }
 
 fn brightness_at(band: &[u8], at: usize) -> usize
     requires { at + 2 < length band.now }
     ensures { result ≡ brightness band.now at }
 {
-    (2 * wide(band[at]) + 5 * wide(band[at + 1]) + wide(band[at + 2])) / 8
+    (2 * usize::from(band[at]) + 5 * usize::from(band[at + 1]) + usize::from(band[at + 2])) / 8
 }
 
 // The weight of a dot where its pixel is at least so bright, else 0.

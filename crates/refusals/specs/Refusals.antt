@@ -1,7 +1,7 @@
 -- Document 01, "Refusal numbers", and the numbers that document 02's requests add: the table, and what stands in a refusal's other
 -- number.
 -- Assumes nothing.
-use Rattle.std.specs.Prelude.{ℕ, Bool, cond}
+use Rattle.std.specs.Prelude.{ℕ, Bool, cond, Result, Ok, Err}
 use Rattle.refusals.specs.declared.Unheard.TheVariants.{Idle, NotAddressed, Reading, Writing}
 use Rattle.refusals.specs.declared.FileRefusal.{FileRefusal}
 use Rattle.refusals.specs.declared.FileRefusal.TheVariants.{Length, Checks, Format}
@@ -70,6 +70,11 @@ place_in (Format place) = place
 
 abbrev pub file_refused : FileRefusal → Reply
 file_refused r = record { refusal = file_number_of r; value = place_in r }
+
+-- an answer in numbers: its own where the call is accepted, else those of the refusal
+abbrev pub reply_of : {T E : Type 0} → (T → ℕ) → (E → Reply) → Result T E → Reply
+reply_of own numbers (Ok x) = accepted (own x)
+reply_of own numbers (Err r) = numbers r
 
 -- ---- the order of refusals
 

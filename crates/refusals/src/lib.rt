@@ -1,11 +1,10 @@
 #![tactic(auto)]
 // The refusals of document 01's table and of document 02's requests, each with its number.
-ghost use Rattle.std.specs.Prelude.{◌≡◌};
-ghost use Rattle.refusals.specs.declared.Refusal.TheVariants.{NotAcknowledged};
-ghost use Rattle.refusals.specs.Refusals.{number_of, value_in, file_number_of, place_in};
+ghost use Rattle.std.specs.Prelude.{ℕ, ◌≡◌, cond};
+ghost use Rattle.refusals.specs.Refusals.{Reply, number_of, refused, file_refused, reply_of};
 
 // Why an event is not acknowledged.
-#[derive(Clone, Copy)]
+#[derive(Clone, Copy, Debug, PartialEq, Eq)]
 pub enum Unheard {
     // 5: a host byte or a fetch while idle
     Idle,
@@ -17,7 +16,7 @@ pub enum Unheard {
     Writing,
 }
 
-#[derive(Clone, Copy)]
+#[derive(Clone, Copy, Debug, PartialEq, Eq)]
 pub enum Refusal {
     // 1: the lent RAM is not 1,024 bytes
     RamLength,
@@ -44,7 +43,7 @@ pub enum Refusal {
 }
 
 // The refusals of font files, which no other call gives.
-#[derive(Clone, Copy)]
+#[derive(Clone, Copy, Debug, PartialEq, Eq)]
 pub enum FileRefusal {
     // 15: a font file that is not 5,120 bytes, or the font that goes with it not 4,608
     Length,
@@ -54,23 +53,22 @@ pub enum FileRefusal {
     Format(u8),
 }
 
-impl Unheard {
+// A refusal in the table's numbers.
+pub trait Numbered {
+    ghost numbers: { Self → Reply };
+
     fn number(self) -> u8
-        ensures { result ≡ number_of (NotAcknowledged self) }
-    {
-        match self {
-            Unheard::Idle => 5,
-            Unheard::NotAddressed => 12,
-            Unheard::Reading => 13,
-            Unheard::Writing => 14,
-        }
-    }
+        ensures { result ≡ (numbers self).refusal };
+
+    // The number beside it.
+    fn value(self) -> u8
+        ensures { result ≡ (numbers self).value };
 }
 
-impl Refusal {
-    pub fn number(self) -> u8
-        ensures { result ≡ number_of self }
-    {
+impl Numbered for Refusal {
+    ghost numbers = { refused };
+
+    fn number(self) -> u8 {
         match self {
             Refusal::RamLength => 1,
             Refusal::FontLength => 2,
@@ -86,30 +84,32 @@ impl Refusal {
         }
     }
 
-    // The number beside a refusal that has none of its own: 255 for an event that is not acknowledged, else 0.
-    pub fn value(self) -> u8
-        ensures { result ≡ value_in self }
-    {
+    // 255 for the byte of an event that is not acknowledged, else 0.
+    fn value(self) -> u8 {
         match self {
-            Refusal::RamLength => 0,
-            Refusal::FontLength => 0,
-            Refusal::LineLength => 0,
-            Refusal::NoLine => 0,
             Refusal::NotAcknowledged(_) => 255,
-            Refusal::FrameLines => 0,
-            Refusal::BenchLength => 0,
-            Refusal::CellRange => 0,
-            Refusal::FeedShut => 0,
-            Refusal::OutputRoom => 0,
-            Refusal::PixelRange => 0,
+            _ => 0,
         }
     }
 }
 
-impl FileRefusal {
-    pub fn number(self) -> u8
-        ensures { result ≡ file_number_of self }
+impl Unheard {
+    fn number(self) -> u8
+        ensures { result ≡ number_of (Refusal.NotAcknowledged self) }
     {
+        match self {
+            Unheard::Idle => 5,
+            Unheard::NotAddressed => 12,
+            Unheard::Reading => 13,
+            Unheard::Writing => 14,
+        }
+    }
+}
+
+impl Numbered for FileRefusal {
+    ghost numbers = { file_refused };
+
+    fn number(self) -> u8 {
         match self {
             FileRefusal::Length => 15,
             FileRefusal::Checks(_) => 16,
@@ -118,13 +118,70 @@ impl FileRefusal {
     }
 
     // The place of the bad block in its file; 0 where the length is wrong.
-    pub fn place(self) -> u8
-        ensures { result ≡ place_in self }
-    {
+    fn value(self) -> u8 {
         match self {
             FileRefusal::Length => 0,
-            FileRefusal::Checks(place) => place,
-            FileRefusal::Format(place) => place,
+            FileRefusal::Checks(place) | FileRefusal::Format(place) => place,
         }
+    }
+}
+
+// What an accepted call answers, as a number.
+pub trait Value {
+    ghost own: { Self → ℕ };
+
+    fn own(self) -> u16
+        ensures { result ≡ own self };
+}
+
+impl Value for () {
+    ghost own = { λ _. 0 };
+
+    fn own(self) -> u16 {
+        0
+    }
+}
+
+impl Value for bool {
+    ghost own = { λ b. cond b 1 0 };
+
+    fn own(self) -> u16 {
+        u16::from(self)
+    }
+}
+
+impl Value for u8 {
+    ghost own = { λ x. x };
+
+    fn own(self) -> u16 {
+        u16::from(self)
+    }
+}
+
+impl Value for u16 {
+    ghost own = { λ x. x };
+
+    fn own(self) -> u16 {
+        self
+    }
+}
+
+// The refusal's number in an answer; 0 where the call is accepted.
+pub fn refusal_of<T: Value + Copy, E: Numbered + Copy>(answer: Result<T, E>) -> u8
+    ensures { result ≡ (reply_of T.own E.numbers answer).refusal }
+{
+    match answer {
+        Ok(_) => 0,
+        Err(refusal) => refusal.number(),
+    }
+}
+
+// The answer's other number.
+pub fn value_of<T: Value + Copy, E: Numbered + Copy>(answer: Result<T, E>) -> u16
+    ensures { result ≡ (reply_of T.own E.numbers answer).value }
+{
+    match answer {
+        Ok(own) => own.own(),
+        Err(refusal) => u16::from(refusal.value()),
     }
 }

@@ -3,13 +3,13 @@
 ghost use Rattle.std.specs.Prelude.{◌≡◌, length};
 ghost use Rattle.registers.specs.Registers.{fresh_registers, loaded, stored, fetched, settings_of, page_of};
 
-#[derive(Clone, Copy)]
+#[derive(Clone, Copy, Debug, PartialEq, Eq)]
 pub struct Registers {
     pub bytes: [u8; 16],
 }
 
 // What a line reads of the registers. Written only by `Registers::settings`.
-#[derive(Clone, Copy)]
+#[derive(Clone, Copy, Debug, PartialEq, Eq)]
 pub struct Settings {
     pub ld: u8,
     pub dd: u8,
@@ -70,10 +70,8 @@ impl Registers {
         ensures { result ≡ loaded bytes.now }
     {
         let mut next = Self::RESET;
-        let mut i = 0;
-        while i < 16 {
+        for i in 0..16 {
             next[i] = bytes[i] & Self::KEPT[i];
-            i += 1;
         }
         Registers { bytes: next }
     }
@@ -83,18 +81,18 @@ impl Registers {
         ensures { result ≡ stored self number byte }
     {
         let i = number % 16;
-        let mut next = self.bytes;
-        next[i] = byte & Self::KEPT[i];
-        Registers { bytes: next }
+        let mut bytes = self.bytes;
+        bytes[i] = byte & Self::KEPT[i];
+        Registers { bytes }
     }
 
     pub fn fetch(self, number: usize) -> u8
         ensures { result ≡ fetched self number }
     {
-        let i = number % 16;
-        self.bytes[i]
+        self.bytes[number % 16]
     }
 
+    #[tactic(auto, unfolding(crate::specs::Registers::settings_of))]
     pub fn settings(self) -> Settings
         ensures { result ≡ settings_of self }
     {

@@ -10,6 +10,7 @@ use borrow.Author.Tests.{ne_eqb, eqb-true, le-ltb, le-leb}
 use lib.Dec.{eqb}
 use lib.ListN.{length, drop, replicate, length-append, length-take, length-drop, length-replicate}
 use lib.Seq.{take-append_seam}
+use Rattle.std.specs.Prelude.{Some}
 use Rattle.limits.specs.Limits.{ram_length, font_length, line_max}
 use Rattle.registers.proofs.Laws.{ld_bound_lem}
 use Rattle.line.proofs.Laws.{paint-length}
@@ -23,7 +24,7 @@ use Rattle.report.proofs.Texts.{places_few, text-drawn, refusal-long, heading_lo
 -- ---- a text that fits its buffer
 
 module _ (text out : List ℕ) (fits : length text ≤ length out) where
-  fits-is : write_text text out ≡ record { answer = length text; out = text ++ drop (length text) out }
+  fits-is : write_text text out ≡ record { answer = Some (length text); out = text ++ drop (length text) out }
   unfolding write_text
   fits-is = rw (le-ltb (length out) (length text) fits)
 

@@ -1,4 +1,4 @@
--- The laws of the input's parts, of the decimal digits, and of a text that is written part by part.
+-- The laws of the decimal digits, and of a text that is written part by part.
 -- Assumes nothing.
 use Prim.Native.Nat.{ℕ, zero, suc, ◌+◌, ◌/◌, ◌≤◌, ◌<◌}
 use mathlib.Core.Path.{◌≡◌, refl, ap, ◌∙◌}
@@ -6,16 +6,19 @@ use mathlib.Core.List.{List, [], ◌++◌}
 use native.Mathlib.Nat.{zero-add}
 use native.Mathlib.Omega.{arith}
 use lib.Dec.{ltb}
-use borrow.Author.Tests.{eq-eqb, ne_eqb, lt-ltb, le-ltb}
+use borrow.Author.Tests.{eq-eqb, lt-ltb, le-ltb}
 use lib.ListN.{length, length-append, length-map}
 use lib.Seq.{sets, sets-eq}
+use Rattle.std.specs.Prelude.{Some, None}
 use Rattle.facts.proofs.Choice.{either}
 use Rattle.facts.proofs.Parts.{sets-append}
 use Rattle.buffers.specs.Buffers.{bytes_of}
+use Rattle.refusals.specs.declared.Refusal.{Refusal}
+use Rattle.refusals.specs.Refusals.{refused}
+use Rattle.refusals.proofs.Laws.{not-zero}
+use Rattle.device.specs.declared.Device.{Device}
 use Rattle.device.specs.Device.{DrawOutcome}
-use Rattle.report.specs.Report.{places_of, digits, decimal, Put, refusal_text, heading_text, line_text, TextOutcome, write_text, text_outcome, LineOutcome, text_of}
-
--- ---- parts of the input
+use Rattle.report.specs.Report.{places_of, digits, decimal, Put, refusal_text, heading_text, line_text, TextOutcome, write_text, text_outcome, LineOutcome, line_outcome, text_of}
 
 -- ---- digits
 
@@ -55,23 +58,22 @@ module _ {out₀ text : List ℕ} {a : ℕ} {out : List ℕ} (u : Upto out₀ te
       }
 
   -- the whole text is written
-  pub upto_whole : a ≤ length out₀ → text_outcome a out ≡ write_text text out₀
+  pub upto_whole : a ≤ length out₀ → text_outcome (Some a) out ≡ write_text text out₀
   unfolding write_text
   upto_whole h =
       rw (le-ltb (length out₀) (length text) (omega arith), u.long)
-      (ap (text_outcome a) (u.is ∙ sets-eq text out₀ 0 (omega arith) ∙ rw (zero-add, u.long)))
+      (ap (text_outcome (Some a)) (u.is ∙ sets-eq text out₀ 0 (omega arith) ∙ rw (zero-add, u.long)))
 
 -- there is no room for the text
-pub too_short : (text out : List ℕ) → length out < length text → text_outcome 0 out ≡ write_text text out
+pub too_short : (text out : List ℕ) → length out < length text → text_outcome None out ≡ write_text text out
 unfolding write_text
 too_short text out h = rw (lt-ltb (length out) (length text) h)
 
 -- ---- the text of a draw
 
-pub text-refused : (o : DrawOutcome) (out : List ℕ) → (o.reply.refusal ≡ 0 → ⊥)
-    → ◌≡◌ {A = LineOutcome} (record { device = o.device; text = text_outcome 0 out }) (text_of o out)
+pub text-refused : (d : Device) (line out : List ℕ) (r : Refusal) → line_outcome d None out ≡ text_of (record { device = d; line = line; reply = refused r }) out
 unfolding text_of
-text-refused o out h = rw (ne_eqb o.reply.refusal 0 h)
+text-refused d line out r = rw (not-zero r)
 
 pub text-drawn : (o : DrawOutcome) (out : List ℕ) (t : TextOutcome) → o.reply.refusal ≡ 0
     → t ≡ write_text (line_text o.line o.reply.value) out

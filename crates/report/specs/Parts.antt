@@ -2,15 +2,19 @@
 -- crates/bench/src/main.rt is `run`, `show` and `print` over this crate's functions; here each call is the definition that its promise
 -- cites. That what is handed to `io` comes out is tested, not proved.
 -- Assumes nothing.
-use Rattle.std.specs.Prelude.{ℕ, zero, suc, ◌≤◌, ◌≡◌, cond, eqb, leb, length, take}
+use Rattle.std.specs.Prelude.{ℕ, zero, suc, ◌≤◌, ◌≡◌, cond, eqb, leb, length, take, Option, Some, None}
 use mathlib.Core.List.{List, [], ◌∷◌, flatten}
 use Rattle.device.specs.declared.Device.{Device}
 use Rattle.device.specs.Device.{StartOutcome, line_width}
 use Rattle.report.specs.Report.{ram_part, font_part, bench_start, refusal_text, heading_text, TextOutcome, write_text, LineOutcome, next_text, bench_text}
 
--- print: of the text buffer as a call left it, as many bytes as the call answered
+-- print: of the text buffer as a call left it, as many bytes as the call answered; nothing where it answered none
+abbrev pub printed_part : Option ℕ → List ℕ → List ℕ
+printed_part None out = []
+printed_part (Some n) out = cond (leb n (length out)) (take n out) []
+
 abbrev pub printed : TextOutcome → List ℕ
-printed t = cond (leb t.answer (length t.out)) (take t.answer t.out) []
+printed t = printed_part t.answer t.out
 
 -- show, its loop: `next_text` so many times, each with the device and the text buffer that the call before left
 unfoldable pub line_parts : ℕ → Device → List ℕ → List ℕ → List ℕ → List (List ℕ)

@@ -1,16 +1,16 @@
 -- Document 01, "Bench program": what stands in its input, how it starts, and every byte that it prints. Refusals 7, then 6.
 -- A text is the list of its byte codes, in ASCII.
 -- Assumes nothing.
-use Rattle.std.specs.Prelude.{ℕ, zero, suc, ◌+◌, ◌/◌, ◌%◌, ◌≡◌, not, cond, List, [], ◌∷◌, ◌++◌, map, eqb, ltb, length, take, drop, replicate}
+use Rattle.std.specs.Prelude.{ℕ, zero, suc, ◌+◌, ◌/◌, ◌%◌, ◌≡◌, not, cond, List, [], ◌∷◌, ◌++◌, map, eqb, ltb, length, take, drop, replicate, Option, Some, None, Result, Ok, Err}
 use Rattle.std.proofs.lemmas.List.Edits.{sets}
 use Rattle.limits.specs.Limits.{ram_length, font_length}
 use Rattle.buffers.specs.Buffers.{word, hex_digit, bytes_of}
 use Rattle.refusals.specs.declared.Refusal.TheVariants.{BenchLength}
-use Rattle.refusals.specs.Refusals.{refused}
+use Rattle.refusals.specs.Refusals.{accepted, refused}
 use Rattle.registers.specs.Registers.{loaded}
 use Rattle.device.specs.declared.Device.{Device}
 use Rattle.device.specs.Device.{fresh_device, StartOutcome, start_frame, DrawOutcome, draw_line, line_width}
-use Rattle.report.specs.declared.LineDone.{LineDone}
+use Rattle.report.specs.declared.BenchRefusal.{BenchRefusal}
 
 -- ---- standard input: RAM, sixteen registers, font, line count low byte first
 
@@ -59,6 +59,11 @@ bench_start input =
     (record { device = fresh_device; reply = refused BenchLength })
     (start_frame (bench_device input) (line_count input))
 
+-- what a start answered, in the same form
+abbrev pub start_outcome : Result Device BenchRefusal → StartOutcome
+start_outcome (Ok d) = record { device = d; reply = accepted 0 }
+start_outcome (Err r) = record { device = r.device; reply = refused r.refusal }
+
 -- ---- numbers
 
 -- how many decimal digits a number has; every number here is below 65,536
@@ -95,18 +100,18 @@ pub record Put (part : List ℕ) (n at : ℕ) (out : List ℕ) (answer : ℕ) (o
   pub written : out' ≡ sets out at part
 
 pub record TextOutcome : Type 0 where
-  pub answer : ℕ
+  pub answer : Option ℕ
   pub out : List ℕ
 
 -- the text stands at the start, later bytes stay, and the answer is its length; where the buffer is too short for it, the buffer
--- stays and the answer is 0
+-- stays and there is no answer
 unfoldable pub write_text : List ℕ → List ℕ → TextOutcome
 write_text text out =
     cond (ltb (length out) (length text))
-    (record { answer = 0; out = out })
-    (record { answer = length text; out = text ++ drop (length text) out })
+    (record { answer = None; out = out })
+    (record { answer = Some (length text); out = text ++ drop (length text) out })
 
-abbrev pub text_outcome : ℕ → List ℕ → TextOutcome
+abbrev pub text_outcome : Option ℕ → List ℕ → TextOutcome
 text_outcome answer out = record { answer = answer; out = out }
 
 -- ---- the frame's next line
@@ -120,7 +125,7 @@ unfoldable pub text_of : DrawOutcome → List ℕ → LineOutcome
 text_of o out =
     record {
       device = o.device;
-      text = cond (eqb o.reply.refusal 0) (write_text (line_text o.line o.reply.value) out) (text_outcome 0 out);
+      text = cond (eqb o.reply.refusal 0) (write_text (line_text o.line o.reply.value) out) (text_outcome None out);
     }
 
 -- the draw fills a buffer of W bytes
@@ -130,8 +135,8 @@ next_draw d ram font = draw_line d ram font (replicate (line_width d) 0)
 abbrev pub next_text : Device → List ℕ → List ℕ → List ℕ → LineOutcome
 next_text d ram font out = text_of (next_draw d ram font) out
 
-abbrev pub line_outcome : LineDone → List ℕ → LineOutcome
-line_outcome l out = record { device = l.device; text = text_outcome l.length out }
+abbrev pub line_outcome : Device → Option ℕ → List ℕ → LineOutcome
+line_outcome d answer out = record { device = d; text = text_outcome answer out }
 
 -- ---- the whole output
 

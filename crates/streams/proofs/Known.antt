@@ -1,26 +1,19 @@
--- What reads took, and writes gave, one after the other, and a read in place.
-use Rattle.std.proofs.Common.{◌≡◌, ℕ, ◌+◌, ◌-◌, List, ◌++◌, length, take, drop, sym, ap, subst, ◌∙◌, drop_at, arith, length-drop}
+-- What reads took, and writes gave, one after the other.
+use Rattle.std.proofs.Common.{◌≡◌, ℕ, ◌+◌, ◌-◌, ◌≤◌, List, ◌++◌, length, take, drop, sym, ap, ap₂, subst, ◌∙◌, drop_at, arith, length-drop, length-take-le}
 use lib.Seq.{take-add, take-append-le, take_all}
+use borrow.Rule.Slice.PartMut.{put_mid}
 use Rattle.std.specs.declared.option.Option.{Option}
-use Rattle.std.specs.declared.result.Result.{Result}
-use Rattle.std.specs.declared.result.Result.TheVariants.{Ok, Err}
-use Rattle.std.specs.Prelude.{IfOk}
-use Rattle.std.specs.Io.{ReadsAtMost}
-use Rattle.std.specs.Io.KnownBytes.{Appends, Consumes, ReadConsumes}
+use Rattle.std.specs.Io.KnownBytes.{Appends, Consumes}
 use Rattle.std.proofs.KnownBytes.{Appends-trans, Consumes-trans}
+use Rattle.std.proofs.lemmas.Slice.{take-put_mid_below}
 
--- what was read into the part stands after the front
-pub Consumes-in_place : {E : Type 0} (a b : Option (List ℕ)) (r : Result ℕ E) (front part rest : List ℕ) (at : ℕ) → length front ≡ at → ReadsAtMost r part
-    → ReadConsumes a b r part → IfOk r (λ n. Consumes a b (take n (drop at (front ++ (part ++ rest)))))
-Consumes-in_place a b (Ok n) front part rest at long fits read =
-    subst (Consumes a b) (sym (ap (take n) (drop_at front (part ++ rest) at long) ∙ take-append-le n part rest fits.0)) read.0
-Consumes-in_place a b (Err e) front part rest at long fits read = tt
-
--- of a list whose front stays, what was read behind the front makes the front longer
-pub Consumes-behind : (a b c : Option (List ℕ)) (old new : List ℕ) (at n : ℕ) → take at new ≡ take at old
-    → Consumes a b (take at old) → Consumes b c (take n (drop at new)) → Consumes a c (take (at + n) new)
-Consumes-behind a b c old new at n front before read =
-    subst (Consumes a c) (ap (λ l. l ++ take n (drop at new)) (sym front) ∙ sym (take-add at n new)) (Consumes-trans a b c _ _ before read)
+-- what was read into the part behind the front makes the front longer
+pub Consumes-behind : (a b c : Option (List ℕ)) (old part : List ℕ) (at k n : ℕ) → at ≤ length old → n ≤ length part → Consumes a b (take at old)
+    → Consumes b c (take n part) → Consumes a c (take (at + n) (put_mid at k old part))
+Consumes-behind a b c old part at k n within fits before read =
+    subst (Consumes a c) (sym (take-add at n (put_mid at k old part) ∙ ap₂ (λ (l m : List ℕ). l ++ m) (take-put_mid_below at k old part at (omega arith) within)
+    (ap (take n) (drop_at (take at old) _ at (length-take-le at old within)) ∙ take-append-le n part _ fits)))
+    (Consumes-trans a b c _ _ before read)
 
 -- what was written of what is left behind the front makes the front longer
 pub Appends-behind : (a b c : Option (List ℕ)) (bytes : List ℕ) (at n : ℕ) → Appends a b (take at bytes)

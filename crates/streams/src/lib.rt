@@ -1,12 +1,14 @@
 #![tactic(auto)]
 // What programs do with a stream of bytes: one is read into a buffer, and bytes and numbers are written.
-ghost use Rattle.std.specs.Prelude.{◌≡◌, ◌+◌, ◌≤◌, ◌<◌, length, take, drop, IfOk, OnOk, OnErr};
-ghost use Rattle.std.specs.Io.KnownBytes.{Appends, Consumes, IsAtEnd, Keeps};
+ghost use Rattle.std.specs.Prelude.{◌≤◌, ◌<◌, length, take, IfOk, OnOk, OnErr};
+ghost use Rattle.std.specs.Io.KnownBytes.{Appends, Consumes, IsAtEnd};
 ghost use Rattle.std.specs.Fmt.{decimal};
 ghost use Rattle.streams.specs.Streams.{hexadecimal, AppendsPart, ConsumesPart};
 
 use std::io;
 use std::io::{ErrorKind, Read, Write};
+
+// Both loops are written out, since std's `read_exact` and `write_all` say little of what they did before an error.
 
 // Reads until the buffer is full or the input ends, and says how many bytes it has put at the start of the buffer.
 pub fn read_full<R: Read>(input: &mut R, buffer: &mut [u8]) -> io::Result<usize>
@@ -17,25 +19,13 @@ pub fn read_full<R: Read>(input: &mut R, buffer: &mut [u8]) -> io::Result<usize>
 {
     let mut done = 0;
     while done < buffer.len() {
-        let n = read_behind(input, buffer, done)?;
+        let n = input.read(&mut buffer[done..])?;
         if n == 0 {
             return Ok(done);
         }
         done += n;
     }
     Ok(done)
-}
-
-// One read, behind the first bytes of the buffer.
-fn read_behind<R: Read>(input: &mut R, buffer: &mut [u8], done: usize) -> io::Result<usize>
-    requires { done < length buffer.old }
-    ensures front { take done buffer.new ≡ take done buffer.old }
-    ensures in_bounds { IfOk result (λ n. done + n ≤ length buffer.new) }
-    ensures bytes { IfOk result (λ n. Consumes (R.remaining input.old) (R.remaining input.new) (take n (drop done buffer.new))) }
-    ensures end { IfOk result (λ n. n ≡ 0 → IsAtEnd (R.remaining input.new)) }
-    ensures err { OnErr result (Keeps (R.remaining input.old) (R.remaining input.new)) }
-{
-    input.read(&mut buffer[done..])
 }
 
 // Writes all bytes, or some of them and then an error.

@@ -3,7 +3,8 @@
 // Prints a refusal, or the heading, the first and the last line, and a digest of all lines.
 // Standard input: the bench's input with the count 0, and one byte more. The stored output comes from tests/model.py
 // (tests/test_bench.py).
-use device::{Device, StartAnswer};
+use device::Device;
+use refusals::Numbered;
 use std::io;
 use std::io::Write;
 use test_script::Numbers;
@@ -18,92 +19,55 @@ fn main(rt: HostRuntime) -> io::Result<()> {
     let mut input = [0u8; 5651];
     streams::read_full(&mut rt.stdin(), &mut input)?;
     let mut out = rt.stdout();
-    run(&mut out, test_script::first(&input, 0))?;
-    run(&mut out, test_script::first(&input, 5649))?;
-    run(&mut out, &input)?;
-    run_count(&mut out, &mut input, 0)?;
-    run_count(&mut out, &mut input, 2048)?;
-    run_count(&mut out, &mut input, 2049)?;
-    run_count(&mut out, &mut input, 65535)
-}
-
-// The input with a line count, low byte first.
-fn run_count<W: Write>(out: &mut W, input: &mut [u8; 5651], lines: u16) -> io::Result<()> {
-    input[5648] = (lines % 256) as u8;
-    input[5649] = (lines / 256) as u8;
-    run(out, test_script::first(input, 5650))
-}
-
-fn run<W: Write>(out: &mut W, input: &[u8]) -> io::Result<()> {
-    let begun = report::begin(input);
-    let answer = begun.answer;
-    let device = begun.device;
-    match answer {
-        StartAnswer::Refused(refusal) => {
-            let mut text = [0u8; 16];
-            let n = report::refusal_text(refusal.number(), &mut text);
-            out.write_all(test_script::first(&text, n))?;
-        }
-        StartAnswer::Started => {
-            show(
-                out,
-                device,
-                report::ram_part(input),
-                report::font_part(input),
-            )?;
-        }
+    for n in [0, 5649, 5651] {
+        run(&mut out, test_script::first(&input, n))?;
+    }
+    for lines in [0, 2048, 2049, 65535] {
+        // the line count, low byte first
+        let [low, high] = u16::to_le_bytes(lines);
+        input[5648] = low;
+        input[5649] = high;
+        run(&mut out, test_script::first(&input, 5650))?;
     }
     Ok(())
 }
 
-// A frame that is started.
-fn show<'a, W: Write>(
-    out: &mut W,
-    device: Device,
-    ram: &'a [u8],
-    font: &'a [u8],
-) -> io::Result<()> {
-    show_heading(out, device)?;
-    show_lines(out, device, ram, font)
+// Like `run` and `show` of the bench, but most lines go into the digest alone: no crate stands on a program.
+fn run<W: Write>(out: &mut W, input: &[u8]) -> io::Result<()> {
+    match report::begin(input) {
+        Ok(mut device) => show(
+            out,
+            &mut device,
+            report::ram_part(input),
+            report::font_part(input),
+        ),
+        Err(refused) => {
+            let mut text = [0u8; 16];
+            let n = report::refusal_text(refused.refusal.number(), &mut text);
+            out.write_all(written(&text, n))
+        }
+    }
 }
 
-fn show_heading<W: Write>(out: &mut W, device: Device) -> io::Result<()> {
-    let mut text = [0u8; 32];
-    let frame = device.frame;
-    let n = report::heading(frame.left, device.width(), &mut text);
-    out.write_all(test_script::first(&text, n))
-}
-
-// The first and the last line, and the digest.
-fn show_lines<'a, W: Write>(
-    out: &mut W,
-    device: Device,
-    ram: &'a [u8],
-    font: &'a [u8],
-) -> io::Result<()> {
+// A frame that is started: the heading, the first and the last line, and the digest.
+fn show<W: Write>(out: &mut W, device: &mut Device, ram: &[u8], font: &[u8]) -> io::Result<()> {
     let mut text = [0u8; 1024];
-    let frame = device.frame;
-    let lines = frame.left;
-    let mut next = device;
+    let lines = device.frame.left;
+    let n = report::heading(lines, device.width(), &mut text);
+    out.write_all(written(&text, n))?;
     let mut sum = 0;
     for y in 0..lines {
-        let done = report::next_text(next, ram, font, &mut text);
-        sum = told(
-            out,
-            sum,
-            test_script::first(&text, done.length),
-            lines - y,
-            lines,
-        )?;
-        next = done.device;
+        let n = report::next_text(device, ram, font, &mut text);
+        let line = written(&text, n);
+        if y == 0 || y == lines - 1 {
+            out.write_all(line)?;
+        }
+        sum = test_script::mix_all(sum, line, DIGEST);
     }
-    test_script::print_decimal(out, sum, b'\n')
+    writeln!(out, "{sum}")
 }
 
-// The digest with a line, which is printed where it is the first or the last.
-fn told<W: Write>(out: &mut W, sum: u64, line: &[u8], left: u16, lines: u16) -> io::Result<u64> {
-    if left == lines || left == 1 {
-        out.write_all(line)?;
-    }
-    Ok(test_script::mix_all(sum, line, DIGEST))
+// The text in a buffer; nothing where there is none.
+fn written(text: &[u8], n: Option<usize>) -> &[u8] {
+    test_script::first(text, n.unwrap_or(0))
 }

@@ -5,9 +5,29 @@
 // (tests/test_bus.py has the script).
 use bus::Event;
 use device::Device;
+use refusals::Refusal;
 use std::io;
 use std::io::Write;
-use test_script::Call;
+
+// A step, by its kind.
+#[derive(Clone, Copy)]
+enum Step {
+    Hear(Event),
+    // the choice of test_script::length
+    Lend(u8),
+    Nothing,
+}
+
+impl From<[u8; 2]> for Step {
+    fn from(bytes: [u8; 2]) -> Step {
+        let [kind, byte] = bytes;
+        match kind {
+            0..=3 => Step::Hear(Event::of_kind(kind, byte)),
+            4 => Step::Lend(byte),
+            _ => Step::Nothing,
+        }
+    }
+}
 
 fn main(rt: HostRuntime) -> io::Result<()> {
     let mut script = [0u8; 8192];
@@ -19,70 +39,29 @@ fn main(rt: HostRuntime) -> io::Result<()> {
 fn run<W: Write>(out: &mut W, script: &[u8], ram: &mut [u8]) -> io::Result<()> {
     let mut device = Device::fresh();
     let mut lent = 1024;
-    for i in 0..script.len() / 2 {
-        let kind = script[2 * i];
-        let byte = script[2 * i + 1];
-        lent = lent_from(lent, kind, byte);
-        device = heard(
-            out,
-            device,
-            test_script::first_mut(ram, lent as usize),
-            kind,
-            byte,
-        )?;
+    let (steps, _) = script.as_chunks::<2>();
+    for &step in steps {
+        match Step::from(step) {
+            Step::Hear(event) => {
+                let lent = test_script::first_mut(ram, usize::from(lent));
+                show(out, event, device.hear(lent, event))?;
+            }
+            Step::Lend(choice) => lent = test_script::length(1024, choice),
+            Step::Nothing => {}
+        }
     }
     Ok(())
 }
 
-// How much RAM is lent from a step on.
-fn lent_from(lent: u16, kind: u8, choice: u8) -> u16 {
-    if kind == 4 {
-        return test_script::length(1024, choice);
-    }
-    lent
-}
-
-fn heard<W: Write>(
-    out: &mut W,
-    device: Device,
-    ram: &mut [u8],
-    kind: u8,
-    byte: u8,
-) -> io::Result<Device> {
-    if kind > bus::STOP {
-        return Ok(device);
-    }
-    let done = test_script::make(device, ram, Call::Hear(Event::of_kind(kind, byte)));
-    show(out, kind, byte, done.refusal, done.value)?;
-    Ok(done.device)
-}
-
 // The event, the refusal's number in decimal and the byte.
-fn show<W: Write>(out: &mut W, kind: u8, byte: u8, refusal: u8, answer: u16) -> io::Result<()> {
-    show_event(out, kind, byte)?;
-    out.write_all(b": ")?;
-    test_script::print_decimal(out, refusal as u64, b' ')?;
-    test_script::print_hex(out, answer as u64, 2, b'\n')
-}
-
-fn show_event<W: Write>(out: &mut W, kind: u8, byte: u8) -> io::Result<()> {
-    if kind == bus::START {
-        return out.write_all(b"start");
+fn show<W: Write>(out: &mut W, event: Event, answer: Result<u8, Refusal>) -> io::Result<()> {
+    match event {
+        Event::Start => write!(out, "start")?,
+        Event::Byte(byte) => write!(out, "byte {byte:02X}")?,
+        Event::Fetch => write!(out, "fetch")?,
+        Event::Stop => write!(out, "stop")?,
     }
-    if kind == bus::FETCH {
-        return out.write_all(b"fetch");
-    }
-    if kind == bus::STOP {
-        return out.write_all(b"stop");
-    }
-    let text = [
-        b'b',
-        b'y',
-        b't',
-        b'e',
-        b' ',
-        buffers::hex_digit(byte / 16),
-        buffers::hex_digit(byte % 16),
-    ];
-    out.write_all(&text)
+    let refusal = refusals::refusal_of(answer);
+    let byte = refusals::value_of(answer);
+    writeln!(out, ": {refusal} {byte:02X}")
 }

@@ -10,11 +10,12 @@
 //
 // The stored output comes from tests/model.py, which was written from request K1's words and not from this code
 // (tests/test_feed.py has the steps).
-ghost use Rattle.std.specs.Prelude.{◌≡◌, ◌*◌, ◌<◌, length, get_or, drop, IfOk};
+ghost use Rattle.std.specs.Prelude.{◌≡◌, ◌*◌, ◌<◌, length, get_or, drop};
 ghost use Rattle.capture.specs.Capture.{would_complete};
 
-use capture::Feed;
+use capture::{Feed, FeedRefusal};
 use device::Device;
+use refusals::Numbered;
 use std::io;
 use std::io::Write;
 use test_script::Numbers;
@@ -31,215 +32,165 @@ const DIGEST: Numbers = Numbers {
     last: 4294967290,
 };
 
-// What a host keeps from call to call, beside its RAM.
+// A step with its bytes, fewer where the script ends in them.
 #[derive(Clone, Copy)]
+enum Step<'a> {
+    Fresh,
+    FreshFeed,
+    // the choice of test_script::length
+    Lend(u8),
+    // how many bytes its output has, and the chunk
+    Chunk(u8, &'a [u8]),
+    Capture(&'a [u8]),
+    Nothing,
+}
+
+// What a host keeps from call to call.
+#[derive(Drop)]
 struct Host {
     device: Device,
-    feed: Feed,
+    // one byte more than a device has, to be lent too much of it
+    ram: [u8; 1025],
     // how much of the RAM is lent: the choice of test_script::length
     lent: u8,
+    feed: Feed,
     // the digest of all bytes that its chunks wrote
     written: u64,
 }
 
-#[derive(Clone, Copy)]
-struct Answer {
-    refusal: u8,
-    value: usize,
-}
-
-// What a chunk leaves and answers.
-#[derive(Clone, Copy)]
-struct Fed {
-    host: Host,
-    answer: Answer,
-}
-
-// What a capture leaves: the feed's state and the kind that it holds, and the digests of output and RAM.
-#[derive(Clone, Copy)]
+// What a capture leaves: the feed, and the digests of output and RAM.
+#[derive(Clone, Copy, Debug, PartialEq, Eq)]
 struct Left {
-    state: u8,
-    held: u8,
+    feed: Feed,
     written: u64,
     ram: u64,
 }
 
-// A capture in three chunks.
+// A capture in three chunks: what each answers, and what the last one leaves.
 #[derive(Clone, Copy)]
 struct Cut {
-    head: Answer,
-    empty: Answer,
-    tail: Answer,
+    answers: [Result<usize, FeedRefusal>; 3],
     left: Left,
 }
 
 fn main(rt: HostRuntime) -> io::Result<()> {
     let mut script = [0u8; 8192];
     let n = streams::read_full(&mut rt.stdin(), &mut script)?;
-    let mut ram = [0u8; 1025];
-    run(&mut rt.stdout(), &script[..n], &mut ram)
+    run(&mut rt.stdout(), &script[..n])
 }
 
 // ---- steps
 
-fn run<W: Write>(out: &mut W, script: &[u8], ram: &mut [u8]) -> io::Result<()> {
+fn run<W: Write>(out: &mut W, script: &[u8]) -> io::Result<()> {
     let mut host = Host::fresh();
-    let mut at = 0;
-    while at < script.len() {
-        let steps = &script[at..];
-        host = make_first(out, host, ram, steps)?;
-        at += first_length(steps);
+    let mut steps = script;
+    while !steps.is_empty() {
+        let (step, rest) = split(steps);
+        take_step(out, &mut host, step)?;
+        steps = rest;
     }
     Ok(())
 }
 
-// Makes the first of the steps.
-fn make_first<W: Write>(out: &mut W, host: Host, ram: &mut [u8], steps: &[u8]) -> io::Result<Host> {
-    let kind = byte_at(steps, 0);
+// The first of the steps, and those behind it.
+fn split(steps: &[u8]) -> (Step<'_>, &[u8])
+    requires { 0 < length steps.now }
+    ensures { length result.1.now < length steps.now }
+{
     let bytes = behind(steps, 3);
-    match kind {
-        0 => Ok(all_fresh(ram)),
-        1 => Ok(host.anew()),
-        2 => Ok(host.lending(byte_at(steps, 1))),
+    let (a, b) = (byte_at(steps, 1), byte_at(steps, 2));
+    match byte_at(steps, 0) {
+        0 => (Step::Fresh, behind(steps, 1)),
+        1 => (Step::FreshFeed, behind(steps, 1)),
+        2 => (Step::Lend(a), behind(steps, 2)),
         3 => {
-            let chunk = test_script::first(bytes, byte_at(steps, 2) as usize);
-            take_chunk(out, host, ram, chunk, byte_at(steps, 1))
+            let n = usize::from(b);
+            let chunk = test_script::first(bytes, n);
+            (Step::Chunk(a, chunk), behind(bytes, n))
         }
         4 => {
-            take_capture(out, test_script::first(bytes, capture_length(steps)))?;
-            Ok(all_fresh(ram))
+            let n = usize::from(u16::from_le_bytes([a, b]));
+            (
+                Step::Capture(test_script::first(bytes, n)),
+                behind(bytes, n),
+            )
         }
-        _ => Ok(host),
+        _ => (Step::Nothing, behind(steps, 1)),
     }
 }
 
-// The bytes of the first of the steps.
-fn first_length(steps: &[u8]) -> usize
-    ensures { (0 < result) × (result < 65539) }
-{
-    let kind = byte_at(steps, 0);
-    match kind {
-        2 => 2,
-        3 => 3 + byte_at(steps, 2) as usize,
-        4 => 3 + capture_length(steps),
-        _ => 1,
+fn take_step<W: Write>(out: &mut W, host: &mut Host, step: Step<'_>) -> io::Result<()> {
+    match step {
+        Step::Fresh => *host = Host::fresh(),
+        Step::FreshFeed => host.feed = Feed::fresh(),
+        Step::Lend(choice) => host.lent = choice,
+        Step::Chunk(room, chunk) => take_chunk(out, host, chunk, room)?,
+        Step::Capture(capture) => {
+            take_capture(out, capture)?;
+            *host = Host::fresh();
+        }
+        Step::Nothing => {}
     }
-}
-
-fn capture_length(steps: &[u8]) -> usize
-    ensures { result < 65536 }
-{
-    byte_at(steps, 1) as usize + 256 * (byte_at(steps, 2) as usize)
+    Ok(())
 }
 
 // The byte at a place, 0 where there is none.
 fn byte_at(bytes: &[u8], i: usize) -> u8
     ensures { result ≡ get_or bytes.now i 0 }
 {
-    if i < bytes.len() {
-        return bytes[i];
-    }
-    0
+    if i < bytes.len() { bytes[i] } else { 0 }
 }
 
 // The bytes behind the first n.
 fn behind(bytes: &[u8], n: usize) -> &[u8]
     ensures { result.now ≡ drop n bytes.now }
 {
-    if n < bytes.len() {
-        return &bytes[n..];
-    }
-    &bytes[..0]
+    &bytes[n.min(bytes.len())..]
 }
 
 // ---- the host
-
-fn all_fresh(ram: &mut [u8]) -> Host {
-    clear(ram);
-    Host::fresh()
-}
-
-fn clear(ram: &mut [u8]) {
-    for byte in ram.iter_mut() {
-        *byte = 0;
-    }
-}
 
 impl Host {
     fn fresh() -> Host {
         Host {
             device: Device::fresh(),
-            feed: Feed::fresh(),
+            ram: [0; 1025],
             lent: 0,
+            feed: Feed::fresh(),
             written: 0,
         }
     }
 
-    // With its feed made anew.
-    fn anew(self) -> Host {
-        let device = self.device;
-        Host {
-            device: device,
-            feed: Feed::fresh(),
-            lent: self.lent,
-            written: self.written,
-        }
-    }
-
-    fn lending(mut self, choice: u8) -> Host {
-        self.lent = choice;
-        self
-    }
-
-    fn take(self, ram: &mut [u8], chunk: &[u8], out: &mut [u8]) -> Fed {
-        let lent = test_script::length(1024, self.lent) as usize;
-        let feed = self.feed;
-        let done = feed.take(self.device, test_script::first_mut(ram, lent), chunk, out);
-        let device = done.device;
-        let next = done.feed;
-        let answer = done.answer;
-        let value = answer.value();
-        Fed {
-            host: Host {
-                device: device,
-                feed: next,
-                lent: self.lent,
-                written: test_script::mix_all(self.written, test_script::first(out, value), DIGEST),
-            },
-            answer: Answer {
-                refusal: answer.refusal(),
-                value: value,
-            },
-        }
+    fn take(&mut self, chunk: &[u8], out: &mut [u8]) -> Result<usize, FeedRefusal> {
+        let lent = usize::from(test_script::length(1024, self.lent));
+        let ram = test_script::first_mut(&mut self.ram, lent);
+        let answer = self.feed.take(&mut self.device, ram, chunk, out);
+        let (_, n) = numbers(answer);
+        self.written = test_script::mix_all(self.written, test_script::first(out, n), DIGEST);
+        answer
     }
 
     // With just the room that the chunk needs.
-    fn take_exactly(self, ram: &mut [u8], chunk: &[u8]) -> Fed {
-        let feed = self.feed;
+    fn take_exactly(&mut self, chunk: &[u8]) -> Result<usize, FeedRefusal> {
         let mut space = [MARKER; 8192];
-        self.take(
-            ram,
-            chunk,
-            test_script::first_mut(&mut space, room_for(feed, chunk)),
-        )
+        let room = room_for(self.feed, chunk);
+        self.take(chunk, test_script::first_mut(&mut space, room))
     }
 
-    fn left(self, ram: &[u8]) -> Left {
-        let feed = self.feed;
+    fn left(&self) -> Left {
         Left {
-            state: state_of(feed),
-            held: feed.held_kind(),
+            feed: self.feed,
             written: self.written,
-            ram: test_script::mix_all(0, ram, DIGEST),
+            ram: test_script::mix_all(0, test_script::first(&self.ram, 1024), DIGEST),
         }
     }
 }
 
-fn state_of(feed: Feed) -> u8 {
-    match feed {
-        Feed::Open => 0,
-        Feed::Half(_) => 1,
-        Feed::Shut => 2,
+// The refusal's number, and how many bytes of output were written.
+fn numbers(answer: Result<usize, FeedRefusal>) -> (u8, usize) {
+    match answer {
+        Ok(written) => (0, written),
+        Err(refused) => (refused.refusal.number(), refused.written),
     }
 }
 
@@ -252,26 +203,22 @@ fn room_for(feed: Feed, chunk: &[u8]) -> usize
 
 // ---- a chunk
 
-fn take_chunk<W: Write>(
-    out: &mut W,
-    host: Host,
-    ram: &mut [u8],
-    chunk: &[u8],
-    room: u8,
-) -> io::Result<Host> {
+fn take_chunk<W: Write>(out: &mut W, host: &mut Host, chunk: &[u8], room: u8) -> io::Result<()> {
     let mut space = [MARKER; 255];
-    let written = test_script::first_mut(&mut space, room as usize);
-    let fed = host.take(ram, chunk, written);
-    let next = fed.host;
-    let feed = next.feed;
-    say(out, b"chunk ", chunk.len() as u64)?;
-    say(out, b" room ", room as u64)?;
-    show_answer(out, fed.answer)?;
-    show_feed(out, state_of(feed), feed.held_kind())?;
-    out.write_all(b" out ")?;
-    show_bytes(out, written)?;
-    out.write_all(b"\n")?;
-    Ok(next)
+    let written = test_script::first_mut(&mut space, usize::from(room));
+    let (refusal, value) = numbers(host.take(chunk, written));
+    let bytes = chunk.len();
+    write!(
+        out,
+        "chunk {bytes} room {room}: refusal {refusal} value {value}"
+    )?;
+    show_feed(out, host.feed)?;
+    write!(out, " out ")?;
+    for byte in written.iter() {
+        let byte = *byte;
+        write!(out, "{byte:02X}")?;
+    }
+    writeln!(out)
 }
 
 // ---- a capture
@@ -279,109 +226,65 @@ fn take_chunk<W: Write>(
 // Whole, and then in every cut.
 fn take_capture<W: Write>(out: &mut W, capture: &[u8]) -> io::Result<()> {
     let whole = feed_whole(out, capture)?;
-    let mut same = 0;
     let cuts = capture.len() + 1;
+    let mut same = 0;
     for place in 0..cuts {
-        same += count_cut(out, capture, place, whole)?;
+        let cut = feed_cut(capture, place);
+        if capture.len() <= SHOWN_CUTS {
+            show_cut(out, place, cut)?;
+        }
+        same += usize::from(cut.left == whole);
     }
-    show_count(out, cuts, same)
+    writeln!(out, "cuts {cuts}: {same} as the whole")
 }
 
 fn feed_whole<W: Write>(out: &mut W, capture: &[u8]) -> io::Result<Left> {
-    let mut ram = bus::fresh_ram();
-    let whole = Host::fresh().take_exactly(&mut ram, capture);
-    let left = whole.host.left(&ram);
-    say(out, b"capture ", capture.len() as u64)?;
-    show_answer(out, whole.answer)?;
+    let mut host = Host::fresh();
+    let (refusal, value) = numbers(host.take_exactly(capture));
+    let left = host.left();
+    let bytes = capture.len();
+    write!(out, "capture {bytes}: refusal {refusal} value {value}")?;
     show_left(out, left)?;
     Ok(left)
 }
 
-// 1 where the cut leaves what the whole left.
-fn count_cut<W: Write>(out: &mut W, capture: &[u8], place: usize, whole: Left) -> io::Result<u64>
-    ensures { IfOk result (λ n. n < 2) }
-{
-    let cut = feed_cut(capture, place);
-    if capture.len() <= SHOWN_CUTS {
-        show_cut(out, place, cut)?;
-    }
-    Ok(if same(cut.left, whole) { 1 } else { 0 })
-}
-
 // Up to a place, nothing, and from that place on.
 fn feed_cut(capture: &[u8], place: usize) -> Cut {
-    let mut ram = bus::fresh_ram();
-    let head = Host::fresh().take_exactly(&mut ram, test_script::first(capture, place));
-    let empty = head.host.take_exactly(&mut ram, b"");
-    let tail = empty.host.take_exactly(&mut ram, behind(capture, place));
-    let head_answer = head.answer;
-    let empty_answer = empty.answer;
-    let tail_answer = tail.answer;
+    let mut host = Host::fresh();
+    let head = host.take_exactly(test_script::first(capture, place));
+    let empty = host.take_exactly(b"");
+    let tail = host.take_exactly(behind(capture, place));
     Cut {
-        head: head_answer,
-        empty: empty_answer,
-        tail: tail_answer,
-        left: tail.host.left(&ram),
+        answers: [head, empty, tail],
+        left: host.left(),
     }
-}
-
-fn same(a: Left, b: Left) -> bool {
-    a.state == b.state && a.held == b.held && a.written == b.written && a.ram == b.ram
 }
 
 // ---- what is printed
 
-fn say<W: Write>(out: &mut W, words: &[u8], number: u64) -> io::Result<()> {
-    out.write_all(words)?;
-    streams::write_decimal(out, number)
-}
-
-fn show_answer<W: Write>(out: &mut W, answer: Answer) -> io::Result<()> {
-    say(out, b": refusal ", answer.refusal as u64)?;
-    say(out, b" value ", answer.value as u64)
-}
-
-fn show_feed<W: Write>(out: &mut W, state: u8, held: u8) -> io::Result<()> {
-    say(out, b" feed ", state as u64)?;
-    out.write_all(b" ")?;
-    show_byte(out, held)
+fn show_feed<W: Write>(out: &mut W, feed: Feed) -> io::Result<()> {
+    let state = match feed {
+        Feed::Open => 0,
+        Feed::Half(_) => 1,
+        Feed::Shut => 2,
+    };
+    let held = feed.held_kind();
+    write!(out, " feed {state} {held:02X}")
 }
 
 fn show_left<W: Write>(out: &mut W, left: Left) -> io::Result<()> {
-    show_feed(out, left.state, left.held)?;
-    out.write_all(b" out ")?;
-    test_script::print_hex(out, left.written, 8, b' ')?;
-    out.write_all(b"ram ")?;
-    test_script::print_hex(out, left.ram, 8, b'\n')
+    let Left { feed, written, ram } = left;
+    show_feed(out, feed)?;
+    writeln!(out, " out {written:08X} ram {ram:08X}")
 }
 
 fn show_cut<W: Write>(out: &mut W, place: usize, cut: Cut) -> io::Result<()> {
-    say(out, b"cut ", place as u64)?;
-    show_numbers(out, b": ", cut.head)?;
-    show_numbers(out, b", ", cut.empty)?;
-    show_numbers(out, b", ", cut.tail)?;
-    out.write_all(b"\n")
-}
-
-fn show_numbers<W: Write>(out: &mut W, before: &[u8], answer: Answer) -> io::Result<()> {
-    say(out, before, answer.refusal as u64)?;
-    say(out, b" ", answer.value as u64)
-}
-
-fn show_count<W: Write>(out: &mut W, cuts: usize, same: u64) -> io::Result<()> {
-    say(out, b"cuts ", cuts as u64)?;
-    say(out, b": ", same)?;
-    out.write_all(b" as the whole\n")
-}
-
-fn show_bytes<W: Write>(out: &mut W, bytes: &[u8]) -> io::Result<()> {
-    for byte in bytes {
-        show_byte(out, *byte)?;
+    write!(out, "cut {place}")?;
+    let mut before = ": ";
+    for answer in cut.answers {
+        let (refusal, value) = numbers(answer);
+        write!(out, "{before}{refusal} {value}")?;
+        before = ", ";
     }
-    Ok(())
-}
-
-fn show_byte<W: Write>(out: &mut W, byte: u8) -> io::Result<()> {
-    let text = [buffers::hex_digit(byte / 16), buffers::hex_digit(byte % 16)];
-    out.write_all(&text)
+    writeln!(out)
 }

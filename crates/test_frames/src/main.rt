@@ -24,19 +24,10 @@ use bus::Event;
 use device::Device;
 use std::io;
 use std::io::Write;
-use test_script::{Call, Numbers, Step};
+use test_script::{Call, Numbers};
 
 // What a line buffer holds before a draw.
 const MARKER: u8 = 170;
-
-// What is kept from step to step: how much is lent to a draw, and the sum.
-const LINE: usize = 0;
-
-const RAM: usize = 1;
-
-const FONT: usize = 2;
-
-const SUM: usize = 3;
 
 const NOISE: Numbers = Numbers {
     factor: 75,
@@ -50,200 +41,219 @@ const DIGEST: Numbers = Numbers {
     last: 4294967290,
 };
 
+// A step, by its kind.
+#[derive(Clone, Copy)]
+enum Action {
+    Call(Call),
+    // a byte to an address over the bus: the address, high byte first, and the byte
+    Write([u8; 3]),
+    ChangeRam(Change),
+    ChangeFont(Change),
+    Lend(Lent),
+    Draw(u16, Way),
+    TellSum,
+    Print([u8; 3]),
+    // the first cell, and how many
+    Ask(u16, u8),
+    Nothing,
+}
+
+#[derive(Clone, Copy)]
+enum Change {
+    // a byte at a place, where there is such a place
+    Store(u16, u8),
+    // from a seed
+    Noise(u16),
+    Fill(u8),
+}
+
+// How many bytes a draw is lent.
+#[derive(Clone, Copy)]
+struct Lent {
+    line: u16,
+    ram: u16,
+    font: u16,
+}
+
+// How a draw is told.
+#[derive(Clone, Copy)]
+enum Way {
+    Line,
+    Digest,
+    InSum,
+}
+
+impl From<[u8; 4]> for Action {
+    fn from(step: [u8; 4]) -> Action {
+        let [kind, a, b, c] = step;
+        let word = u16::from_be_bytes([a, b]);
+        match kind {
+            0 => Action::Call(Call::Hear(Event::of_kind(a, b))),
+            1 => Action::Write([a, b, c]),
+            2 => Action::Call(Call::Start(u32::from_be_bytes([0, a, b, c]))),
+            3 => Action::Call(Call::Reset),
+            4 => Action::ChangeRam(Change::Store(word, c)),
+            5 => Action::ChangeFont(Change::Store(word, c)),
+            6 => Action::ChangeRam(Change::Noise(word)),
+            7 => Action::ChangeFont(Change::Noise(word)),
+            8 => Action::ChangeRam(Change::Fill(c)),
+            9 => Action::ChangeFont(Change::Fill(c)),
+            10 => Action::Lend(Lent {
+                line: word,
+                ram: test_script::length(1024, c % 4),
+                font: test_script::length(4608, c / 4),
+            }),
+            11 => Action::Draw(word, Way::from(c)),
+            12 => Action::TellSum,
+            13 => Action::Print([a, b, c]),
+            14 => Action::Ask(word, c),
+            _ => Action::Nothing,
+        }
+    }
+}
+
+impl From<u8> for Way {
+    fn from(number: u8) -> Way {
+        match number {
+            0 => Way::Line,
+            1 => Way::Digest,
+            _ => Way::InSum,
+        }
+    }
+}
+
+// What is kept from step to step.
+#[derive(Drop)]
+struct Player {
+    device: Device,
+    ram: [u8; 1024],
+    // one byte more than a font has, to be lent too much of it
+    font: [u8; 4609],
+    lent: Lent,
+    sum: u64,
+}
+
 fn main(rt: HostRuntime) -> io::Result<()> {
     let mut script = [0u8; 131072];
     let n = streams::read_full(&mut rt.stdin(), &mut script)?;
-    let mut ram = bus::fresh_ram();
-    // one byte more than a font has, to be lent too much of it
-    let mut font = [0u8; 4609];
-    run(&mut rt.stdout(), &script[..n], &mut ram, &mut font)
+    run(&mut rt.stdout(), &script[..n])
 }
 
-fn run<W: Write>(out: &mut W, script: &[u8], ram: &mut [u8], font: &mut [u8]) -> io::Result<()> {
-    let mut device = Device::fresh();
-    let mut kept = [1024, 1024, 4608, 0];
-    for i in 0..script.len() / 4 {
-        let step = test_script::step_at(script, i);
-        set_up(out, step, ram, font, &mut kept)?;
-        device = turn(out, device, step, ram, font, &mut kept)?;
+fn run<W: Write>(out: &mut W, script: &[u8]) -> io::Result<()> {
+    let mut player = Player {
+        device: Device::fresh(),
+        ram: bus::fresh_ram(),
+        font: [0; 4609],
+        lent: Lent {
+            line: 1024,
+            ram: 1024,
+            font: 4608,
+        },
+        sum: 0,
+    };
+    let (steps, _) = script.as_chunks::<4>();
+    for &step in steps {
+        player.take(out, Action::from(step))?;
     }
     Ok(())
 }
 
-fn word(high: u8, low: u8) -> usize {
-    high as usize * 256 + low as usize
-}
-
-// ---- steps 0 to 3, 11 and 14
-
-fn turn<W: Write>(
-    out: &mut W,
-    device: Device,
-    step: Step,
-    ram: &mut [u8],
-    font: &mut [u8],
-    kept: &mut [u64; 4],
-) -> io::Result<Device> {
-    let n = calls_of(step);
-    let mut now = device;
-    for i in 0..n {
-        now = call(out, now, step, i, ram, font, kept)?;
+impl Player {
+    fn take<W: Write>(&mut self, out: &mut W, action: Action) -> io::Result<()> {
+        match action {
+            Action::Call(call) => self.call(out, call)?,
+            Action::Write(bytes) => self.write(out, bytes)?,
+            Action::ChangeRam(change) => change.make(&mut self.ram),
+            Action::ChangeFont(change) => change.make(&mut self.font),
+            Action::Lend(lent) => self.lent = lent,
+            Action::Draw(times, way) => {
+                for _ in 0..times {
+                    self.draw(out, way)?;
+                }
+            }
+            Action::TellSum => {
+                let sum = self.sum;
+                writeln!(out, "{sum:08x}")?;
+                self.sum = 0;
+            }
+            Action::Print(text) => out.write_all(&text)?,
+            Action::Ask(from, count) => self.ask(out, from, count)?,
+            Action::Nothing => {}
+        }
+        Ok(())
     }
-    Ok(now)
-}
 
-fn calls_of(step: Step) -> usize {
-    let kind = step.kind;
-    match kind {
-        0 | 2 | 3 => 1,
-        1 => 6,
-        11 => word(step.a, step.b),
-        14 => step.c as usize,
-        _ => 0,
-    }
-}
-
-fn call<W: Write>(
-    out: &mut W,
-    device: Device,
-    step: Step,
-    i: usize,
-    ram: &mut [u8],
-    font: &mut [u8],
-    kept: &mut [u64; 4],
-) -> io::Result<Device> {
-    if step.kind == 11 {
-        return draw(out, device, step.c, ram, font, kept);
-    }
-    let done = test_script::make(device, ram, call_of(step, i));
-    if step.kind == 14 {
-        show_answer(out, step, i, done.refusal, done.value)?;
-        return Ok(done.device);
-    }
-    show(out, step.kind, done.refusal, done.value)?;
-    Ok(done.device)
-}
-
-fn call_of(step: Step, i: usize) -> Call {
-    let kind = step.kind;
-    match kind {
-        0 => Call::Hear(Event::of_kind(step.a, step.b)),
-        1 => Call::Hear(event_of(step, i)),
-        2 => Call::Start(step.a as u32 * 65536 + step.b as u32 * 256 + step.c as u32),
-        14 => Call::Ask(step.a as u32 * 256 + step.b as u32 + (i % 256) as u32),
-        _ => Call::Reset,
-    }
-}
-
-// The events of a write.
-fn event_of(step: Step, i: usize) -> Event {
-    match i {
-        0 => Event::Start,
-        1 => Event::Byte(0xBA),
-        2 => Event::Byte(step.a),
-        3 => Event::Byte(step.b),
-        4 => Event::Byte(step.c),
-        _ => Event::Stop,
-    }
-}
-
-fn show<W: Write>(out: &mut W, kind: u8, refusal: u8, byte: u16) -> io::Result<()> {
-    if refusal == 0 {
-        if byte == 0 {
-            return Ok(());
+    fn call<W: Write>(&mut self, out: &mut W, call: Call) -> io::Result<()> {
+        let answer = test_script::make(&mut self.device, &mut self.ram, call);
+        let refusal = refusals::refusal_of(answer);
+        let value = refusals::value_of(answer);
+        match (call, answer) {
+            (_, Ok(0)) => Ok(()),
+            (Call::Start(_), _) => writeln!(out, "start {refusal}"),
+            _ => writeln!(out, "event {refusal} {value}"),
         }
     }
-    if kind == 2 {
-        out.write_all(b"start ")?;
-        return test_script::print_decimal(out, refusal as u64, b'\n');
-    }
-    out.write_all(b"event ")?;
-    test_script::print_decimal(out, refusal as u64, b' ')?;
-    test_script::print_decimal(out, byte as u64, b'\n')
-}
 
-fn show_answer<W: Write>(
-    out: &mut W,
-    step: Step,
-    i: usize,
-    refusal: u8,
-    value: u16,
-) -> io::Result<()> {
-    if i == 0 {
-        out.write_all(b"ask ")?;
+    fn write<W: Write>(&mut self, out: &mut W, bytes: [u8; 3]) -> io::Result<()> {
+        self.call(out, Call::Hear(Event::Start))?;
+        self.call(out, Call::Hear(Event::Byte(0xBA)))?;
+        for byte in bytes {
+            self.call(out, Call::Hear(Event::Byte(byte)))?;
+        }
+        self.call(out, Call::Hear(Event::Stop))
     }
-    test_script::print_decimal(out, refusal as u64, b':')?;
-    test_script::print_decimal(out, value as u64, after(step, i))
-}
 
-// Between two answers, or behind the last; i is below 256, as c is.
-fn after(step: Step, i: usize) -> u8 {
-    if i % 256 + 1 < step.c as usize {
-        b' '
-    } else {
-        b'\n'
+    // The answers about some cells, in a line.
+    fn ask<W: Write>(&mut self, out: &mut W, from: u16, count: u8) -> io::Result<()> {
+        for i in 0..count {
+            let cell = u32::from(from) + u32::from(i);
+            let answer = test_script::make(&mut self.device, &mut self.ram, Call::Ask(cell));
+            let before = if i == 0 { "ask " } else { " " };
+            let refusal = refusals::refusal_of(answer);
+            let value = refusals::value_of(answer);
+            write!(out, "{before}{refusal}:{value}")?;
+        }
+        if count > 0 {
+            writeln!(out)?;
+        }
+        Ok(())
     }
-}
 
-fn draw<'a, W: Write>(
-    out: &mut W,
-    device: Device,
-    way: u8,
-    ram: &'a [u8],
-    font: &'a [u8],
-    kept: &mut [u64; 4],
-) -> io::Result<Device> {
-    let mut line = [MARKER; 1024];
-    let room = test_script::first_mut(&mut line, kept[LINE] as usize);
-    let lent_font = test_script::first(font, kept[FONT] as usize);
-    let done = test_script::draw(device, lent(ram, font, kept[RAM] as usize), lent_font, room);
-    told(out, done.refusal, done.value, way, room, kept)?;
-    Ok(done.device)
+    fn draw<W: Write>(&mut self, out: &mut W, way: Way) -> io::Result<()> {
+        let mut space = [MARKER; 1024];
+        let line = test_script::first_mut(&mut space, usize::from(self.lent.line));
+        let ram = lent_ram(&self.ram, &self.font, usize::from(self.lent.ram));
+        let font = test_script::first(&self.font, usize::from(self.lent.font));
+        let answer = self.device.draw_line(ram, font, line);
+        let refusal = refusals::refusal_of(answer);
+        let cells = refusals::value_of(answer);
+        match way {
+            Way::Line => {
+                spell(line);
+                write!(out, "{refusal} {cells} ")?;
+                out.write_all(line)?;
+                writeln!(out)
+            }
+            Way::Digest => {
+                let digest = test_script::mix_all(0, line, DIGEST);
+                writeln!(out, "{refusal} {cells} {digest:08x}")
+            }
+            Way::InSum => {
+                let head = test_script::mix(self.sum, u16::from(refusal), DIGEST);
+                let head = test_script::mix(head, cells, DIGEST);
+                self.sum = test_script::mix_all(head, line, DIGEST);
+                Ok(())
+            }
+        }
+    }
 }
 
 // RAM of a length: another one than its own is refused, so the font's bytes serve.
-fn lent<'a>(ram: &'a [u8], font: &'a [u8], n: usize) -> &'a [u8] {
+fn lent_ram<'a>(ram: &'a [u8; 1024], font: &'a [u8; 4609], n: usize) -> &'a [u8] {
     if n == ram.len() {
         return ram;
     }
     test_script::first(font, n)
-}
-
-// The refusal, the read count, and the line buffer or its digest, or all of them in the sum.
-fn told<W: Write>(
-    out: &mut W,
-    refusal: u8,
-    cells: u16,
-    way: u8,
-    line: &mut [u8],
-    kept: &mut [u64; 4],
-) -> io::Result<()> {
-    if way < 2 {
-        test_script::print_decimal(out, refusal as u64, b' ')?;
-        test_script::print_decimal(out, cells as u64, b' ')?;
-        return show_line(out, way, line);
-    }
-    let head = test_script::mix(
-        test_script::mix(kept[SUM], refusal as u16, DIGEST),
-        cells,
-        DIGEST,
-    );
-    kept[SUM] = test_script::mix_all(head, line, DIGEST);
-    Ok(())
-}
-
-fn show_line<W: Write>(out: &mut W, way: u8, line: &mut [u8]) -> io::Result<()> {
-    if way == 0 {
-        spell(line);
-        out.write_all(line)?;
-        return out.write_all(b"\n");
-    }
-    show_digest(out, test_script::mix_all(0, line, DIGEST))
-}
-
-fn show_digest<W: Write>(out: &mut W, sum: u64) -> io::Result<()> {
-    streams::write_hexadecimal(out, sum)?;
-    out.write_all(b"\n")
 }
 
 // A character for each byte, in its place.
@@ -254,74 +264,24 @@ fn spell(line: &mut [u8]) {
 }
 
 fn character(pixel: u8) -> u8 {
-    if pixel < 16 {
-        return buffers::hex_digit(pixel);
-    }
-    if pixel == MARKER { b'.' } else { b'?' }
-}
-
-// ---- the other steps
-
-fn set_up<W: Write>(
-    out: &mut W,
-    step: Step,
-    ram: &mut [u8],
-    font: &mut [u8],
-    kept: &mut [u64; 4],
-) -> io::Result<()> {
-    let kind = step.kind;
-    match kind {
-        4 | 6 | 8 => {
-            change(step, ram);
-        }
-        5 | 7 | 9 => {
-            change(step, font);
-        }
-        10 | 12 | 13 => {
-            tell(out, step, kept)?;
-        }
-        _ => {}
-    }
-    Ok(())
-}
-
-// Steps on RAM or font: one byte, noise, or all bytes alike.
-fn change(step: Step, bytes: &mut [u8]) {
-    let at = word(step.a, step.b);
-    let kind = step.kind;
-    if kind < 6 {
-        if at < bytes.len() {
-            bytes[at] = step.c;
-        }
-        return;
-    }
-    if kind < 8 {
-        test_script::noise(bytes, at as u64, NOISE, 1);
-        return;
-    }
-    fill(bytes, step.c);
-}
-
-fn fill(bytes: &mut [u8], value: u8) {
-    for byte in bytes.iter_mut() {
-        *byte = value;
+    match pixel {
+        0..=15 => buffers::hex_digit(pixel),
+        MARKER => b'.',
+        _ => b'?',
     }
 }
 
-// Steps that lend other lengths from then on, or print.
-fn tell<W: Write>(out: &mut W, step: Step, kept: &mut [u64; 4]) -> io::Result<()> {
-    let kind = step.kind;
-    if kind == 10 {
-        kept[LINE] = word(step.a, step.b) as u64;
-        kept[RAM] = test_script::length(1024, step.c % 4) as u64;
-        kept[FONT] = test_script::length(4608, step.c / 4) as u64;
-        return Ok(());
+impl Change {
+    fn make(self, bytes: &mut [u8]) {
+        match self {
+            Change::Store(at, byte) => {
+                let at = usize::from(at);
+                if at < bytes.len() {
+                    bytes[at] = byte;
+                }
+            }
+            Change::Noise(seed) => test_script::noise(bytes, u64::from(seed), NOISE, 1),
+            Change::Fill(byte) => bytes.fill(byte),
+        }
     }
-    if kind == 12 {
-        show_digest(out, kept[SUM])?;
-        kept[SUM] = 0;
-        return Ok(());
-    }
-    let text = [step.a, step.b, step.c];
-    out.write_all(&text)
 }

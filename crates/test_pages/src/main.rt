@@ -23,21 +23,10 @@ ghost use Rattle.std.specs.Prelude.{◌<◌};
 
 use bus::Event;
 use device::Device;
-use registers::Registers;
+use refusals::Refusal;
 use std::io;
 use std::io::Write;
 use test_script::{Call, Numbers, Step};
-
-// What is kept from step to step: digests of the answers, those of draws with their line buffers; and the latest answer.
-const DRAWS: usize = 0;
-
-const ASKS: usize = 1;
-
-const EVENTS: usize = 2;
-
-const REFUSAL: usize = 3;
-
-const VALUE: usize = 4;
 
 const NOISE: Numbers = Numbers {
     factor: 1664525,
@@ -51,6 +40,56 @@ const DIGEST: Numbers = Numbers {
     last: 4294967290,
 };
 
+// A step, by its kind.
+#[derive(Clone, Copy)]
+enum Action {
+    Call(Call),
+    // how often, into how many bytes, and what these hold
+    Draw(u16, u16, u8),
+    // about a cell, with a RAM of so many zeros
+    AskZeros(u16, u16),
+    NoiseInRam(u16),
+    NoiseInFont(u16),
+    // a byte into a cell, where there is such a cell
+    Store(u16, u8),
+    TellAnswer,
+    TellCells,
+    TellDigests,
+    // so many steps, and so many behind them that show the state
+    List(u8, u8),
+    Nothing,
+}
+
+impl From<Step> for Action {
+    fn from(step: Step) -> Action {
+        let Step { kind, a, b, c } = step;
+        let n = u16::from_le_bytes([a, b]);
+        match kind {
+            0..=3 => Action::Call(Call::Hear(Event::of_kind(kind, a))),
+            4 => Action::Call(Call::Start(u32::from(n))),
+            5 => Action::Draw(1, n, c),
+            6 => Action::Call(Call::Ask(u32::from(n))),
+            7 => Action::Draw(n, 768, 170),
+            8 => Action::AskZeros(1020 + u16::from(c), n),
+            9 => Action::Call(Call::Reset),
+            10 => Action::NoiseInRam(n),
+            11 => Action::NoiseInFont(n),
+            12 => Action::Store(n, c),
+            13 => Action::TellAnswer,
+            14 => Action::TellCells,
+            15 => Action::TellDigests,
+            16 => Action::List(a, b),
+            _ => Action::Nothing,
+        }
+    }
+}
+
+impl Action {
+    fn is_event(self) -> bool {
+        matches!(self, Action::Call(Call::Hear(_)))
+    }
+}
+
 // Where a list begins, where it ends, and where what shows its state ends.
 #[derive(Clone, Copy)]
 struct List {
@@ -59,436 +98,229 @@ struct List {
     end: usize,
 }
 
-// Which steps of a list are played.
+// Digests of the answers, those of draws with their line buffers; and the latest answer.
 #[derive(Clone, Copy)]
-enum Which {
-    All,
-    DrawsAndQuestions,
-    Events,
-    None,
+struct Kept {
+    draws: u64,
+    asks: u64,
+    events: u64,
+    latest: Result<u16, Refusal>,
 }
 
+// What is kept from step to step.
 #[derive(Clone, Copy)]
-struct Part {
-    from: usize,
-    to: usize,
-    which: Which,
+struct Player {
+    device: Device,
+    ram: [u8; limits::RAM_LENGTH],
+    font: [u8; limits::FONT_LENGTH],
+    kept: Kept,
 }
 
 fn main(rt: HostRuntime) -> io::Result<()> {
     let mut script = [0u8; 65536];
     let n = streams::read_full(&mut rt.stdin(), &mut script)?;
-    let mut ram = bus::fresh_ram();
-    let mut font = [0u8; 4608];
-    run(&mut rt.stdout(), &script[..n], &mut ram, &mut font)
+    run(&mut rt.stdout(), &script[..n])
 }
 
-fn run<W: Write>(out: &mut W, script: &[u8], ram: &mut [u8], font: &mut [u8]) -> io::Result<()> {
-    let mut device = Device::fresh();
-    let mut kept = [1, 1, 1, 0, 0];
+fn run<W: Write>(out: &mut W, script: &[u8]) -> io::Result<()> {
+    let mut player = Player {
+        device: Device::fresh(),
+        ram: bus::fresh_ram(),
+        font: [0; limits::FONT_LENGTH],
+        kept: Kept::fresh(),
+    };
     let steps = script.len() / 4 % 65536;
     let mut i = 0;
+    // a `while`, since the steps of a list are passed over
     while i < steps {
-        let step = test_script::step_at(script, i);
-        let next = i + 1 + skipped(step);
-        look(out, device, step, script, i, ram, font, &mut kept)?;
-        device = turn(device, step, ram, font, &mut kept);
-        i = next;
-    }
-    Ok(())
-}
-
-// The steps of a list are played with it.
-fn skipped(step: Step) -> usize
-    ensures { result < 512 }
-{
-    if step.kind == 16 {
-        return step.a as usize + step.b as usize;
-    }
-    0
-}
-
-// Steps 8 and 10 to 16: the device stays as it is.
-fn look<W: Write>(
-    out: &mut W,
-    device: Device,
-    step: Step,
-    script: &[u8],
-    i: usize,
-    ram: &mut [u8],
-    font: &mut [u8],
-    kept: &mut [u64; 5],
-) -> io::Result<()> {
-    if step.kind == 16 {
-        both(out, device, list_of(step, i), script, ram, font)?;
-        clear(kept);
-        return Ok(());
-    }
-    set_up(step, ram, font);
-    show(out, device, step, ram, kept)
-}
-
-fn number(step: Step) -> u32 {
-    step.a as u32 + 256 * (step.b as u32)
-}
-
-// ---- a list in both orders
-
-fn list_of(step: Step, i: usize) -> List {
-    let from = i % 65536 + 1;
-    let to = from + step.a as usize;
-    List {
-        from: from,
-        to: to,
-        end: to + step.b as usize,
-    }
-}
-
-// Each from the same device and RAM; the RAM is put back.
-fn both<W: Write>(
-    out: &mut W,
-    device: Device,
-    list: List,
-    script: &[u8],
-    ram: &mut [u8],
-    font: &mut [u8],
-) -> io::Result<()> {
-    let mut saved = [0u8; 1024];
-    copy(ram, &mut saved);
-    for order in 0..2 {
-        play(out, device, list, order, script, ram, font)?;
-        copy(&saved, ram);
-    }
-    Ok(())
-}
-
-// The list in an order, in two parts, and what shows the state that it leaves; the digests of both.
-fn play<W: Write>(
-    out: &mut W,
-    device: Device,
-    list: List,
-    order: u8,
-    script: &[u8],
-    ram: &mut [u8],
-    font: &mut [u8],
-) -> io::Result<()> {
-    let mut kept = [1, 1, 1, 0, 0];
-    let mut now = device;
-    for i in 0..3 {
-        now = pass(now, part_of(list, order, i), script, ram, font, &mut kept);
-        if i > 0 {
-            report(out, now.registers, ram, &mut kept)?;
+        let action = Action::from(test_script::step_at(script, i));
+        i += 1;
+        if let Action::List(steps, shown) = action {
+            let to = i + usize::from(steps);
+            let end = to + usize::from(shown);
+            player.play(out, script, List { from: i, to, end })?;
+            i = end;
+        } else {
+            player.take(out, action)?;
         }
     }
     Ok(())
 }
 
-fn part_of(list: List, order: u8, i: u8) -> Part {
-    if i == 2 {
-        return Part {
-            from: list.to,
-            to: list.end,
-            which: Which::All,
-        };
+impl Player {
+    // A list in both orders, each from the same device, RAM and font, and what shows the state that it leaves; the digests of both.
+    fn play<W: Write>(&mut self, out: &mut W, script: &[u8], list: List) -> io::Result<()> {
+        self.kept.clear();
+        let mut own = *self;
+        own.pass(script, list.from, list.to, |_| true);
+        own.show(out, script, list)?;
+        let mut other = *self;
+        other.pass(script, list.from, list.to, |action| !action.is_event());
+        other.pass(script, list.from, list.to, |action| action.is_event());
+        other.show(out, script, list)
     }
-    Part {
-        from: list.from,
-        to: list.to,
-        which: which_of(order, i),
-    }
-}
 
-// Its own order: none, then all. The other: draws and questions, then bus events.
-fn which_of(order: u8, i: u8) -> Which {
-    if order == 0 {
-        if i == 0 {
-            return Which::None;
+    fn show<W: Write>(&mut self, out: &mut W, script: &[u8], list: List) -> io::Result<()> {
+        self.tell_digests(out)?;
+        self.pass(script, list.to, list.end, |_| true);
+        self.tell_digests(out)
+    }
+
+    // Those steps of a part that are wanted.
+    fn pass<F: Fn(Action) -> bool>(&mut self, script: &[u8], from: usize, to: usize, wanted: F)
+        requires { F.IsAlwaysCallable wanted }
+    {
+        for i in from..to {
+            // `step_at`, since a list may end behind the script, where there are no steps
+            let action = Action::from(test_script::step_at(script, i));
+            if wanted(action) {
+                self.turn(action);
+            }
         }
-        return Which::All;
     }
-    if i == 0 {
-        return Which::DrawsAndQuestions;
-    }
-    Which::Events
-}
 
-fn pass(
-    device: Device,
-    part: Part,
-    script: &[u8],
-    ram: &mut [u8],
-    font: &mut [u8],
-    kept: &mut [u64; 5],
-) -> Device {
-    let which = part.which;
-    let mut now = device;
-    for i in part.from..part.to {
-        let step = test_script::step_at(script, i);
-        now = turn(now, wanted(step, which), ram, font, kept);
-    }
-    now
-}
-
-// The step, or one that does nothing.
-fn wanted(step: Step, which: Which) -> Step {
-    if plays(which, step.kind) {
-        return step;
-    }
-    Step {
-        kind: 255,
-        a: 0,
-        b: 0,
-        c: 0,
-    }
-}
-
-fn plays(which: Which, kind: u8) -> bool {
-    match which {
-        Which::All => true,
-        Which::DrawsAndQuestions => kind >= 4,
-        Which::Events => kind < 4,
-        Which::None => false,
-    }
-}
-
-// As many bytes as there is room for.
-fn copy(from: &[u8], to: &mut [u8]) {
-    buffers::copy(test_script::first(from, to.len()), to);
-}
-
-// ---- steps 0 to 7 and 9
-
-fn turn(
-    device: Device,
-    step: Step,
-    ram: &mut [u8],
-    font: &mut [u8],
-    kept: &mut [u64; 5],
-) -> Device {
-    let mut now = device;
-    for _ in 0..calls_of(step) {
-        now = call(now, step, ram, font, kept);
-    }
-    now
-}
-
-fn calls_of(step: Step) -> u32 {
-    let kind = step.kind;
-    match kind {
-        0..=6 | 9 => 1,
-        7 => number(step),
-        _ => 0,
-    }
-}
-
-fn call(
-    device: Device,
-    step: Step,
-    ram: &mut [u8],
-    font: &mut [u8],
-    kept: &mut [u64; 5],
-) -> Device {
-    if is_draw(step.kind) {
-        return draw(device, step, ram, font, kept);
-    }
-    let done = test_script::make(device, ram, call_of(step));
-    told(kept, step.kind, done.refusal, done.value);
-    done.device
-}
-
-fn is_draw(kind: u8) -> bool {
-    match kind {
-        5 | 7 => true,
-        _ => false,
-    }
-}
-
-fn call_of(step: Step) -> Call {
-    let kind = step.kind;
-    match kind {
-        4 => Call::Start(number(step)),
-        6 => Call::Ask(number(step)),
-        9 => Call::Reset,
-        _ => Call::Hear(Event::of_kind(kind, step.a)),
-    }
-}
-
-fn draw<'a>(
-    device: Device,
-    step: Step,
-    ram: &'a [u8],
-    font: &'a [u8],
-    kept: &mut [u64; 5],
-) -> Device {
-    let mut line = [fill_of(step); 1024];
-    let room = test_script::first_mut(&mut line, room_of(step));
-    let done = test_script::draw(device, ram, font, room);
-    told_line(kept, done.refusal, done.value, room);
-    done.device
-}
-
-fn fill_of(step: Step) -> u8 {
-    if step.kind == 5 { step.c } else { 170 }
-}
-
-fn room_of(step: Step) -> usize {
-    if step.kind == 5 {
-        return number(step) as usize;
-    }
-    limits::LINE_MAX
-}
-
-// ---- steps 8 and 10 to 15
-
-fn set_up(step: Step, ram: &mut [u8], font: &mut [u8]) {
-    let kind = step.kind;
-    match kind {
-        10 => {
-            noise(ram, step);
+    fn take<W: Write>(&mut self, out: &mut W, action: Action) -> io::Result<()> {
+        match action {
+            Action::AskZeros(cell, n) => self.ask_zeros(u32::from(cell), n),
+            Action::NoiseInRam(seed) => noise(&mut self.ram, seed),
+            Action::NoiseInFont(seed) => noise(&mut self.font, seed),
+            Action::Store(cell, byte) => {
+                let cell = usize::from(cell);
+                if cell < limits::RAM_LENGTH {
+                    self.ram[cell] = byte;
+                }
+            }
+            Action::TellAnswer => self.tell_answer(out)?,
+            Action::TellCells => self.tell_cells(out)?,
+            Action::TellDigests => self.tell_digests(out)?,
+            _ => self.turn(action),
         }
-        11 => {
-            noise(font, step);
+        Ok(())
+    }
+
+    // The steps that a list may have; others do nothing in it.
+    fn turn(&mut self, action: Action) {
+        match action {
+            Action::Call(call) => {
+                let answer = test_script::make(&mut self.device, &mut self.ram, call);
+                self.kept.told(call, answer);
+            }
+            Action::Draw(times, room, fill) => {
+                for _ in 0..times {
+                    self.draw(usize::from(room), fill);
+                }
+            }
+            _ => {}
         }
-        12 => {
-            store(ram, step);
+    }
+
+    fn draw(&mut self, room: usize, fill: u8) {
+        let mut space = [fill; 1024];
+        let line = test_script::first_mut(&mut space, room);
+        let answer = self.device.draw_line(&self.ram, &self.font, line);
+        self.kept.drawn(answer, line);
+    }
+
+    fn ask_zeros(&mut self, cell: u32, n: u16) {
+        let zeros = [0u8; 1025];
+        let answer = self
+            .device
+            .ask(test_script::first(&zeros, usize::from(n)), cell);
+        self.kept.told(Call::Ask(cell), answer.map(u16::from));
+    }
+
+    // ---- what is printed
+
+    // The refusal's number, and the byte, the read count or the question's answer.
+    fn tell_answer<W: Write>(&self, out: &mut W) -> io::Result<()> {
+        let refusal = refusals::refusal_of(self.kept.latest);
+        let value = refusals::value_of(self.kept.latest);
+        test_script::print_hex(out, u64::from(refusal), 1, b' ')?;
+        test_script::print_hex(out, u64::from(value), 3, b'\n')
+    }
+
+    // Digests: draws, questions, events, the RAM, the registers. New ones begin.
+    fn tell_digests<W: Write>(&mut self, out: &mut W) -> io::Result<()> {
+        let registers = test_script::mix_all(1, &self.device.registers.bytes, DIGEST);
+        test_script::print_hex(out, self.kept.draws, 8, b' ')?;
+        test_script::print_hex(out, self.kept.asks, 8, b' ')?;
+        test_script::print_hex(out, self.kept.events, 8, b' ')?;
+        let ram = test_script::mix_all(1, &self.ram, DIGEST);
+        test_script::print_hex(out, ram, 8, b' ')?;
+        test_script::print_hex(out, registers, 8, b'\n')?;
+        self.kept.clear();
+        Ok(())
+    }
+
+    // The answers about cells 0 to 1,023: four lines of 64 digits, each digit four cells.
+    fn tell_cells<W: Write>(&self, out: &mut W) -> io::Result<()> {
+        for line in 0..4 {
+            let mut text = [0u8; 64];
+            for (i, digit) in text.iter_mut().enumerate() {
+                *digit = buffers::hex_digit(self.four(256 * line + 4 * i as u32));
+            }
+            out.write_all(&text)?;
+            writeln!(out)?;
         }
-        _ => {}
+        Ok(())
+    }
+
+    fn four(&self, cell: u32) -> u8 {
+        let from = cell % 1024;
+        let high = 8 * self.reads(from) + 4 * self.reads(from + 1);
+        high + 2 * self.reads(from + 2) + self.reads(from + 3)
+    }
+
+    // 1 where the lines that are left read a cell.
+    fn reads(&self, cell: u32) -> u8
+        ensures { result < 2 }
+    {
+        u8::from(self.device.ask(&self.ram, cell).unwrap_or(false))
     }
 }
 
-fn show<W: Write>(
-    out: &mut W,
-    device: Device,
-    step: Step,
-    ram: &[u8],
-    kept: &mut [u64; 5],
-) -> io::Result<()> {
-    let kind = step.kind;
-    match kind {
-        8 => {
-            let zeros = [0u8; 1025];
-            ask(
-                device,
-                1020 + step.c as u32,
-                test_script::first(&zeros, number(step) as usize),
-                kept,
-            );
-        }
-        13 => {
-            say(out, kept)?;
-        }
-        14 => {
-            bitmap(out, device, ram)?;
-        }
-        15 => {
-            report(out, device.registers, ram, kept)?;
-        }
-        _ => {}
-    }
-    Ok(())
+fn noise(bytes: &mut [u8], seed: u16) {
+    test_script::noise(bytes, u64::from(seed), NOISE, 16777216);
 }
-
-fn ask(device: Device, cell: u32, ram: &[u8], kept: &mut [u64; 5]) {
-    let answer = device.ask(ram, cell);
-    told(kept, 6, answer.refusal(), answer.value() as u16);
-}
-
-fn noise(bytes: &mut [u8], step: Step) {
-    test_script::noise(bytes, number(step) as u64, NOISE, 16777216);
-}
-
-fn store(ram: &mut [u8], step: Step) {
-    let n = number(step) as usize;
-    if n < ram.len() {
-        ram[n] = step.c;
-    }
-}
-
-// ---- what is kept and printed
 
 fn mix(sum: u64, value: u16) -> u64 {
     test_script::mix(sum, value, DIGEST)
 }
 
-fn mix_registers(registers: Registers) -> u64 {
-    let mut now = 1;
-    for i in 0..16 {
-        now = mix(now, registers.fetch(i) as u16);
+impl Kept {
+    fn fresh() -> Kept {
+        Kept {
+            draws: 1,
+            asks: 1,
+            events: 1,
+            latest: Ok(0),
+        }
     }
-    now
-}
 
-fn clear(kept: &mut [u64; 5]) {
-    kept[DRAWS] = 1;
-    kept[ASKS] = 1;
-    kept[EVENTS] = 1;
-}
-
-// An answer to a bus event, a question or another call.
-fn told(kept: &mut [u64; 5], kind: u8, refusal: u8, value: u16) {
-    if kind < 4 {
-        kept[EVENTS] = mix(mix(kept[EVENTS], refusal as u16), value);
+    // New digests; the latest answer stays.
+    fn clear(&mut self) {
+        *self = Kept {
+            latest: self.latest,
+            ..Kept::fresh()
+        };
     }
-    if kind == 6 {
-        kept[ASKS] = mix(mix(kept[ASKS], refusal as u16), value);
+
+    fn told(&mut self, call: Call, answer: Result<u16, Refusal>) {
+        let refusal = u16::from(refusals::refusal_of(answer));
+        let value = refusals::value_of(answer);
+        match call {
+            Call::Hear(_) => self.events = mix(mix(self.events, refusal), value),
+            Call::Ask(_) => self.asks = mix(mix(self.asks, refusal), value),
+            Call::Start(_) | Call::Reset => {}
+        }
+        self.latest = answer;
     }
-    answered(kept, refusal, value);
-}
 
-fn answered(kept: &mut [u64; 5], refusal: u8, value: u16) {
-    kept[REFUSAL] = refusal as u64;
-    kept[VALUE] = value as u64;
-}
-
-fn told_line(kept: &mut [u64; 5], refusal: u8, cells: u16, line: &[u8]) {
-    let head = mix(
-        mix(mix(kept[DRAWS], refusal as u16), cells / 256),
-        cells % 256,
-    );
-    kept[DRAWS] = test_script::mix_all(head, line, DIGEST);
-    answered(kept, refusal, cells);
-}
-
-// The refusal's number, and the byte, the read count or the question's answer.
-fn say<W: Write>(out: &mut W, kept: &mut [u64; 5]) -> io::Result<()> {
-    test_script::print_hex(out, kept[REFUSAL], 1, b' ')?;
-    test_script::print_hex(out, kept[VALUE], 3, b'\n')
-}
-
-// Digests: draws, questions, events, the RAM, the registers.
-fn report<W: Write>(
-    out: &mut W,
-    registers: Registers,
-    ram: &[u8],
-    kept: &mut [u64; 5],
-) -> io::Result<()> {
-    test_script::print_hex(out, kept[DRAWS], 8, b' ')?;
-    test_script::print_hex(out, kept[ASKS], 8, b' ')?;
-    test_script::print_hex(out, kept[EVENTS], 8, b' ')?;
-    test_script::print_hex(out, test_script::mix_all(1, ram, DIGEST), 8, b' ')?;
-    test_script::print_hex(out, mix_registers(registers), 8, b'\n')?;
-    clear(kept);
-    Ok(())
-}
-
-// The answers about cells 0 to 1,023: four lines of 64 digits, each digit four cells.
-fn bitmap<W: Write>(out: &mut W, device: Device, ram: &[u8]) -> io::Result<()> {
-    let mut text = [b'\n'; 260];
-    for i in 0..256 {
-        text[i + i / 64] = buffers::hex_digit(four(device, ram, 4 * i as u32));
+    fn drawn(&mut self, answer: Result<u16, Refusal>, line: &[u8]) {
+        let refusal = u16::from(refusals::refusal_of(answer));
+        let cells = refusals::value_of(answer);
+        let head = mix(mix(mix(self.draws, refusal), cells / 256), cells % 256);
+        self.draws = test_script::mix_all(head, line, DIGEST);
+        self.latest = answer;
     }
-    out.write_all(&text)
-}
-
-fn four(device: Device, ram: &[u8], cell: u32) -> u8 {
-    let from = cell % 1024;
-    let high = 8 * one(device, ram, from) + 4 * one(device, ram, from + 1);
-    high + 2 * one(device, ram, from + 2) + one(device, ram, from + 3)
-}
-
-fn one(device: Device, ram: &[u8], cell: u32) -> u8
-    ensures { result < 2 }
-{
-    let answer = device.ask(ram, cell);
-    answer.value() % 2
 }

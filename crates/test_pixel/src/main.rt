@@ -11,10 +11,9 @@
 // Prints behind each page its lines, W, digests of all pixels as drawn and as asked for, and how many differ; of each question the refusal and
 // the value. The stored output comes from tests/model.py, which was written from documents 01 and 02 and not from this code
 // (tests/test_pixel.py makes both).
-ghost use Rattle.std.specs.Prelude.{◌≡◌, ◌+◌, ◌*◌, ◌<◌, ◌≤◌, length};
+ghost use Rattle.std.specs.Prelude.{◌≤◌};
 
 use device::Device;
-use pixel::PixelAnswer;
 use registers::Registers;
 use std::io;
 use std::io::Write;
@@ -45,7 +44,7 @@ const DIGEST: Numbers = Numbers {
 };
 
 // What was counted of a page: digests of what was drawn and asked for, and how many pixels differ.
-#[derive(Clone, Copy)]
+#[derive(Clone, Copy, Default)]
 struct Sums {
     drawn: u64,
     asked: u64,
@@ -59,251 +58,157 @@ fn main(rt: HostRuntime) -> io::Result<()> {
 }
 
 fn run<W: Write>(out: &mut W, input: &[u8]) -> io::Result<()> {
-    if input.len() == 0 {
+    let Some((pages, rest)) = input.split_first() else {
         return Ok(());
+    };
+    let pages = usize::from(*pages);
+    let (whole, _) = rest.as_chunks::<PAGE>();
+    for page in whole.iter().take(pages) {
+        show_page(out, page)?;
     }
-    run_pages(out, input, input[0])
-}
-
-fn run_pages<W: Write>(out: &mut W, input: &[u8], pages: u8) -> io::Result<()> {
-    for i in 0..pages {
-        show_page(out, part(input, page_at(i), PAGE))?;
-    }
-    if pages > 0 {
-        ask_all(
-            out,
-            part(input, page_at(pages - 1), PAGE),
-            input,
-            page_at(pages),
-        )?;
+    if pages > 0 && pages <= whole.len() {
+        ask_all(out, &whole[pages - 1], &rest[pages * PAGE..])?;
     }
     Ok(())
-}
-
-// Where a page begins.
-fn page_at(i: u8) -> usize
-    ensures { result ≤ 1 + 255 * 5652 }
-{
-    1 + i as usize * PAGE
-}
-
-// The part of n bytes from a place on; nothing where there are not so many.
-fn part(bytes: &[u8], at: usize, n: usize) -> &[u8] {
-    if bytes.len() < n {
-        return &bytes[..0];
-    }
-    if bytes.len() - n < at {
-        return &bytes[..0];
-    }
-    let e = at + n;
-    &bytes[at..e]
 }
 
 // ---- a page, by both ways
 
-fn show_page<W: Write>(out: &mut W, page: &[u8]) -> io::Result<()> {
-    if page.len() != PAGE {
-        return Ok(());
-    }
-    let lines = wide(page[COUNT]) + 256 * wide(page[COUNT + 1]);
-    let number = page[COUNT + 2];
-    let way = page[COUNT + 3];
-    let begun = started(device_of(page), number, lines);
-    show_lines(
-        out,
-        part(page, 0, REGISTERS),
-        part(page, FONT, COUNT - FONT),
-        begun,
-        lines,
-        number,
-        way,
-    )
+fn show_page<W: Write>(out: &mut W, page: &[u8; PAGE]) -> io::Result<()> {
+    let lines = u16::from_le_bytes([page[COUNT], page[COUNT + 1]]);
+    let mut device = device_of(page);
+    device.next = page[COUNT + 2];
+    let _ = device.start_frame(u32::from(lines));
+    show_lines(out, page, &mut device, u32::from(lines))
 }
 
-// A device with the page's registers.
-fn device_of(page: &[u8]) -> Device
-    requires { length page.now ≡ 5652 }
-{
-    let fresh = Device::fresh();
-    let bus = fresh.bus;
-    let frame = fresh.frame;
+// A device with the page's registers. `report` has its own, private, for the bench's input, on which no page's test stands.
+fn device_of(page: &[u8; PAGE]) -> Device {
     Device {
-        bus: bus,
         registers: Registers::load(&page[REGISTERS..FONT]),
-        frame: frame,
-        next: 0,
+        ..Device::fresh()
     }
 }
 
-// A frame with this number.
-fn started(device: Device, number: u8, lines: u32) -> Device {
-    let bus = device.bus;
-    let registers = device.registers;
-    let frame = device.frame;
-    let next = Device {
-        bus: bus,
-        registers: registers,
-        frame: frame,
-        next: number,
-    };
-    let done = next.start_frame(lines);
-    done.device
-}
-
-fn show_lines<'a, W: Write>(
+fn show_lines<W: Write>(
     out: &mut W,
-    ram: &'a [u8],
-    font: &'a [u8],
-    begun: Device,
+    page: &[u8; PAGE],
+    device: &mut Device,
     lines: u32,
-    number: u8,
-    way: u8,
 ) -> io::Result<()> {
-    let w = begun.width();
-    let mut device = begun;
-    let mut sums = Sums {
-        drawn: 0,
-        asked: 0,
-        differ: 0,
-    };
+    let width = usize::from(device.width());
+    let mut sums = Sums::default();
     for y in 0..lines {
-        let mut line = [NOT_DRAWN; limits::LINE_MAX];
+        let mut drawn = [NOT_DRAWN; limits::LINE_MAX];
         let mut asked = [NOT_ANSWERED; limits::LINE_MAX];
-        let done = device.draw_line(ram, font, &mut line);
-        device = done.device;
-        ask_line(ram, font, device, lines, number, y, &mut asked);
-        sums = compared(sums, w, &line, &asked);
-        show_line(out, w, &mut asked, way)?;
+        let _ = device.draw_line(&page[..REGISTERS], &page[FONT..COUNT], &mut drawn);
+        ask_line(device, page, lines, y, &mut asked);
+        sums.add(
+            test_script::first(&drawn, width),
+            test_script::first(&asked, width),
+        );
+        if page[COUNT + 3] == 0 {
+            show_line(out, test_script::first_mut(&mut asked, width))?;
+        }
     }
-    tell(out, lines, w, sums)
+    tell(out, lines, width, sums)
 }
 
 // Each pixel of a line, as it is asked for.
-fn ask_line<'a>(
-    ram: &'a [u8],
-    font: &'a [u8],
-    device: Device,
+fn ask_line(
+    device: &Device,
+    page: &[u8; PAGE],
     lines: u32,
-    number: u8,
     y: u32,
     asked: &mut [u8; limits::LINE_MAX],
 ) {
-    for x in 0..limits::LINE_MAX {
-        let answer = pixel::ask(device, ram, font, lines, number as u32, x as u32, y);
-        asked[x] = answered(answer);
+    let number = u32::from(page[COUNT + 2]);
+    for (x, pixel) in asked.iter_mut().enumerate() {
+        let answer = pixel::ask(
+            device,
+            &page[..REGISTERS],
+            &page[FONT..COUNT],
+            lines,
+            number,
+            x as u32,
+            y,
+        );
+        *pixel = answer.unwrap_or(NOT_ANSWERED);
     }
 }
 
-fn answered(answer: PixelAnswer) -> u8 {
-    if answer.refusal() == 0 {
-        return answer.value();
-    }
-    NOT_ANSWERED
-}
-
-// The first W pixels of both.
-fn compared(
-    sums: Sums,
-    w: u16,
-    line: &[u8; limits::LINE_MAX],
-    asked: &[u8; limits::LINE_MAX],
-) -> Sums {
-    let mut differ = sums.differ;
-    for x in 0..limits::LINE_MAX {
-        if x < w as usize {
-            if line[x] != asked[x] {
-                differ = differ.wrapping_add(1);
-            }
-        }
-    }
-    Sums {
-        drawn: test_script::mix_all(sums.drawn, test_script::first(line, w as usize), DIGEST),
-        asked: test_script::mix_all(sums.asked, test_script::first(asked, w as usize), DIGEST),
-        differ: differ,
+impl Sums {
+    // A line, as drawn and as asked for.
+    fn add(&mut self, drawn: &[u8], asked: &[u8]) {
+        let differ = drawn.iter().zip(asked).filter(|(a, b)| a != b).count();
+        self.drawn = test_script::mix_all(self.drawn, drawn, DIGEST);
+        self.asked = test_script::mix_all(self.asked, asked, DIGEST);
+        self.differ = self.differ.wrapping_add(differ as u64);
     }
 }
 
-fn show_line<W: Write>(
-    out: &mut W,
-    w: u16,
-    asked: &mut [u8; limits::LINE_MAX],
-    way: u8,
-) -> io::Result<()> {
-    if way != 0 {
-        return Ok(());
+// A hexadecimal digit a pixel, in its place.
+fn show_line<W: Write>(out: &mut W, asked: &mut [u8]) -> io::Result<()> {
+    for pixel in asked.iter_mut() {
+        *pixel = buffers::hex_digit(*pixel);
     }
-    for x in 0..limits::LINE_MAX {
-        asked[x] = buffers::hex_digit(asked[x]);
-    }
-    out.write_all(test_script::first(asked, w as usize))?;
-    out.write_all(b"\n")
+    out.write_all(asked)?;
+    writeln!(out)
 }
 
-fn tell<W: Write>(out: &mut W, lines: u32, w: u16, sums: Sums) -> io::Result<()> {
-    out.write_all(b"lines ")?;
-    test_script::print_decimal(out, lines as u64, b' ')?;
-    out.write_all(b"width ")?;
-    test_script::print_decimal(out, w as u64, b' ')?;
-    out.write_all(b"drawn ")?;
-    streams::write_hexadecimal(out, sums.drawn)?;
-    out.write_all(b" asked ")?;
-    streams::write_hexadecimal(out, sums.asked)?;
-    out.write_all(b" differ ")?;
-    test_script::print_decimal(out, sums.differ, b'\n')
+fn tell<W: Write>(out: &mut W, lines: u32, width: usize, sums: Sums) -> io::Result<()> {
+    let Sums {
+        drawn,
+        asked,
+        differ,
+    } = sums;
+    writeln!(
+        out,
+        "lines {lines} width {width} drawn {drawn:08x} asked {asked:08x} differ {differ}"
+    )
 }
 
 // ---- questions, refused ones too
 
-fn ask_all<W: Write>(out: &mut W, page: &[u8], input: &[u8], first: usize) -> io::Result<()>
-    requires { first ≤ 1 + 255 * 5652 }
-{
-    if page.len() != PAGE {
-        return Ok(());
-    }
+fn ask_all<W: Write>(out: &mut W, page: &[u8; PAGE], questions: &[u8]) -> io::Result<()> {
     let device = device_of(page);
-    for i in 0..QUESTIONS {
-        ask_one(
-            out,
-            page,
-            device,
-            part(input, first + i * QUESTION, QUESTION),
-        )?;
+    let (questions, _) = questions.as_chunks::<QUESTION>();
+    for question in questions.iter().take(QUESTIONS) {
+        ask(out, page, &device, question)?;
     }
     Ok(())
 }
 
-fn ask_one<W: Write>(out: &mut W, page: &[u8], device: Device, question: &[u8]) -> io::Result<()>
-    requires { length page.now ≡ 5652 }
-{
-    if question.len() != QUESTION {
-        return Ok(());
-    }
-    let ram = test_script::length(1024, question[0]) as usize;
-    let font = test_script::length(4608, question[1]) as usize;
+fn ask<W: Write>(
+    out: &mut W,
+    page: &[u8; PAGE],
+    device: &Device,
+    question: &[u8; QUESTION],
+) -> io::Result<()> {
+    let ram = test_script::length(1024, question[0]);
+    let font = test_script::length(4608, question[1]);
     let answer = pixel::ask(
         device,
-        part(page, 0, ram),
-        part(page, FONT, font),
+        test_script::first(page, usize::from(ram)),
+        test_script::first(&page[FONT..], usize::from(font)),
         number_at(question, 2),
         number_at(question, 6),
         number_at(question, 10),
         number_at(question, 14),
     );
-    test_script::print_decimal(out, answer.refusal() as u64, b' ')?;
-    test_script::print_decimal(out, answer.value() as u64, b'\n')
+    let refusal = refusals::refusal_of(answer);
+    let value = refusals::value_of(answer);
+    writeln!(out, "{refusal} {value}")
 }
 
 // Four bytes, the low one first.
-fn number_at(bytes: &[u8], at: usize) -> u32
-    requires { (length bytes.now ≡ 18) × (at ≤ 14) }
+fn number_at(question: &[u8; QUESTION], at: usize) -> u32
+    requires { at ≤ 14 }
 {
-    let low = wide(bytes[at]) + 256 * wide(bytes[at + 1]);
-    let high = wide(bytes[at + 2]) + 256 * wide(bytes[at + 3]);
-    low + 65536 * high
-}
-
-fn wide(x: u8) -> u32
-    ensures { result < 256 }
-{
-    x as u32
+    u32::from_le_bytes([
+        question[at],
+        question[at + 1],
+        question[at + 2],
+        question[at + 3],
+    ])
 }

@@ -1,7 +1,7 @@
--- The laws of calls, noise and digests.
+-- The laws of noise and digests.
 -- Assumes nothing.
 use Prim.Native.Nat.{ℕ, zero, suc, ◌+◌, ◌-◌, ◌/◌, ◌%◌, ◌<◌}
-use mathlib.Core.Path.{◌≡◌, refl}
+use mathlib.Core.Path.{◌≡◌}
 use mathlib.Core.List.{List, ◌∷◌, ◌++◌}
 use native.Mathlib.Nat.{not-suc-le-zero}
 use native.Mathlib.Numerals.{sub-one, add-one}
@@ -9,15 +9,8 @@ use native.Mathlib.Omega.{arith}
 use lib.ListN.{length, get_or, take, drop, set}
 use lib.Seq.{drop-cons, drop-length}
 use Rattle.facts.proofs.Written.{front-more, front-whole}
-use Rattle.device.specs.declared.Device.{Device}
-use Rattle.device.specs.Device.{StartOutcome, start_frame}
-use Rattle.device.proofs.Laws.{by_start}
 use Rattle.test_script.specs.declared.Numbers.{Numbers}
 use Rattle.test_script.specs.Script.{next_of, noise_of, mixed}
-
--- a frame start has no number beside its refusal
-pub start-value : (d : Device) (lines : ℕ) → (start_frame d lines).reply.value ≡ 0
-start-value d lines = by_start (λ (o : StartOutcome). o.reply.value ≡ 0) d lines refl refl
 
 noise_first : (by : Numbers) (unit m seed next v : ℕ) → 0 < m → next ≡ next_of seed 0 by → v ≡ next / unit % 256
     → noise_of m seed by unit ≡ v ∷ noise_of (m - 1) next by unit

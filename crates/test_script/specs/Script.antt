@@ -1,13 +1,13 @@
 -- What the contracts of the test programs' library cite: steps of a script, calls, numbers that look random, digests and digits.
 -- Assumes nothing.
-use Rattle.std.specs.Prelude.{ℕ, zero, suc, ◌+◌, ◌-◌, ◌*◌, ◌/◌, ◌%◌, cond, List, [], ◌∷◌, ◌++◌, eqb, ltb, length, get_or}
+use Rattle.std.specs.Prelude.{ℕ, zero, suc, ◌+◌, ◌-◌, ◌*◌, ◌/◌, ◌%◌, cond, List, [], ◌∷◌, ◌++◌, eqb, ltb, length, get_or, Result}
 use Rattle.buffers.specs.Buffers.{hex_digit}
-use Rattle.refusals.specs.Refusals.{Reply, accepted}
+use Rattle.refusals.specs.declared.Refusal.{Refusal}
+use Rattle.refusals.specs.Refusals.{accepted, refused, reply_of}
 use Rattle.device.specs.declared.Device.{Device}
-use Rattle.device.specs.Device.{fresh_device, EventOutcome, hear_event, start_frame, DrawOutcome, ask_cell}
+use Rattle.device.specs.Device.{fresh_device, EventOutcome, hear_event, start_frame, ask_cell}
 use Rattle.test_script.specs.declared.Call.{Call}
 use Rattle.test_script.specs.declared.Call.TheVariants.{Hear, Start, Ask, Reset}
-use Rattle.test_script.specs.declared.Called.{Called}
 use Rattle.test_script.specs.declared.Numbers.{Numbers}
 use Rattle.test_script.specs.declared.Step.{Step}
 
@@ -23,16 +23,9 @@ step_at script i =
     })
     (record { kind = 255; a = 0; b = 0; c = 0 })
 
--- a device and a reply as a call gives them
-abbrev pub called_of : Device → Reply → Called
-called_of d r = record { device = d; refusal = r.refusal; value = r.value }
-
--- what a call returned and left, in the form of the device's definitions: of a call on the RAM, and of a draw
-abbrev pub outcome_of : Called → List ℕ → EventOutcome
-outcome_of c ram = record { device = c.device; ram = ram; reply = record { refusal = c.refusal; value = c.value } }
-
-abbrev pub drawn_of : Called → List ℕ → DrawOutcome
-drawn_of c line = record { device = c.device; line = line; reply = record { refusal = c.refusal; value = c.value } }
+-- what a call left and answered, in the form of the device's definitions
+abbrev pub outcome_of : Device → List ℕ → Result ℕ Refusal → EventOutcome
+outcome_of d ram answer = record { device = d; ram = ram; reply = reply_of (λ n. n) refused answer }
 
 -- each call by the device's definition; the bus alone changes the RAM
 unfoldable pub made : Device → List ℕ → Call → EventOutcome

@@ -4,16 +4,15 @@ ghost use Rattle.std.specs.Prelude.{◌≡◌, ◌<◌, length, take, ◌%◌, �
 ghost use Rattle.std.specs.Io.KnownBytes.{Appends};
 ghost use Rattle.streams.specs.Streams.{AppendsPart};
 ghost use Rattle.std.specs.Fmt.{decimal};
-ghost use Rattle.refusals.specs.Refusals.{accepted};
-ghost use Rattle.device.specs.Device.{hear_event, start_frame, draw_line, ask_cell, fresh_device};
-ghost use Rattle.test_script.specs.Script.{step_at, called_of, outcome_of, drawn_of, made, length_of, next_of, noise_of, mixed, digits_of};
+ghost use Rattle.test_script.specs.Script.{step_at, outcome_of, made, length_of, next_of, noise_of, mixed, digits_of};
 
 use bus::Event;
 use device::Device;
+use refusals::Refusal;
 use std::io;
 use std::io::Write;
 
-#[derive(Clone, Copy)]
+#[derive(Clone, Copy, Debug, PartialEq, Eq)]
 pub struct Step {
     pub kind: u8,
     pub a: u8,
@@ -22,7 +21,7 @@ pub struct Step {
 }
 
 // What a host asks of a device, apart from lines.
-#[derive(Clone, Copy)]
+#[derive(Clone, Copy, Debug, PartialEq, Eq)]
 pub enum Call {
     Hear(Event),
     Start(u32),
@@ -30,16 +29,8 @@ pub enum Call {
     Reset,
 }
 
-// What a call leaves and answers: the refusal's number, and the byte, the read count or 1 for yes.
-#[derive(Clone, Copy)]
-pub struct Called {
-    pub device: Device,
-    pub refusal: u8,
-    pub value: u16,
-}
-
 // Numbers one after the other, each made of the one before: times factor, plus more, modulo last + 1.
-#[derive(Clone, Copy)]
+#[derive(Clone, Copy, Debug, PartialEq, Eq)]
 pub struct Numbers {
     pub factor: u32,
     pub more: u32,
@@ -70,75 +61,19 @@ pub fn step_at(script: &[u8], i: usize) -> Step
 
 // ---- calls
 
+// Answers the byte of an event, 1 for yes, else 0.
 #[tactic(auto, unfolding(crate::specs::Script::made))]
-pub fn make(device: Device, ram: &mut [u8], call: Call) -> Called
-    ensures { outcome_of result ram.new ≡ made device ram.old call }
+pub fn make(device: &mut Device, ram: &mut [u8], call: Call) -> Result<u16, Refusal>
+    ensures { outcome_of device.new ram.new result ≡ made device.old ram.old call }
 {
     match call {
-        Call::Hear(event) => hear(device, ram, event),
-        Call::Start(lines) => start(device, lines),
-        Call::Ask(cell) => ask(device, ram, cell),
-        Call::Reset => reset(device),
-    }
-}
-
-fn hear(device: Device, ram: &mut [u8], event: Event) -> Called
-    ensures { outcome_of result ram.new ≡ hear_event device ram.old event }
-{
-    let done = device.hear(ram, event);
-    let next = done.device;
-    let answer = done.answer;
-    Called {
-        device: next,
-        refusal: answer.refusal(),
-        value: answer.byte() as u16,
-    }
-}
-
-fn start(device: Device, lines: u32) -> Called
-    ensures { result ≡ called_of (start_frame device lines).device (start_frame device lines).reply }
-{
-    let done = device.start_frame(lines);
-    let next = done.device;
-    let answer = done.answer;
-    Called {
-        device: next,
-        refusal: answer.refusal(),
-        value: 0,
-    }
-}
-
-fn ask(device: Device, ram: &[u8], cell: u32) -> Called
-    ensures { result ≡ called_of device (ask_cell device ram.now cell) }
-{
-    let answer = device.ask(ram, cell);
-    Called {
-        device: device,
-        refusal: answer.refusal(),
-        value: answer.value() as u16,
-    }
-}
-
-fn reset(device: Device) -> Called
-    ensures { result ≡ called_of fresh_device (accepted 0) }
-{
-    Called {
-        device: device.reset(),
-        refusal: 0,
-        value: 0,
-    }
-}
-
-pub fn draw<'a>(device: Device, ram: &'a [u8], font: &'a [u8], line: &mut [u8]) -> Called
-    ensures { drawn_of result line.new ≡ draw_line device ram.now font.now line.old }
-{
-    let done = device.draw_line(ram, font, line);
-    let next = done.device;
-    let answer = done.answer;
-    Called {
-        device: next,
-        refusal: answer.refusal(),
-        value: answer.cells(),
+        Call::Hear(event) => device.hear(ram, event).map(u16::from),
+        Call::Start(lines) => device.start_frame(lines).map(|()| 0),
+        Call::Ask(cell) => device.ask(ram, cell).map(u16::from),
+        Call::Reset => {
+            device.reset();
+            Ok(0)
+        }
     }
 }
 
@@ -148,19 +83,14 @@ pub fn draw<'a>(device: Device, ram: &'a [u8], font: &'a [u8], line: &mut [u8]) 
 pub fn first(bytes: &[u8], n: usize) -> &[u8]
     ensures { result.now ≡ take n bytes.now }
 {
-    if n < bytes.len() {
-        return &bytes[..n];
-    }
-    bytes
+    &bytes[..n.min(bytes.len())]
 }
 
 pub fn first_mut(bytes: &mut [u8], n: usize) -> &mut [u8]
     ensures { result.now ≡ take n bytes.old }
 {
-    if n < bytes.len() {
-        return &mut bytes[..n];
-    }
-    bytes
+    let end = n.min(bytes.len());
+    &mut bytes[..end]
 }
 
 // How much of a buffer a script lends: all of it, nothing, one byte less or one byte more.
@@ -184,24 +114,16 @@ pub fn length(own: u16, choice: u8) -> u16
 pub fn mix(sum: u64, value: u16, by: Numbers) -> u64
     ensures { result ≡ next_of sum value by }
 {
-    let modulus = by.last as u64 + 1;
-    (sum % modulus * (by.factor as u64) + (value as u64 + by.more as u64)) % modulus
-}
-
-fn wide(x: u8) -> u16
-    ensures { result ≡ x }
-{
-    x as u16
+    let modulus = u64::from(by.last) + 1;
+    (sum % modulus * u64::from(by.factor) + (u64::from(value) + u64::from(by.more))) % modulus
 }
 
 pub fn mix_all(sum: u64, bytes: &[u8], by: Numbers) -> u64
     ensures { result ≡ mixed sum bytes.now by }
 {
     let mut now = sum;
-    let mut i = 0;
-    while i < bytes.len() {
-        now = mix(now, wide(bytes[i]), by);
-        i += 1;
+    for byte in bytes {
+        now = mix(now, u16::from(*byte), by);
     }
     now
 }
@@ -212,11 +134,9 @@ pub fn noise(bytes: &mut [u8], seed: u64, by: Numbers, unit: u64)
     ensures { bytes.new ≡ noise_of (length bytes.old) seed by unit }
 {
     let mut now = seed;
-    let mut i = 0;
-    while i < bytes.len() {
+    for byte in bytes.iter_mut() {
         now = mix(now, 0, by);
-        bytes[i] = (now / unit % 256) as u8;
-        i += 1;
+        *byte = (now / unit % 256) as u8;
     }
 }
 
@@ -226,10 +146,8 @@ pub fn noise(bytes: &mut [u8], seed: u64, by: Numbers, unit: u64)
 pub fn hex_digits(number: u64, out: &mut [u8])
     ensures { out.new ≡ digits_of (length out.old) number }
 {
-    let mut i = out.len();
     let mut rest = number;
-    while i > 0 {
-        i -= 1;
+    for i in (0..out.len()).rev() {
         out[i] = buffers::hex_digit((rest % 16) as u8);
         rest /= 16;
     }
@@ -251,6 +169,5 @@ pub fn print_decimal<W: Write>(out: &mut W, number: u64, behind: u8) -> io::Resu
     ensures { OnOk result (Appends (W.contents out.old) (W.contents out.new) (decimal number ++ behind ∷ [])) }
 {
     streams::write_decimal(out, number)?;
-    let text = [behind];
-    out.write_all(&text)
+    out.write_all(&[behind])
 }

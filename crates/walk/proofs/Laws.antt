@@ -2,7 +2,7 @@
 -- rest of a frame (K9).
 -- Assumes nothing.
 use Prim.Native.Nat.{ℕ, zero, suc, ◌+◌, ◌-◌, ◌*◌, ◌%◌, ◌≤◌, ◌<◌}
-use mathlib.Core.Path.{◌≡◌, refl, sym, ap, ap₂, ◌∙◌}
+use mathlib.Core.Path.{◌≡◌, refl, sym, ap, ap₂, ◌∙◌, subst}
 use mathlib.Core.Bool.{Bool, true, false, cond, ◌&&◌, false≢true}
 use native.Mathlib.Nat.{zero-add, add-zero}
 use native.Mathlib.Decide.{dec_lt}
@@ -11,6 +11,7 @@ use borrow.Author.Tests.{eqb-true, eqb-false, eq-eqb, ne_eqb}
 use mathlib.Core.List.{List, [], ◌∷◌}
 use lib.Dec.{eqb}
 use lib.ListN.{length, get_or}
+use Rattle.std.specs.Prelude.{Some, None}
 use Rattle.limits.specs.Limits.{ram_length, ram_pairs}
 use Rattle.facts.proofs.Choice.{either}
 use Rattle.cells.specs.Reading.{Role, descriptor, Reading, done, read, fmap, value, cells}
@@ -372,9 +373,6 @@ next_line-few r ram ch w = by (over w.strip) w.plain refl refl
 
 -- ---- what the code's steps need
 
-pub left_pos : (left : ℕ) → eqb left 0 ≡ false → 1 ≤ left
-left_pos left e = omega (arith, eqb-false left 0 e)
-
 -- the walk's next line where a strip has a line left
 pub walked_on : (ram : List ℕ) (ch : ℕ) (w : Walk) → over w.strip ≡ false
     → walked ram ch w ≡ record { walk = walk_at w.descriptor (advanced w.strip); cells = 0 }
@@ -382,23 +380,23 @@ unfolding walked
 walked_on ram ch w e = rw (on_value ram ch w e, on_cells ram ch w e)
 
 -- in the plain rest
-pub walked-plain : (ram : List ℕ) (ch : ℕ) (w : Walk) → over w.strip ≡ true → w.plain ≡ true
+pub walked_plain : (ram : List ℕ) (ch : ℕ) (w : Walk) → over w.strip ≡ true → w.plain ≡ true
     → walked ram ch w ≡ record { walk = plain_rest w.descriptor; cells = 0 }
 unfolding walked
-walked-plain ram ch w e f = rw (plain_value ram ch w e f, plain_cells ram ch w e f)
+walked_plain ram ch w e f = rw (plain_value ram ch w e f, plain_cells ram ch w e f)
 
 -- ---- where a strip begins
 
 module _ (ram : List ℕ) where
   pub at_next : (n a : ℕ) → passed_here ram a ≡ true → begins_at (suc n) ram a ≡ begins_at n ram (next a)
   unfolding begins_at
-  at_next n a e = ap (λ (t : Bool). cond t (begins_at n ram (next a)) a) e
+  at_next n a e = ap (λ (t : Bool). cond t (begins_at n ram (next a)) (Some a)) e
 
-  pub at_here : (n a : ℕ) → passed_here ram a ≡ false → begins_at (suc n) ram a ≡ a
+  pub at_here : (n a : ℕ) → passed_here ram a ≡ false → begins_at (suc n) ram a ≡ Some a
   unfolding begins_at
-  at_here n a e = ap (λ (t : Bool). cond t (begins_at n ram (next a)) a) e
+  at_here n a e = ap (λ (t : Bool). cond t (begins_at n ram (next a)) (Some a)) e
 
-  pub at_none : (a : ℕ) → begins_at 0 ram a ≡ ram_length
+  pub at_none : (a : ℕ) → begins_at 0 ram a ≡ None
   unfolding begins_at
   at_none a = refl
 
@@ -413,14 +411,15 @@ module _ (ram : List ℕ) where
     pub walk : value ram (next_strip n ch a) ≡ walk_at (next b) (strip_of ch (get_or ram b 0) (get_or ram (b + 1) 0))
     pub reads : length (cells ram (next_strip n ch a)) ≡ (b + 1024 - a) % 1024 + 2
 
-  pub begins_some : (n ch a : ℕ) → even a ≡ a → (begins_at n ram a ≡ ram_length → ⊥) → BeginsAt n ch a (begins_at n ram a)
-  begins_some zero ch a p h = absurd (h (at_none a))
-  begins_some (suc n) ch a p h = by (passed_here ram a) refl (begins_some n ch (next a) (omega arith))
+  pub begins_some : (n ch a b : ℕ) → even a ≡ a → begins_at n ram a ≡ Some b → BeginsAt n ch a b
+  begins_some zero ch a b p h = let none = at_none a in absurd cc
+  begins_some (suc n) ch a b p h = by (passed_here ram a) refl (begins_some n ch (next a) b (omega arith))
     where
-      by : (t : Bool) → passed_here ram a ≡ t → ((begins_at n ram (next a) ≡ ram_length → ⊥) → BeginsAt n ch (next a) (begins_at n ram (next a)))
-          → BeginsAt (suc n) ch a (begins_at (suc n) ram a)
+      by : (t : Bool) → passed_here ram a ≡ t → (begins_at n ram (next a) ≡ Some b → BeginsAt n ch (next a) b) → BeginsAt (suc n) ch a b
       by false e later =
-          rw (at_here n a e)
+          let here = at_here n a e in
+          let q : a ≡ b = cc in
+          subst (BeginsAt (suc n) ch a) q
           (record {
             paired = p;
             begins = e;
@@ -428,24 +427,22 @@ module _ (ram : List ℕ) where
             reads = ap length (begin_cells ram n ch a (here_at a p ∙ e)) ∙ omega (arith, p);
           })
       by true e later =
-          let b : ℕ = begins_at n ram (next a) in
-          let r : BeginsAt n ch (next a) b = later (λ q. h (at_next n a e ∙ q)) in
+          let r : BeginsAt n ch (next a) b = later (sym (at_next n a e) ∙ h) in
           let other : b ≡ a → ⊥ = λ q. false≢true (sym r.begins ∙ ap (passed_here ram) q ∙ e) in
-          rw (at_next n a e)
-          (record {
+          record {
             paired = r.paired;
             begins = r.begins;
             walk = pass_value ram n ch a (here_at a p ∙ e) ∙ r.walk;
             reads = omega (arith, two_further a b p r.paired other, r.reads, ap length (pass_cells ram n ch a (here_at a p ∙ e)));
-          })
+          }
 
-  pub begins_none : (n a : ℕ) → even a ≡ a → begins_at n ram a ≡ ram_length → (i : ℕ) → i < n → passed_at ram (a + 2 * i) ≡ true
+  pub begins_none : (n a : ℕ) → even a ≡ a → begins_at n ram a ≡ None → (i : ℕ) → i < n → passed_at ram (a + 2 * i) ≡ true
   begins_none zero a p h i l = absurd (omega arith)
   begins_none (suc n) a p h i l = by (passed_here ram a) refl i l (begins_none n (next a) (omega arith))
     where
       by : (t : Bool) → passed_here ram a ≡ t → (i : ℕ) → i < suc n
-          → (begins_at n ram (next a) ≡ ram_length → (j : ℕ) → j < n → passed_at ram (next a + 2 * j) ≡ true) → passed_at ram (a + 2 * i) ≡ true
-      by false e i l later = absurd (omega (arith, p, sym (at_here n a e) ∙ h))
+          → (begins_at n ram (next a) ≡ None → (j : ℕ) → j < n → passed_at ram (next a + 2 * j) ≡ true) → passed_at ram (a + 2 * i) ≡ true
+      by false e i l later = let here = at_here n a e in absurd cc
       by true e zero l later = ap (passed_at ram) (add-zero a) ∙ here_at a p ∙ e
       by true e (suc i) l later =
           ap (passed_here ram) (sym (next_by a i)) ∙ later (sym (at_next n a e) ∙ h) i (omega arith)
@@ -467,7 +464,7 @@ module _ (ram : List ℕ) (ch descriptor first : ℕ) (e : first ≡ even descri
   from_first : next_strip ram_pairs ch descriptor ≡ next_strip ram_pairs ch first
   from_first = next_strip-even 511 ch descriptor first (omega (arith, e))
 
-  pub walked_none : begins_at ram_pairs ram first ≡ ram_length → walked ram ch w ≡ record { walk = plain_rest first; cells = ram_length }
+  pub walked_none : begins_at ram_pairs ram first ≡ None → walked ram ch w ≡ record { walk = plain_rest first; cells = ram_length }
   unfolding walked advanced
   walked_none h =
       let all = begins_none ram ram_pairs first (omega (arith, e)) h in
@@ -476,11 +473,11 @@ module _ (ram : List ℕ) (ch descriptor first : ℕ) (e : first ≡ even descri
       (over-value ram ch w o refl ∙ ap (λ (p : Reading Walk). onward (value ram p)) from_first ∙ ap onward (all-value ram ch first all) ∙ ap plain_rest round)
       (ap length (over-cells ram ch w o refl) ∙ ap (λ (p : Reading Walk). length (cells ram p)) from_first ∙ all-cells ram ch first all)
 
-  pub walked-strip : (b : ℕ) → BeginsAt ram ram_pairs ch first b
+  pub walked_strip : (b : ℕ) → BeginsAt ram ram_pairs ch first b
       → walked ram ch w
       ≡ record { walk = walk_at (next b) (advanced (strip_of ch (get_or ram b 0) (get_or ram (b + 1) 0))); cells = (b + 1024 - first) % 1024 + 2 }
   unfolding walked
-  walked-strip b r =
+  walked_strip b r =
       ap₂ (λ (v : Walk) (n : ℕ). record { walk = v; cells = n })
       (over-value ram ch w o refl ∙ ap (λ (p : Reading Walk). onward (value ram p)) from_first ∙ ap onward r.walk)
       (ap length (over-cells ram ch w o refl) ∙ ap (λ (p : Reading Walk). length (cells ram p)) from_first ∙ r.reads)

@@ -1,7 +1,7 @@
 -- Document 01, "Walk of a frame": descriptors and strips, line by line, as request K9 mends it: spacing of zero lines is passed over.
 -- Assumes nothing.
-use Rattle.std.specs.Prelude.{ℕ, zero, suc, ◌+◌, ◌-◌, ◌*◌, ◌/◌, ◌%◌, max, Bool, true, false, cond, ◌&&◌, eqb, length, get_or, List}
-use Rattle.limits.specs.Limits.{ram_length, ram_pairs}
+use Rattle.std.specs.Prelude.{ℕ, zero, suc, ◌+◌, ◌-◌, ◌*◌, ◌/◌, ◌%◌, max, Bool, true, false, cond, ◌&&◌, eqb, length, get_or, List, Option, Some, None}
+use Rattle.limits.specs.Limits.{ram_pairs}
 use Rattle.cells.specs.Reading.{Role, descriptor, Reading, done, read, fmap, value, cells}
 use Rattle.raster.specs.Raster.{before_first, following, InStrip, is_last, lines_after}
 use Rattle.walk.specs.declared.Strip.{Strip}
@@ -131,7 +131,7 @@ OnLine (Characters address height zoom enabled line) = InStrip line height zoom
 unfoldable pub walked : List ℕ → ℕ → Walk → Walked
 walked ram ch w = record { walk = value ram (next_line ch w); cells = length (cells ram (next_line ch w)) }
 
--- where the first descriptor lies that begins a strip, of n in a row from an even address on; past the end of RAM where all are passed over
-unfoldable pub begins_at : (n : ℕ) → List ℕ → ℕ → ℕ
-begins_at zero ram a = ram_length
-begins_at (suc n) ram a = cond (passed_over (get_or ram a 0) (get_or ram (a + 1) 0)) (begins_at n ram (next a)) a
+-- where the first descriptor lies that begins a strip, of n in a row from an even address on; nowhere where all are passed over
+unfoldable pub begins_at : (n : ℕ) → List ℕ → ℕ → Option ℕ
+begins_at zero ram a = None
+begins_at (suc n) ram a = cond (passed_over (get_or ram a 0) (get_or ram (a + 1) 0)) (begins_at n ram (next a)) (Some a)

@@ -1,14 +1,14 @@
-#![tactic(auto)]
+#![tactic(auto, unfolding(crate::specs::Walk::walk_from, crate::specs::Walk::strip_of, crate::specs::Walk::over, crate::specs::Walk::lines_left, crate::specs::Walk::advanced))]
 // The walk of a frame over its descriptors: which strip is on screen, and which of its lines.
-ghost use Rattle.std.specs.Prelude.{◌≡◌, false, length};
-ghost use Rattle.limits.specs.Limits.{ram_length, ram_pairs};
+ghost use Rattle.std.specs.Prelude.{◌≡◌, false, IfSome};
+ghost use Rattle.limits.specs.Limits.{ram_pairs};
 ghost use Rattle.walk.specs.Walk.{even, next, walk_from, is_spacing, enabled_by, zoomed_by, codes_at, passed_over, height_of, shows_codes, strip_of, over, lines_left, advanced, walk_at, plain_rest, in_plain_rest, walked, begins_at};
 ghost use Rattle.walk.specs.declared.Strip.TheVariants.{Spacing};
 
 use raster::ScanLine;
 
 // The strip on screen. One with no line left gives way at the next line: to the next strip, or to the plain rest of the frame.
-#[derive(Clone, Copy)]
+#[derive(Clone, Copy, Debug, PartialEq, Eq)]
 pub enum Strip {
     Spacing {
         // lines still to come
@@ -28,7 +28,7 @@ pub enum Strip {
     },
 }
 
-#[derive(Clone, Copy)]
+#[derive(Clone, Copy, Debug, PartialEq, Eq)]
 pub struct Walk {
     // the address of the next descriptor
     pub descriptor: u16,
@@ -39,7 +39,7 @@ pub struct Walk {
 }
 
 // The walk at the next line, and how many cells that read.
-#[derive(Clone, Copy)]
+#[derive(Clone, Copy, Debug, PartialEq, Eq)]
 pub struct Walked {
     pub walk: Walk,
     pub cells: u16,
@@ -84,78 +84,65 @@ pub fn zoom(high: u8) -> bool
 fn is_passed_over(low: u8, high: u8) -> bool
     ensures { result ≡ passed_over low high }
 {
-    if is_spacing(high) {
-        return low == 0;
-    }
-    false
+    is_spacing(high) && low == 0
 }
 
 // The height of characters, by CH.
 pub fn height(ch: u8) -> u8
     ensures { result ≡ height_of ch }
 {
-    if ch == 0 {
-        return 1;
-    }
-    ch
+    ch.max(1)
 }
 
 // Where the codes of a descriptor's strip start: at an even address.
 pub fn code_address(low: u8, high: u8) -> u16
     ensures { result ≡ codes_at low high }
 {
-    (high % 4) as u16 * 256 + (low / 2 * 2) as u16
+    u16::from_le_bytes([low / 2 * 2, high % 4])
 }
 
 // Are codes read on the lines of its strip?
 pub fn shows_codes(high: u8) -> bool
     ensures { result ≡ shows_codes high }
 {
-    if is_spacing(high) {
-        return false;
-    }
-    enabled(high)
+    !is_spacing(high) && enabled(high)
 }
 
 // How many lines its strip has.
 pub fn descriptor_lines(ch: u8, low: u8, high: u8) -> u16
     ensures { result ≡ lines_left (strip_of ch low high) }
 {
-    if is_spacing(high) {
-        return low as u16;
-    }
-    ScanLine::before_first().lines_after(height(ch), zoom(high))
+    Strip::of_descriptor(ch, low, high).lines_left()
 }
 
-// Where the first descriptor lies that begins its strip, from an even address on; past the end of RAM where all 512 are passed over.
-fn pass_over(ram: &[u8], first: usize) -> usize
-    requires ram_len { length ram.now ≡ ram_length }
-    requires first_value { even first ≡ first }
-    ensures { result ≡ begins_at ram_pairs ram.now first }
+// Where the first descriptor lies that begins its strip, from an even address on; nowhere where all 512 are passed over.
+fn pass_over(ram: &[u8; limits::RAM_LENGTH], first: usize) -> Option<usize>
+    requires { even first ≡ first }
+    ensures at { result ≡ begins_at ram_pairs ram.now first }
+    ensures paired { IfSome result (λ at. even at ≡ at) }
 {
     let mut at = first;
-    let mut left = limits::RAM_PAIRS as u32;
-    while left > 0 {
-        if is_passed_over(ram[at], ram[at + 1]) {
-            at = next_address(at);
-            left -= 1;
-        } else {
-            return at;
+    // counted in 32 bits: in 64 a turn takes 43 instructions on a Cortex-M0 in place of 23
+    for _ in 0..limits::RAM_PAIRS as u32 {
+        if !is_passed_over(ram[at], ram[at + 1]) {
+            return Some(at);
         }
+        at = next_address(at);
     }
-    limits::RAM_LENGTH
+    None
 }
 
 // The same. Mostly it is the first: tested by itself, it keeps the loop from lines that have none to pass over.
-fn begins_at(ram: &[u8], first: usize) -> usize
-    requires ram_len { length ram.now ≡ ram_length }
-    requires first_value { even first ≡ first }
-    ensures { result ≡ begins_at ram_pairs ram.now first }
+#[tactic(auto, using(crate::proofs::Laws::at_here))]
+fn begins_at(ram: &[u8; limits::RAM_LENGTH], first: usize) -> Option<usize>
+    requires { even first ≡ first }
+    ensures at { result ≡ begins_at ram_pairs ram.now first }
+    ensures paired { IfSome result (λ at. even at ≡ at) }
 {
     if is_passed_over(ram[first], ram[first + 1]) {
         return pass_over(ram, first);
     }
-    first
+    Some(first)
 }
 
 impl Strip {
@@ -181,11 +168,10 @@ impl Strip {
         match self {
             Strip::Spacing { left } => left == 0,
             Strip::Characters {
-                address: _,
                 height,
                 zoom,
-                enabled: _,
                 line,
+                ..
             } => line.is_last(height, zoom),
         }
     }
@@ -195,17 +181,17 @@ impl Strip {
         ensures { result ≡ lines_left self }
     {
         match self {
-            Strip::Spacing { left } => left as u16,
+            Strip::Spacing { left } => u16::from(left),
             Strip::Characters {
-                address: _,
                 height,
                 zoom,
-                enabled: _,
                 line,
+                ..
             } => line.lines_after(height, zoom),
         }
     }
 
+    #[tactic(auto, using(raster::proofs::Laws::last_next), unfolding(crate::specs::Walk::over, crate::specs::Walk::advanced))]
     fn advance(self) -> Strip
         requires { over self ≡ false }
         ensures { result ≡ advanced self }
@@ -219,10 +205,10 @@ impl Strip {
                 enabled,
                 line,
             } => Strip::Characters {
-                address: address,
-                height: height,
-                zoom: zoom,
-                enabled: enabled,
+                address,
+                height,
+                zoom,
+                enabled,
                 line: line.next(),
             },
         }
@@ -235,7 +221,7 @@ impl Walk {
         ensures { result ≡ walk_from page }
     {
         Walk {
-            descriptor: page as u16 * 64,
+            descriptor: u16::from(page) * 64,
             strip: Strip::Spacing { left: 0 },
             plain: false,
         }
@@ -246,30 +232,28 @@ impl Walk {
         ensures { result ≡ plain_rest descriptor }
     {
         Walk {
-            descriptor: descriptor,
+            descriptor,
             strip: Strip::Spacing { left: 0 },
             plain: true,
         }
     }
 
     // The first line of the next strip, or of the plain rest, by the descriptors from an address on. CH is taken here.
-    fn begin(ram: &[u8], ch: u8, descriptor: u16) -> Walked
-        requires { length ram.now ≡ ram_length }
+    #[tactic(auto, using(crate::proofs::Laws::walked_none, crate::proofs::Laws::walked_strip, crate::proofs::Laws::begins_some))]
+    fn begin(ram: &[u8; limits::RAM_LENGTH], ch: u8, descriptor: u16) -> Walked
         ensures { result ≡ walked ram.now ch (walk_at descriptor (Spacing 0)) }
     {
-        let first = even_address(descriptor as usize);
-        let at = begins_at(ram, first);
-        if at == limits::RAM_LENGTH {
+        let first = even_address(usize::from(descriptor));
+        let Some(at) = begins_at(ram, first) else {
             return Walked {
                 walk: Walk::of_plain_rest(first as u16),
                 cells: limits::RAM_LENGTH as u16,
             };
-        }
-        let next = Strip::of_descriptor(ch, ram[at], ram[at + 1]).advance();
+        };
         Walked {
             walk: Walk {
                 descriptor: next_address(at) as u16,
-                strip: next,
+                strip: Strip::of_descriptor(ch, ram[at], ram[at + 1]).advance(),
                 plain: false,
             },
             cells: ((at + limits::RAM_LENGTH - first) % limits::RAM_LENGTH + 2) as u16,
@@ -279,35 +263,30 @@ impl Walk {
     pub fn in_plain_rest(self) -> bool
         ensures { result ≡ in_plain_rest self }
     {
-        let strip = self.strip;
-        if self.plain {
-            return strip.is_over();
-        }
-        false
+        self.plain && self.strip.is_over()
     }
 
     // The walk at the frame's next line. Descriptors are read where the strip on screen is over.
-    pub fn next_line(self, ram: &[u8], ch: u8) -> Walked
-        requires { length ram.now ≡ ram_length }
+    #[tactic(auto, using(crate::proofs::Laws::walked_on, crate::proofs::Laws::walked_plain, crate::proofs::Laws::walked_begin))]
+    pub fn next_line(self, ram: &[u8; limits::RAM_LENGTH], ch: u8) -> Walked
         ensures { result ≡ walked ram.now ch self }
     {
-        let strip = self.strip;
-        if strip.is_over() {
-            if self.plain {
-                return Walked {
-                    walk: Walk::of_plain_rest(self.descriptor),
-                    cells: 0,
-                };
-            }
-            return Walk::begin(ram, ch, self.descriptor);
+        if !self.strip.is_over() {
+            return Walked {
+                walk: Walk {
+                    strip: self.strip.advance(),
+                    plain: false,
+                    ..self
+                },
+                cells: 0,
+            };
         }
-        Walked {
-            walk: Walk {
-                descriptor: self.descriptor,
-                strip: strip.advance(),
-                plain: false,
-            },
-            cells: 0,
+        if self.plain {
+            return Walked {
+                walk: Walk::of_plain_rest(self.descriptor),
+                cells: 0,
+            };
         }
+        Walk::begin(ram, ch, self.descriptor)
     }
 }

@@ -4,5 +4,5 @@ use Rattle.bus_bytes.proofs.write_next.Goals as goal
 
 pub returns : goal.returns
 returns c =
-    written_next _ _ _ c.counter_of-address.result c.counter_of-address.ensures c.args.x _ _ c.requires.2 (rw c.next_address.ensures at c.write_bus.ensures)
-    c.store.ensures.registers c.store.ensures.cells
+    let up = c.count_up-address in
+    written_next _ _ _ up.result up.ensures.address c.args.x _ _ c.requires.2 up.ensures.bus c.store.ensures.registers c.store.ensures.cells

@@ -6,12 +6,8 @@ use Rattle.demo.proofs.mix_line.Goals as goal
 
 pub loop-x-preserved : goal.loop-x-preserved
 loop-x-preserved c =
-    let l = c.loop-x in
-    let a = c.args in record {
-      in_bounds = omega arith;
-      pixels = mixed-more a.line.now l.out a.y l.x l.invariant.pixels c.mix_pixel-c.result (omega arith) (omega arith)
-          (c.mix_pixel-c.ensures ∙ ap (mix _) c.pixel.ensures);
-    }
+    mixed-more c.args.line.now c.loop-x.out c.args.y c.loop-x.x c.loop-x.invariant c.mix_pixel-c.result (omega arith) (omega arith)
+    (c.mix_pixel-c.ensures ∙ ap (mix _) c.pixel.ensures)
 
 pub returns : goal.returns
-returns c = mixed-whole c.args.line.now c.loop-x.out c.args.y c.loop-x.x c.loop-x.invariant.pixels (omega arith) (omega arith)
+returns c = mixed-whole c.args.line.now c.loop-x.out c.args.y c.loop-x.x c.loop-x.invariant (omega arith) (omega arith)

@@ -6,5 +6,5 @@ use Rattle.demo.proofs.play.Goals as goal
 
 pub returns : goal.returns
 returns c =
-    let taken = rw c.fresh.ensures at c.take-done.ensures in
+    let taken = rw c.fresh-feed.ensures at c.take.ensures in
     rw c.end_of.ensures (ap {B = Host} (λ (o : FeedOutcome). record { chip = o.chip; traffic = end_of o.reply }) taken)

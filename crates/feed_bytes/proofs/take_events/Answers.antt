@@ -41,26 +41,26 @@ returns-then-kind-gt-STOP c =
     all_taken (lent a.device.now a.ram.now) a.feed a.chunk.now a.out.now _ _ c.held_kind-held.ensures c.held_bytes-first.ensures c.requires.feed_value c.requires.chunk_in_bounds
     (sym (from_bad bus_calls _ a.chunk.now _ l.i l.out _ c.loop-i-test.true (sym (ap bad_kind c.kind_at-kind.ensures) ∙ lt-ltb 3 _ c.if-kind-gt-STOP.true)) ∙ l.invariant.9)
 
-pub write_run-i-requires-clause-place : goal.write_run-i-requires-clause-place
-write_run-i-requires-clause-place c =
+pub run-i-requires-clause-place : goal.run-i-requires-clause-place
+run-i-requires-clause-place c =
     let l = c.loop-i in
     next_place c.args.chunk.now l.out _ (1 - c.held_bytes-first.result) l.i _ l.invariant.4 l.invariant.6 l.invariant.3 c.put_output.auto.out (omega arith) (omega arith)
 
-pub read_run-i-requires-clause-place : goal.read_run-i-requires-clause-place
-read_run-i-requires-clause-place c =
-    let w = c.write_run-i in
+pub run-i-requires-in-loop-i-clause-place : goal.run-i-requires-in-loop-i-clause-place
+run-i-requires-in-loop-i-clause-place c =
+    let w = c.run-i in
     let l = c.loop-i in
     next_place c.args.chunk.now l.out _ (1 - c.held_bytes-first.result) l.i _ l.invariant.4 l.invariant.6 l.invariant.3
     (w.auto.out ∙ c.put_output.auto.out) w.ensures.forth w.ensures.events
 
 pub loop-i-smaller : goal.loop-i-smaller
 loop-i-smaller c =
-    goes_on (length c.args.chunk.now) c.loop-i.i _ _ c.loop-i-test.true c.write_run-i.ensures.forth c.read_run-i.ensures.forth
+    goes_on (length c.args.chunk.now) c.loop-i.i _ _ c.loop-i-test.true c.run-i.ensures.forth c.run-i-in-loop-i.ensures.forth
 
 pub loop-i-preserved : goal.loop-i-preserved
 loop-i-preserved c =
-    let r = c.read_run-i in
-    let w = c.write_run-i in
+    let r = c.run-i-in-loop-i in
+    let w = c.run-i in
     let b = c.hear-answer in
     let l = c.loop-i in
     let chunk : List ℕ = c.args.chunk.now in
@@ -81,8 +81,8 @@ loop-i-preserved c =
       r.ensures.left held
           ∙ w.ensures.left held
           ∙ from-heard l.device l.ram chunk held l.i l.out _ {o = record { device = b.new.device; ram = b.new.ram; answer = b.result }}
-          (l.invariant.0 ∙ c.requires.device_len.0) l.invariant.7 l.invariant.8 c.loop-i-test.true c.kind_at-kind.ensures c.if-kind-gt-STOP.false
-          b.ensures c.put_output.ensures (omega arith) (two_more l.i first l.invariant.4)
+          (l.invariant.0 ∙ c.requires.device_len.0) (l.invariant.1 ∙ c.requires.device_len.1) l.invariant.7 l.invariant.8 c.loop-i-test.true
+          c.kind_at-kind.ensures c.if-kind-gt-STOP.false c.of_kind.ensures b.ensures c.put_output.ensures (omega arith) (two_more l.i first l.invariant.4)
           ∙ l.invariant.9,
     )
 

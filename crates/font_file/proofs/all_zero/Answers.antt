@@ -1,26 +1,13 @@
--- `all_zero`: what is summed up and what is left are all.
-use mathlib.Core.Path.{◌≡◌, ap}
-use native.Mathlib.Numerals.{add-one}
-use native.Mathlib.Omega.{arith}
-use borrow.Author.Rules.{rules}
-use lib.ListN.{drop_of_length-le}
-use lib.Seq.{drop-cons}
-use Rattle.font_file.specs.FontFile.{sum as whole}
-use Rattle.font_file.proofs.Sums.{zero-sum}
+-- `all_zero`: all are zero exactly if their sum is.
+use Rattle.std.proofs.Common.{◌≡◌, ap, ◌∙◌, arith, sum, take_all}
+use Rattle.std.proofs.lemmas.List.Folds.{sum_by-zero}
+use Rattle.font_file.specs.FontFile.{all_zero}
 use Rattle.font_file.proofs.all_zero.Goals as goal
 
-pub loop-i-preserved : goal.loop-i-preserved
-unfolding whole
-loop-i-preserved c =
-    let l = c.loop-i in
-    let bytes = c.args.bytes.now in
-    rw (add-one l.i)
-    (search rules, omega (arith, c.type_inv.bytes l.i), omega (arith, ap whole (drop-cons bytes l.i 0 (omega arith))))
-
 pub returns : goal.returns
-unfolding whole
+unfolding all_zero
 returns c =
-    let l = c.loop-i in
+    let l = c.loop-byte in
     let bytes = c.args.bytes.now in
-    let all : l.sum ≡ whole bytes = omega (arith, ap whole (drop_of_length-le bytes {i = l.i} (omega arith))) in
-    rw all (zero-sum bytes)
+    let total : l.sum ≡ sum bytes = l.invariant.total ∙ ap sum (take_all l.byte-index bytes (omega arith)) in
+    rw total (sum_by-zero (λ x. x) bytes)

@@ -9,9 +9,6 @@ abbrev pub invariant-loop-row : goal.invariant-loop-row
 invariant-loop-row l =
     (l.row ≤ row_count)
     × (l.sum ≡ rows_from column_sum l.first l.row l.block)
-    × (l.by_row ≡ rows_from column_weighted l.first l.row l.block)
+    × (l.weighted ≡ rows_from column_weighted l.first l.row l.block)
     × (l.sum ≤ 255 * (row_count - l.row))
-    × (l.by_row ≤ 1785 * (row_count - l.row))
-
-abbrev pub decreases-loop-row : goal.decreases-loop-row
-decreases-loop-row l = l.row
+    × (l.weighted ≤ 1785 * (row_count - l.row))

@@ -36,8 +36,8 @@ returns c =
     let at : ℕ = heading_length + length font in
     let k : ℕ = checked_length - at in
     let most = used_most c.args.number in
-    let puts : filled ≡ sets (sets block 0 (heading c.args.number font)) heading_length font =
-    c.put-2.ensures ∙ ap (λ (xs : List ℕ). sets xs heading_length font) c.put.ensures in
+    let high : length font / 256 % 256 ≡ length font / 256 = omega arith in
+    let puts : filled ≡ sets (sets block 0 (heading c.args.number font)) heading_length font = rw (c.put-2.ensures, c.put.ensures, c.to_le_bytes.ensures, high) in
     let long : length filled ≡ block_length = omega arith in
     let zeros : length (take k (drop at filled)) ≡ k = simp (length-take, length-drop) (omega arith) in
     put-part filled (replicate k 0) _ at checked_length (rw zeros at c.fill.ensures)

@@ -19,10 +19,14 @@ returns-then-not-enabled c =
 pub slice-requires : goal.slice-requires
 slice-requires c = on_line _ c.in-Characters.is c.requires.on_line
 
-pub draw_characters-requires-clause-on_screen : goal.draw_characters-requires-clause-on_screen
-draw_characters-requires-clause-on_screen c =
+pub invariant_of-row : goal.invariant_of-row
+invariant_of-row c =
     let p = c.requires in
-    (slice_on_lem _ _ _ _ c.slice.ensures (on_line _ c.in-Characters.is p.on_line), (omega arith, omega (arith, p.ld_bound.1)))
+    record {
+      bytes = (c.fits-ram, c.fits-font);
+      on_screen = slice_on_lem _ _ _ _ c.slice.ensures (on_line _ c.in-Characters.is p.on_line);
+      plain = (omega arith, omega (arith, p.ld_bound.1));
+    }
 
 pub returns-in-Spacing : goal.returns-in-Spacing
 returns-in-Spacing c =
@@ -34,4 +38,4 @@ returns-else-not-enabled c =
     on_strip _ _ _ _ _ _ _ _ c.in-Characters.is
     (strip_characters _ _ _ _ _ _ _ _ _ _ _ _ _ _ _ (not-false _ c.if-not-settings.false) c.if-not-enabled.false
     (λ i. record { slice = c.slice.ensures i; plain = plain_of c.args.settings.fbk; hidden = c.hidden.ensures i })
-    c.first_pixel-first.ensures c.width-w.ensures c.draw_characters.ensures)
+    c.first_pixel.ensures c.width-w.ensures c.draw_line.ensures)

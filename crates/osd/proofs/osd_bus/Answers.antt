@@ -27,3 +27,8 @@ returns-then-state-eq-WRITING c =
     let b = c.args.byte in
     bus-heard _ _ _ b c.if-device-ne-DEVICE_LENGTH.false c.if-kind-gt-STOP.false (Byte b) _
     c.if-ram-ne-RAM_LENGTH.false (ap (λ (n : ℕ). event_of n b) (sym c.if-kind-eq-HOST_BYTE.true)) c.write_next.ensures
+
+pub returns : goal.returns
+returns c =
+    bus-heard _ _ _ c.args.byte c.if-device-ne-DEVICE_LENGTH.false c.if-kind-gt-STOP.false c.of_kind.result _
+    c.if-ram-ne-RAM_LENGTH.false c.of_kind.ensures c.hear.ensures

@@ -21,32 +21,32 @@ returns-then-chunk-gt-CHUNK_MAX c = feed-not _ _ _ _ _ (λ h k l. not-le_of_lt c
 
 pub take_events-taken-requires-clause-device_len : goal.take_events-taken-requires-clause-device_len
 take_events-taken-requires-clause-device_len c =
-    let t = passed_takes _ _ _ _ (sym c.test-test.ensures ∙ ap verdict_in c.in-Passed.is) in
+    let t = passed_takes _ _ _ _ (sym c.test.ensures ∙ ap verdict_in c.in-Ok.is) in
     (c.if-device-ne-DEVICE_LENGTH.false, t.ram-length, c.if-chunk-gt-CHUNK_MAX.false)
 
 pub take_events-taken-requires-clause-feed_value : goal.take_events-taken-requires-clause-feed_value
 take_events-taken-requires-clause-feed_value c =
-    let t = passed_takes _ _ _ _ (sym c.test-test.ensures ∙ ap verdict_in c.in-Passed.is) in
+    let t = passed_takes _ _ _ _ (sym c.test.ensures ∙ ap verdict_in c.in-Ok.is) in
     t.not_shut
 
 pub take_events-taken-requires-clause-chunk_in_bounds : goal.take_events-taken-requires-clause-chunk_in_bounds
 take_events-taken-requires-clause-chunk_in_bounds c =
-    let t = passed_takes _ _ _ _ (sym c.test-test.ensures ∙ ap verdict_in c.in-Passed.is) in
+    let t = passed_takes _ _ _ _ (sym c.test.ensures ∙ ap verdict_in c.in-Ok.is) in
     t.room
 
-pub returns-in-Passed : goal.returns-in-Passed
-returns-in-Passed c =
+pub returns-in-Ok : goal.returns-in-Ok
+returns-in-Ok c =
     let a = c.args in
     feed-taken _ _ _ _ _ c.if-device-ne-DEVICE_LENGTH.false c.if-feed-ne-FEED_LENGTH.false c.if-chunk-gt-CHUNK_MAX.false
     (ap (λ (f : Feed). feed_verdict f (length a.ram.now) (length a.chunk.now) (length a.out.now)) (sym c.feed_in-before.ensures)
-    ∙ sym c.test-test.ensures ∙ ap verdict_in c.in-Passed.is)
+    ∙ sym c.test.ensures ∙ ap verdict_in c.in-Ok.is)
     (c.take_events-taken.ensures ∙ ap (λ (f : Feed). play_chunk bus_calls (lent a.device.now a.ram.now) f a.chunk.now a.out.now) c.feed_in-before.ensures)
     c.write_feed.ensures c.fed.ensures
 
-pub returns-in-Failed : goal.returns-in-Failed
-returns-in-Failed c =
+pub returns-in-Err : goal.returns-in-Err
+returns-in-Err c =
     let a = c.args in
     feed-refused _ _ _ _ _ c.if-device-ne-DEVICE_LENGTH.false c.if-feed-ne-FEED_LENGTH.false c.if-chunk-gt-CHUNK_MAX.false
     (ap (λ (f : Feed). feed_verdict f (length a.ram.now) (length a.chunk.now) (length a.out.now)) (sym c.feed_in-before.ensures)
-    ∙ sym c.test-test.ensures ∙ ap verdict_in c.in-Failed.is)
+    ∙ sym c.test.ensures ∙ ap verdict_in c.in-Err.is)
     c.refuse.ensures

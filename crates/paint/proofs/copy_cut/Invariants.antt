@@ -1,12 +1,7 @@
--- `copy_cut`: what is written and the columns that are left are all twelve.
-use Prim.Native.Nat.{◌-◌, ◌≤◌}
-use mathlib.Core.Path.{◌≡◌}
-use mathlib.Core.List.{◌++◌}
-use lib.ListN.{length, take, drop}
+-- `copy_cut`: the columns before i are written, where there is room for them.
+use Rattle.std.proofs.Common.{ℕ, ◌≡◌, ◌<◌, length, get_or}
 use Rattle.paint.proofs.copy_cut.Given as goal
 
 abbrev pub invariant-loop-i : goal.invariant-loop-i
-invariant-loop-i l = (l.i ≤ length l.initial.out) × (length l.out ≡ length l.initial.out) × (take l.i l.out ++ drop l.i l.whole ≡ l.whole)
-
-abbrev pub decreases-loop-i : goal.decreases-loop-i
-decreases-loop-i l = length l.initial.out - l.i
+invariant-loop-i l =
+    (length l.out ≡ length l.initial.out) × ((k : ℕ) → k < l.i → k < length l.out → get_or l.out k 0 ≡ get_or l.whole k 0)

@@ -2,19 +2,15 @@
 use mathlib.Core.Path.{sym, ◌∙◌}
 use mathlib.Core.List.{map}
 use native.Mathlib.Omega.{arith}
-use lib.ListN.{length-set, length-map, get_or-map}
+use lib.ListN.{length-map, get_or-map}
 use Rattle.facts.proofs.Written.{written-more}
 use Rattle.buffers.specs.Buffers.{hex_digit}
-use borrow.Author.Rules.{rules}
 use Rattle.report.proofs.copy_pixels.Goals as goal
 
 pub loop-i-preserved : goal.loop-i-preserved
 loop-i-preserved c =
     let l = c.loop-i in
     let pixels = c.args.pixels.now in
-    let long = length-map pixels hex_digit in (
-      search rules,
-      length-set l.out _ _ ∙ l.invariant.1,
-      written-more (map hex_digit pixels) l.out l.i _ (hex_digit 0) (omega arith) (omega arith) l.invariant.2
-          (c.hex_digit.ensures ∙ sym (get_or-map hex_digit pixels l.i 0)),
-    )
+    let long = length-map pixels hex_digit in
+    written-more (map hex_digit pixels) l.out l.i _ (hex_digit 0) (omega arith) (omega arith) l.invariant
+    (c.hex_digit.ensures ∙ sym (get_or-map hex_digit pixels l.i 0))

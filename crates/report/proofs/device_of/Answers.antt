@@ -5,9 +5,9 @@ use lib.ListN.{length, length-take, length-drop}
 use Rattle.report.specs.Report.{bench_device}
 use Rattle.report.proofs.device_of.Goals as goal
 
-pub load-registers-requires : goal.load-registers-requires
-load-registers-requires c = ap length c.part.ensures ∙ simp (length-take, length-drop) (omega arith)
+pub load-requires : goal.load-requires
+load-requires c = ap length c.part.ensures ∙ simp (length-take, length-drop) (omega arith)
 
 pub returns : goal.returns
 unfolding bench_device
-returns c = rw (c.fresh-fresh.ensures, c.load-registers.ensures, c.part.ensures)
+returns c = rw (c.fresh.ensures, c.load.ensures, c.part.ensures)

@@ -10,11 +10,6 @@ returns-then-out-pixels c =
     let a = c.args in
     too_short (line_text a.pixels.now a.cells) a.out.now (omega (arith, line-long a.pixels.now a.cells))
 
-pub returns-then-out-pixels-2 : goal.returns-then-out-pixels-2
-returns-then-out-pixels-2 c =
-    let a = c.args in
-    too_short (line_text a.pixels.now a.cells) a.out.now (omega (arith, line-long a.pixels.now a.cells))
-
 pub returns : goal.returns
 unfolding bytes_of
 returns c =

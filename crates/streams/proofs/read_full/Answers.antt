@@ -6,6 +6,6 @@ use Rattle.streams.proofs.read_full.Goals as goal
 pub loop-done-preserved : goal.loop-done-preserved
 loop-done-preserved g c = record {
   same_length = search rules;
-  in_bounds = c.in_ok-n.ensures.in_bounds;
-  bytes = Consumes-behind _ _ _ _ _ _ _ c.in_ok-n.ensures.front c.loop-done.invariant.bytes c.in_ok-n.ensures.bytes;
+  in_bounds = search rules;
+  bytes = Consumes-behind _ _ _ c.loop-done.buffer _ _ _ c.in_ok-n.n (search rules) (search rules) c.loop-done.invariant.bytes c.in_ok-n.ensures.bytes.0;
 }

@@ -1,44 +1,37 @@
 -- `pass_over`: each turn passes a descriptor over (`at_next`), or it begins its strip (`at_here`).
-use Prim.Native.Nat.{ℕ, suc, ◌-◌}
-use mathlib.Core.Path.{◌≡◌, refl, sym, ap, ◌∙◌}
+use Prim.Native.Nat.{ℕ, suc, ◌+◌, ◌-◌, ◌<◌}
+use mathlib.Core.Path.{◌≡◌, sym, ap, ◌∙◌}
 use native.Mathlib.Omega.{arith}
+use mathlib.Core.List.{List}
+use Rattle.std.specs.Prelude.{Option}
 use Rattle.limits.specs.Limits.{ram_pairs}
 use Rattle.walk.specs.Walk.{begins_at}
 use Rattle.walk.proofs.Laws.{at_next, at_here, at_none}
-use borrow.Author.Rules.{rules}
 use Rattle.walk.proofs.pass_over.Goals as goal
 
-pub loop-left-init : goal.loop-left-init
-loop-left-init c = (c.requires.first_value, search rules, refl)
+-- one more is left
+more : (ram : List ℕ) (k a : ℕ) {r : Option ℕ} → k < ram_pairs → begins_at (ram_pairs - k) ram a ≡ r → begins_at (suc (ram_pairs - (k + 1))) ram a ≡ r
+more ram k a h e =
+    let one : suc (ram_pairs - (k + 1)) ≡ ram_pairs - k = omega arith in
+    ap (λ (n : ℕ). begins_at n ram a) one ∙ e
 
-pub loop-left-preserved : goal.loop-left-preserved
-loop-left-preserved c =
-    let at-hand : let l = c.loop-left in let a = c.args in begins_at (suc (l.left - 1)) a.ram.now l.at ≡ begins_at ram_pairs a.ram.now a.first =
-    let l = c.loop-left in
-    let a = c.args in
-    let one : suc (l.left - 1) ≡ l.left = omega (arith, c.loop-left-test.true) in
-    ap (λ (k : ℕ). begins_at k a.ram.now l.at) one ∙ l.invariant.2 in
-    let l = c.loop-left in
-    let a = c.args in (
+pub returns-then-not-is_passed_over-clause-at : goal.returns-then-not-is_passed_over-clause-at
+returns-then-not-is_passed_over-clause-at c =
+    let l = c.loop in
+    let ram = c.args.ram.now in
+    sym (at_here ram _ l.at (sym c.is_passed_over.ensures ∙ c.if-not-is_passed_over.true)) ∙ more ram l.counter l.at c.loop-test.true l.invariant.1
+
+pub loop-preserved : goal.loop-preserved
+loop-preserved c =
+    let l = c.loop in
+    let ram = c.args.ram.now in (
       rw c.next_address-at.ensures (omega arith),
-      search rules,
-      rw c.next_address-at.ensures (sym (at_next a.ram.now (l.left - 1) l.at (sym c.is_passed_over.ensures ∙ c.if-is_passed_over.true)) ∙ at-hand),
+      rw c.next_address-at.ensures
+          (sym (at_next ram _ l.at (sym c.is_passed_over.ensures ∙ c.if-not-is_passed_over.false)) ∙ more ram l.counter l.at c.loop-test.true l.invariant.1),
     )
 
-pub returns-else-is_passed_over : goal.returns-else-is_passed_over
-returns-else-is_passed_over c =
-    let at-hand : let l = c.loop-left in let a = c.args in begins_at (suc (l.left - 1)) a.ram.now l.at ≡ begins_at ram_pairs a.ram.now a.first =
-    let l = c.loop-left in
-    let a = c.args in
-    let one : suc (l.left - 1) ≡ l.left = omega (arith, c.loop-left-test.true) in
-    ap (λ (k : ℕ). begins_at k a.ram.now l.at) one ∙ l.invariant.2 in
-    let l = c.loop-left in
-    let a = c.args in
-    sym (at_here a.ram.now (l.left - 1) l.at (sym c.is_passed_over.ensures ∙ c.if-is_passed_over.false)) ∙ at-hand
-
-pub returns : goal.returns
-returns c =
-    let l = c.loop-left in
-    let a = c.args in
-    let none : l.left ≡ 0 = omega (arith, c.loop-left-test.false) in
-    sym (at_none a.ram.now l.at) ∙ rw none at l.invariant.2
+pub returns-clause-at : goal.returns-clause-at
+returns-clause-at c =
+    let l = c.loop in
+    let none : ram_pairs - l.counter ≡ 0 = omega (arith, c.loop-test.false) in
+    sym (at_none c.args.ram.now l.at) ∙ rw none at l.invariant.1

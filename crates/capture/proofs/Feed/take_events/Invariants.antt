@@ -1,18 +1,14 @@
--- `take_events`: a turn is an event, and what is left from the next place on is what was left.
-use Prim.Native.Nat.{◌+◌, ◌-◌, ◌%◌, ◌≤◌}
+-- `take_events`: what is left of the chunk does what the whole chunk did at its start, and the output has room for it.
+use Prim.Native.Nat.{◌+◌, ◌-◌, ◌*◌, ◌≤◌}
+use mathlib.Core.Bool.{false}
 use mathlib.Core.Path.{◌≡◌}
-use lib.ListN.{length}
-use Rattle.capture.specs.Capture.{chip, bus_events}
-use Rattle.capture.specs.Places.{from}
+use lib.ListN.{length, drop}
+use Rattle.capture.specs.Capture.{chip, bus_events, is_shut, would_complete}
+use Rattle.capture.specs.Places.{rest}
 use Rattle.capture.proofs.Feed.take_events.Given as goal
 
-abbrev pub invariant-loop-i : goal.invariant-loop-i
-invariant-loop-i l =
-    (length l.ram ≡ length l.initial.ram)
-    × (length l.out ≡ length l.initial.out)
-    × (l.first ≤ l.i)
-    × ((l.i - l.first) % 2 ≡ 0)
-    × (from bus_events (chip l.next l.ram) l.chunk l.held l.i l.out (l.i - l.first) ≡ from bus_events (chip l.initial.next l.initial.ram) l.chunk l.held l.first l.initial.out 0)
-
-abbrev pub decreases-loop-i : goal.decreases-loop-i
-decreases-loop-i l = length l.chunk + 1 - l.i
+abbrev pub invariant-loop-byte : goal.invariant-loop-byte
+invariant-loop-byte l =
+    (is_shut l.self ≡ false)
+    × (l.written + 2 * would_complete l.self (length l.chunk - l.byte-index) ≤ length l.out)
+    × (rest bus_events (chip l.device l.ram) l.self (drop l.byte-index l.chunk) l.out l.written ≡ rest bus_events (chip l.initial.device l.initial.ram) l.initial.self l.chunk l.initial.out 0)

@@ -5,5 +5,5 @@ use Rattle.device.proofs.Device.width.Goals as goal
 
 pub returns : goal.returns
 returns c =
-    let s = c.settings-settings.ensures in
-    (rw (c.width.ensures, s), omega (arith, rw (← s) at (ld_bound_lem c.args.self.registers)))
+    let s = c.settings.ensures in
+    (rw (c.width.ensures, s), omega (arith, rw (← s) at (ld_bound_lem c.args.self.now.registers)))

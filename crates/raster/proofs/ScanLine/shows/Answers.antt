@@ -1,65 +1,47 @@
 -- `ScanLine::shows`: the first line that could show the slice decides (`shown_past`, `shown_first`).
-use Prim.Native.Nat.{ℕ, ◌+◌, ◌*◌, ◌/◌, ◌≤◌, ◌<◌, max}
-use mathlib.Core.Path.{◌≡◌, ap, ap₂, ◌∙◌}
-use native.Mathlib.Omega.{arith}
-use Rattle.raster.specs.Raster.{unzoomed}
-use Rattle.raster.specs.Search.{heights_to}
-use Rattle.raster.proofs.Slices.{rising, first_of, shown_past, shown_first, start_bound, last_bound, height_some}
-use borrow.Author.Rules.{rules}
+use Rattle.std.proofs.Common.{◌+◌, ◌∙◌, arith, rules}
+use borrow.Author.Tests.{lt-leb}
+use Rattle.raster.proofs.Slices.{rising, shown_past, shown_first, start_bound, last_bound, height_some}
 use Rattle.raster.proofs.ScanLine.shows.Goals as goal
-
-pub heights_to-requires : goal.heights_to-requires
-heights_to-requires c = omega (arith, c.requires.in_character)
-
-pub overflow_mul-first : goal.overflow_mul-first
-overflow_mul-first c =
-    let start : heights_to c.args.slice.0 * c.args.height ≤ 9435 = start_bound c.args.slice.0 c.args.height (omega (arith, c.requires.in_character)) (search rules) in
-    rw c.heights_to.ensures (omega (arith, start))
-
-pub overflow_add-first : goal.overflow_add-first
-overflow_add-first c =
-    let start : heights_to c.args.slice.0 * c.args.height ≤ 9435 = start_bound c.args.slice.0 c.args.height (omega (arith, c.requires.in_character)) (search rules) in
-    rw c.heights_to.ensures (omega (arith, start))
 
 pub overflow_cast-unzoom : goal.overflow_cast-unzoom
 overflow_cast-unzoom c =
-    let last : unzoomed c.args.zoom (c.args.self.0 + c.args.count) ≤ c.args.height = last_bound c.args.self c.args.count c.args.height c.args.zoom c.requires.le_count.0 c.requires.le_count.1 in
-    let first-last : unzoomed c.args.zoom (c.args.self.0 + 1) ≤ unzoomed c.args.zoom (c.args.self.0 + c.args.count) = rising c.args.zoom c.args.self.0 1 c.args.count c.requires.le_count.0 in
-    omega (arith, c.unzoom.ensures, first-last, last)
+    let a = c.args in
+    let le = c.requires.le_count in
+    rw (c.unzoom.ensures, c.from-line.ensures)
+    (omega (arith, rising a.zoom a.self.0 1 a.count le.0, last_bound a.self a.count a.height a.zoom le.0 le.1))
 
 pub overflow_cast-last : goal.overflow_cast-last
 overflow_cast-last c =
-    let last : unzoomed c.args.zoom (c.args.self.0 + c.args.count) ≤ c.args.height = last_bound c.args.self c.args.count c.args.height c.args.zoom c.requires.le_count.0 c.requires.le_count.1 in
-    omega (arith, c.unzoom-last.ensures, last)
-
-pub returns-then-last-n : goal.returns-then-last-n
-returns-then-last-n c =
-    let some : 0 < c.args.height = height_some c.args.self c.args.count c.args.height c.args.zoom c.requires.le_count.0 c.requires.le_count.1 in
-    let first-is : let a = c.args in c.most-n.result ≡ first_of a.self a.height a.zoom a.slice =
-    let ch : ℕ = c.args.height in
-    c.most-n.ensures ∙ ap₂ max c.unzoom.ensures (ap (λ (x : ℕ). (x * ch + 35) / 36) c.heights_to.ensures) in
-    shown_past c.args.self c.args.count c.args.height c.args.zoom c.args.slice some c.requires.le_count.0
-    (rw (c.unzoom-last.ensures, first-is) at c.if-last-n.true)
+    let a = c.args in
+    let le = c.requires.le_count in
+    rw (c.unzoom-last.ensures, c.from-line.ensures, c.from.ensures) (omega (arith, last_bound a.self a.count a.height a.zoom le.0 le.1))
 
 pub overflow_mul-result : goal.overflow_mul-result
 overflow_mul-result c =
-    let last : unzoomed c.args.zoom (c.args.self.0 + c.args.count) ≤ c.args.height = last_bound c.args.self c.args.count c.args.height c.args.zoom c.requires.le_count.0 c.requires.le_count.1 in
-    omega (arith, c.unzoom-last.ensures, last)
+    let a = c.args in
+    let le = c.requires.le_count in
+    let last = rw (c.unzoom-last.ensures, c.from-line.ensures, c.from.ensures) at c.if-n-last.true in
+    omega (arith, last, last_bound a.self a.count a.height a.zoom le.0 le.1)
 
-pub heights_to-requires-2 : goal.heights_to-requires-2
-heights_to-requires-2 c = omega (arith, c.requires.in_character)
+pub overflow_mul-result-then-n-last : goal.overflow_mul-result-then-n-last
+overflow_mul-result-then-n-last c =
+    let a = c.args in
+    let next_start = start_bound (a.slice.0 + 1) a.height (omega (arith, c.requires.in_character)) (search rules) in
+    rw (c.heights_to.ensures, c.from-s.ensures, c.from-then-n-last.ensures) (omega (arith, next_start))
 
-pub overflow_mul-result-2 : goal.overflow_mul-result-2
-overflow_mul-result-2 c =
-    let next_start : heights_to (c.args.slice.0 + 1) * c.args.height ≤ 9435 = start_bound (c.args.slice.0 + 1) c.args.height (omega (arith, c.requires.in_character)) (search rules) in
-    rw c.heights_to-2.ensures (omega (arith, next_start))
+pub returns-else-n-last : goal.returns-else-n-last
+returns-else-n-last c =
+    let a = c.args in
+    let le = c.requires.le_count in
+    let some = height_some a.self a.count a.height a.zoom le.0 le.1 in
+    lt-leb _ _ c.if-n-last.false ∙ shown_past a.self a.count a.height a.zoom a.slice some le.0 (rw (c.max-n.ensures, c.unzoom.ensures, c.first_line.ensures.line, c.from-s.ensures, c.unzoom-last.ensures, c.from-line.ensures, c.from.ensures) at c.if-n-last.false)
 
-pub returns : goal.returns
-returns c =
-    let some : 0 < c.args.height = height_some c.args.self c.args.count c.args.height c.args.zoom c.requires.le_count.0 c.requires.le_count.1 in
-    let first-is : let a = c.args in c.most-n.result ≡ first_of a.self a.height a.zoom a.slice =
-    let ch : ℕ = c.args.height in
-    c.most-n.ensures ∙ ap₂ max c.unzoom.ensures (ap (λ (x : ℕ). (x * ch + 35) / 36) c.heights_to.ensures) in
-    rw (first-is, c.heights_to-2.ensures)
-    (shown_first c.args.self c.args.count c.args.height c.args.zoom c.args.slice some c.requires.le_count.0
-    (rw (c.unzoom-last.ensures, first-is) at c.if-last-n.false))
+pub returns-then-n-last : goal.returns-then-n-last
+returns-then-n-last c =
+    let a = c.args in
+    let le = c.requires.le_count in
+    let some = height_some a.self a.count a.height a.zoom le.0 le.1 in
+    let n = rw (c.max-n.ensures, c.unzoom.ensures, c.first_line.ensures.line, c.from-s.ensures, c.unzoom-last.ensures, c.from-line.ensures, c.from.ensures) at c.if-n-last.true in
+    rw (c.max-n.ensures, c.unzoom.ensures, c.first_line.ensures.line, c.from-line.ensures, c.heights_to.ensures, c.from-s.ensures, c.from-then-n-last.ensures)
+    (shown_first a.self a.count a.height a.zoom a.slice some le.0 n)

@@ -1,15 +1,8 @@
--- `Registers::load`: the registers before i are loaded, and with those that are left they are all of them.
-use Prim.Native.Nat.{◌-◌, ◌≤◌}
-use mathlib.Core.Path.{◌≡◌}
-use mathlib.Core.List.{◌++◌, zip_with}
+-- `Registers::load`: the registers before i are loaded.
+use Rattle.std.proofs.Common.{ℕ, ◌≡◌, ◌<◌, length, get_or}
 use lib.Bits.{bit_and}
-use lib.ListN.{length, take, drop}
 use Rattle.registers.specs.Registers.{kept}
 use Rattle.registers.proofs.Registers.load.Given as goal
 
 abbrev pub invariant-loop-i : goal.invariant-loop-i
-invariant-loop-i l =
-    (l.i ≤ 16) × (length l.next ≡ 16) × (take l.i l.next ++ drop l.i (zip_with bit_and l.bytes kept) ≡ zip_with bit_and l.bytes kept)
-
-abbrev pub decreases-loop-i : goal.decreases-loop-i
-decreases-loop-i l = 16 - l.i
+invariant-loop-i l = (length l.next ≡ 16) × ((k : ℕ) → k < l.i → get_or l.next k 0 ≡ bit_and (get_or l.bytes k 0) (get_or kept k 0))
