@@ -3,7 +3,7 @@ use Prim.Native.Nat.{ℕ, ◌+◌, ◌-◌, ◌%◌, ◌<◌}
 use mathlib.Core.Path.{◌≡◌, refl, sym, ap, ◌∙◌}
 use native.Mathlib.Omega.{arith}
 use borrow.Author.Rules.{rules}
-use lib.ListN.{set}
+use lib.ListN.{set, get_or}
 use Rattle.limits.specs.Limits.{address_space}
 use Rattle.layout.specs.Layout.{state_number}
 use Rattle.feed_bytes.proofs.Runs.{run_first, run_on, in_run, kind_at_lem, kind_before}
@@ -37,7 +37,8 @@ loop-k-preserved g c =
     let a = c.args in
     let l = c.loop-k in
     let o = in_run a.chunk.now a.first a.i l.k c.requires.place.reached l.invariant.3 l.invariant.4 c.loop-k-test.true in
-    let n : ℕ = l.k + 1 - a.first in (
+    let n : ℕ = l.k + 1 - a.first in
+    let here : get_or a.chunk.now l.k 0 ≡ m.KIND = grind arith in (
       search rules,
       search rules,
       search rules,
@@ -48,7 +49,7 @@ loop-k-preserved g c =
       λ held.
           rw c.next_address-address.ensures
           (run_on m.STATE m.KIND m.does m.laws l.device l.ram a.chunk.now held (l.k + 1) l.out n l.address (l.invariant.0 ∙ c.requires.device_len.0) (l.invariant.1 ∙ c.requires.device_len.1)
-          o.inside (kind_at_lem a.chunk.now held l.k m.KIND (c.if-chunk-k.false ∙ c.KIND-in-loop-k.ensures)) l.invariant.6
+          o.inside (kind_at_lem a.chunk.now held l.k m.KIND here) l.invariant.6
           c.hear-byte.ensures.device c.hear-byte.ensures.ram
           (λ i. set (set l.out n 1) (o.second i) (c.hear-byte.ensures.answer i)) (omega arith) o.output (l.invariant.7 held)),
     )
