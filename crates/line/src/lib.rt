@@ -77,19 +77,21 @@ impl<'a> Row<'a> {
         ensures { RowDrawn self.now.ram.now self.now.font.now self.now.address self.now.pen first w out.old result out.new }
     {
         let table = RowTable::new(self.pen.plain, self.pen.hidden);
+        // characters before this one are whole; at most one, this one, is cut
+        let whole = (w - first) / 12;
         let mut a = walk::even_address(self.address as usize);
         let mut cells: u32 = 0;
         // what the character to the left shows; nothing for the first
         let mut before: u32 = 0;
-        for x in (first..w).step_by(12) {
+        for i in 0..(w - first + 11) / 12 {
+            let x = first + 12 * i;
             let code = self.code_at(&table, a, before);
             cells += code.cells;
             let Some(drawn) = code.drawn else {
                 buffers::fill(&mut out[x..w], self.pen.plain);
                 return cells;
             };
-            // only the last one can be cut
-            if w - x < 12 {
+            if i == whole {
                 paint::put_cut(&mut out[x..w], drawn.columns);
                 return cells;
             }
