@@ -9,7 +9,7 @@ ghost use Rattle.walk.specs.Walk.{lines_left, in_plain_rest};
 ghost use Rattle.ahead.specs.Ahead.{remaining};
 ghost use Rattle.ahead.specs.Looking.{user_reads, Starts, Far, Marks, ZerosOf, Lowest, NextRow, OwnCodes};
 
-use question::Sought;
+pub use question::Sought;
 use registers::Settings;
 use std::ops::ControlFlow;
 use walk::{Strip, Walk};
@@ -78,9 +78,9 @@ fn user_reads(ram: &[u8; limits::RAM_LENGTH], row: usize, n: usize, cell: u16) -
 // The zeros at the low end of a word, as far as they were passed, and the word without them. They are passed by halves: the kit's
 // count of them is compiled into a table on RISC-V, and a port has no data of its own.
 #[derive(Clone, Copy)]
-struct Passed {
-    zeros: usize,
-    rest: u32,
+pub struct Passed {
+    pub zeros: usize,
+    pub rest: u32,
 }
 
 // Passes h zeros, if there are as many.

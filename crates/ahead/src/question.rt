@@ -9,7 +9,7 @@ use registers::Settings;
 
 // What is looked for in each strip.
 #[derive(Clone, Copy)]
-pub(crate) struct Sought {
+pub struct Sought {
     pub cell: u16,
     pub settings: Settings,
     // the codes that a line reads at the most

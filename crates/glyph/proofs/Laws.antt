@@ -16,7 +16,7 @@ use Rattle.cells.specs.Reading.{slice, Reading, done, read, value, cells}
 use Rattle.raster.specs.declared.Slice.{Slice}
 use Rattle.glyph.specs.Glyph.{Glyph, font, user, blank, ends_line, user_cell, font_byte, in_ram, glyph_of, of_bytes, twelve, bits_of, slice_part}
 use Rattle.glyph.specs.declared.Word.{Word}
-use Rattle.glyph.specs.Words.{in_order, word_of, word_in}
+use Rattle.glyph.specs.Words.{in_order, word_of, glyph_word, word_in}
 
 -- ---- the two bytes of a slice are the part that the lookup returns
 
@@ -34,41 +34,46 @@ part-word l a = rw (get_d_part l a 2 0 0 (omega arith), get_d_part l a 2 1 0 (om
 
 module _ (ram f : List ℕ) (high : ℕ) (s : Slice) where
   -- a font character
+  pub glyph_font : high < 128 → record { bits = word_at (slice_part ram f high s.0); cells = 0 } ≡ glyph_word ram f high s
+  unfolding slice_part glyph_of value cells of_bytes
+  glyph_font h = rw (eq-eqb (high / 128 % 2) 0 (omega arith), part-word)
+
+  -- a user character
+  pub glyph_user : 128 ≤ high → high < 154 → record { bits = word_at (slice_part ram f high s.0); cells = 2 } ≡ glyph_word ram f high s
+  unfolding slice_part glyph_of in_ram value cells of_bytes
+  glyph_user l h = rw (ne_eqb (high / 128 % 2) 0 (λ e. omega arith), lt-ltb (high % 128) 26 (omega arith), part-word)
+
+  -- all background, or the end of line
+  pub glyph_blank : 154 ≤ high → high < 256 → record { bits = 0; cells = 0 } ≡ glyph_word ram f high s
+  unfolding glyph_of in_ram value cells of_bytes
+  glyph_blank l h = rw (ne_eqb (high / 128 % 2) 0 (λ e. omega arith), le-ltb (high % 128) 26 (omega arith))
+
+  -- what the lookup finds: a font character
   pub word_font : high < 128 → Some (record { bits = word_at (slice_part ram f high s.0); cells = 0 }) ≡ word_in ram f high s
-  unfolding slice_part word_in glyph_of value cells of_bytes
-  word_font h = rw (eq-eqb (high / 128 % 2) 0 (omega arith), part-word, ne_eqb high 255 (λ e. omega arith))
+  unfolding word_in
+  word_font h = rw (ne_eqb high 255 (λ e. omega arith)) (ap Some (glyph_font h))
 
   -- a user character
   pub word_user : 128 ≤ high → high < 154 → Some (record { bits = word_at (slice_part ram f high s.0); cells = 2 }) ≡ word_in ram f high s
-  unfolding slice_part word_in glyph_of in_ram value cells of_bytes
-  word_user l h =
-      rw (
-        ne_eqb (high / 128 % 2) 0 (λ e. omega arith),
-        lt-ltb (high % 128) 26 (omega arith),
-        part-word,
-        ne_eqb high 255 (λ e. omega arith),
-      )
+  unfolding word_in
+  word_user l h = rw (ne_eqb high 255 (λ e. omega arith)) (ap Some (glyph_user l h))
 
   -- all background
   pub word_blank : 154 ≤ high → high < 256 → ends_line high ≡ false → Some (record { bits = 0; cells = 0 }) ≡ word_in ram f high s
-  unfolding word_in glyph_of in_ram value cells of_bytes
-  word_blank l h e = rw (e, ne_eqb (high / 128 % 2) 0 (λ e. omega arith), le-ltb (high % 128) 26 (omega arith))
+  unfolding word_in
+  word_blank l h e = rw e (ap Some (glyph_blank l h))
 
   -- the end of line
   pub word_end : ends_line high ≡ true → None ≡ word_in ram f high s
   unfolding word_in
   word_end e = rw e
 
-  -- what a lookup says of the end of line, and of the cells that it read
-  abbrev found : Word
-  found = record { bits = word_of f (value ram (glyph_of high s)); cells = length (cells ram (glyph_of high s)) }
-
   module _ (w : Word) (h : word_in ram f high s ≡ Some w) where
-    word_is : (ends_line high ≡ false) × (found ≡ w)
+    word_is : (ends_line high ≡ false) × (glyph_word ram f high s ≡ w)
     unfolding word_in
     word_is = by (ends_line high) h
       where
-        by : (t : Bool) → cond t None (Some found) ≡ Some w → (t ≡ false) × (found ≡ w)
+        by : (t : Bool) → cond t None (Some (glyph_word ram f high s)) ≡ Some w → (t ≡ false) × (glyph_word ram f high s ≡ w)
         by true e = absurd cc
         by false e = (refl, cc)
 
@@ -85,7 +90,7 @@ module _ (ram f : List ℕ) (high : ℕ) (s : Slice) where
   unfolding word_in
   none_end h = by (ends_line high) h
     where
-      by : (t : Bool) → cond t None (Some found) ≡ None → t ≡ true
+      by : (t : Bool) → cond t None (Some (glyph_word ram f high s)) ≡ None → t ≡ true
       by true e = refl
       by false e = absurd cc
 
@@ -95,11 +100,11 @@ module _ (ram f : List ℕ) (high : ℕ) (s : Slice) where
 low-twelve : (first second : ℕ) → first < 256 → in_order first second % 4096 ≡ twelve first second
 low-twelve first second h = omega arith
 
--- a word's low twelve bits are the glyph's
-pub word_low : (ram f : List ℕ) (high : ℕ) (s : Slice) → ((i : ℕ) → get_or ram i 0 < 256) → ((i : ℕ) → get_or f i 0 < 256)
-    → (w : Word) → word_in ram f high s ≡ Some w → w.bits % 4096 ≡ bits_of f (value ram (glyph_of high s))
+-- a word's low twelve bits are the glyph's, of every code
+pub glyph_low : (ram f : List ℕ) (high : ℕ) (s : Slice) → ((i : ℕ) → get_or ram i 0 < 256) → ((i : ℕ) → get_or f i 0 < 256)
+    → (glyph_word ram f high s).bits % 4096 ≡ bits_of f (value ram (glyph_of high s))
 unfolding glyph_of in_ram value of_bytes
-word_low ram f high s b d w h = ap (λ (n : ℕ). n % 4096) (word-bits ram f high s w h) ∙ by (eqb (high / 128 % 2) 0) (ltb (high % 128) 26)
+glyph_low ram f high s b d = by (eqb (high / 128 % 2) 0) (ltb (high % 128) 26)
   where
     of_ram : Bool → Reading Glyph
     of_ram u =
@@ -113,3 +118,8 @@ word_low ram f high s b d w h = ap (λ (n : ℕ). n % 4096) (word-bits ram f hig
     by true u = low-twelve _ _ (d (font_byte (high % 128) s.0))
     by false true = low-twelve _ _ (b (user_cell (high % 128) s.0))
     by false false = refl
+
+-- of a word that the lookup finds
+pub word_low : (ram f : List ℕ) (high : ℕ) (s : Slice) → ((i : ℕ) → get_or ram i 0 < 256) → ((i : ℕ) → get_or f i 0 < 256)
+    → (w : Word) → word_in ram f high s ≡ Some w → w.bits % 4096 ≡ bits_of f (value ram (glyph_of high s))
+word_low ram f high s b d w h = ap (λ (n : ℕ). n % 4096) (word-bits ram f high s w h) ∙ glyph_low ram f high s b d

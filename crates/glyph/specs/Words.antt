@@ -14,8 +14,10 @@ in_order first second = second * 256 + first
 abbrev pub word_of : (fnt : List ℕ) → Glyph → ℕ
 word_of = of_bytes in_order
 
--- a code's word in a slice, and how many cells that read; nothing at the end of line
+-- a code's word in a slice, and how many cells that read, of every code: at the end of line no bits and no cells, as of any blank
+abbrev pub glyph_word : (ram fnt : List ℕ) (high : ℕ) → Slice → Word
+glyph_word ram fnt high s = record { bits = word_of fnt (value ram (glyph_of high s)); cells = length (cells ram (glyph_of high s)) }
+
+-- what the lookup finds: nothing at the end of line
 unfoldable pub word_in : (ram fnt : List ℕ) (high : ℕ) → Slice → Option Word
-word_in ram fnt high s =
-    cond (ends_line high) None
-    (Some (record { bits = word_of fnt (value ram (glyph_of high s)); cells = length (cells ram (glyph_of high s)) }))
+word_in ram fnt high s = cond (ends_line high) None (Some (glyph_word ram fnt high s))

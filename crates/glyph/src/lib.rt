@@ -1,11 +1,11 @@
 #![tactic(auto, unfolding(crate::specs::Cells::user_slice))]
 // Character codes and glyphs: which two bytes a code shows in a slice.
-ghost use Rattle.std.specs.Prelude.{◌≡◌, ◌<◌, length};
+ghost use Rattle.std.specs.Prelude.{◌≡◌, ◌<◌, length, unwrap_or};
 ghost use Rattle.limits.specs.Limits.{ram_length};
 ghost use Rattle.glyph.specs.Glyph.{ends_line, slice_part, HasSlices};
 ghost use Rattle.raster.specs.Raster.{OnScreen};
 ghost use Rattle.raster.specs.Search.{InCharacter};
-ghost use Rattle.glyph.specs.Words.{word_in};
+ghost use Rattle.glyph.specs.Words.{glyph_word, word_in};
 ghost use Rattle.glyph.specs.Cells.{of_user, user_high, user_slice};
 
 use raster::Slice;
@@ -51,7 +51,7 @@ pub struct Word {
 
 // What a code's high byte shows in a slice; nothing at the end of line. With SET, numbers 26 to 126 are blank. Font codes come most often
 // and are tested first.
-#[tactic(auto, using(crate::proofs::Laws::word_font, crate::proofs::Laws::word_user, crate::proofs::Laws::word_blank, crate::proofs::Laws::word_end))]
+#[tactic(auto, using(crate::proofs::Laws::word_font, crate::proofs::Laws::word_user, crate::proofs::Laws::word_blank, crate::proofs::Laws::word_end, crate::proofs::Laws::glyph_font, crate::proofs::Laws::glyph_user, crate::proofs::Laws::glyph_blank))]
 pub fn lookup(
     ram: &[u8; limits::RAM_LENGTH],
     font: &[u8; limits::FONT_LENGTH],
@@ -59,7 +59,8 @@ pub fn lookup(
     slice: Slice,
 ) -> Option<Word>
     requires { OnScreen slice }
-    ensures { result ≡ word_in ram.now font.now high slice }
+    ensures word { result ≡ word_in ram.now font.now high slice }
+    ensures glyph { unwrap_or result (record { bits = 0; cells = 0 }) ≡ glyph_word ram.now font.now high slice }
 {
     if high < 128 {
         let part = slice_bytes(ram, font, high, slice);

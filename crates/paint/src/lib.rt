@@ -60,7 +60,7 @@ fn bits_kept(hidden: bool) -> u32
 }
 
 // What a row makes once and lends to its characters: a table used in place would be made again for each. What it is made for stands beside it.
-#[derive(Drop)]
+#[derive(Clone, Copy)]
 pub struct RowTable {
     // for an index of five bits, the column to the left and then the four: masks of foreground, and shadow, black where it falls
     pub masks: [u32; 32],
