@@ -9,7 +9,6 @@ ghost use Rattle.walk.specs.Walk.{OnLine};
 ghost use Rattle.paint.specs.Tables.{IsPlain};
 ghost use Rattle.line.specs.Promises.{CodeShown, RowDrawn, CharactersDrawn, StripDrawn, LineDrawn};
 
-use glyph::Word;
 use paint::{Drawn, RowTable};
 use raster::Slice;
 use registers::{Registers, Settings};
@@ -60,21 +59,15 @@ impl<'a> Row<'a> {
         ensures { CodeShown self.now.ram.now self.now.font.now at self.now.pen before result }
     {
         let low = self.ram[at];
-        // taken apart here, so that nobody moves the word as one number
-        let Some(Word { bits, cells }) = glyph::lookup(
-            self.ram,
-            self.font,
-            self.ram[at + 1],
-            self.pen.slice,
-        ) else {
+        let Some(word) = glyph::lookup(self.ram, self.font, self.ram[at + 1], self.pen.slice) else {
             return Coded {
                 cells: 2,
                 drawn: None,
             };
         };
         Coded {
-            cells: 2 + cells,
-            drawn: Some(table.character(low, before, u32::from(bits))),
+            cells: 2 + word.cells,
+            drawn: Some(table.character(low, before, u32::from(word.bits))),
         }
     }
 

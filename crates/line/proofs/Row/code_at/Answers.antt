@@ -11,11 +11,11 @@ returns-in_default c =
 pub overflow_add-result : goal.overflow_add-result
 overflow_add-result c =
     let s = c.args.self.now in
-    word_fits s.ram.now s.font.now c.args.at s.pen c.in-Some.field-0 (sym c.lookup.ensures.word ∙ c.in-Some.is)
+    word_fits s.ram.now s.font.now c.args.at s.pen c.in-Some.word (sym c.lookup.ensures.word ∙ c.in-Some.is)
 
 pub returns : goal.returns
 returns c =
     let s = c.args.self.now in
     let made = c.requires.made in
-    code_shown s.ram.now s.font.now c.args.at s.pen c.in-Some.field-0 (sym c.lookup.ensures.word ∙ c.in-Some.is) s.bytes.0 s.bytes.1 _ _
+    code_shown s.ram.now s.font.now c.args.at s.pen c.in-Some.word (sym c.lookup.ensures.word ∙ c.in-Some.is) s.bytes.0 s.bytes.1 _ _
     (rw (made.0, made.1, c.from.ensures) at c.character.ensures)
