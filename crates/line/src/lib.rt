@@ -77,19 +77,23 @@ impl<'a> Row<'a> {
         ensures { RowDrawn self.now.ram.now self.now.font.now self.now.address self.now.pen first w out.old result out.new }
     {
         let table = RowTable::new(self.pen.plain, self.pen.hidden);
+        // small processors divide by a constant in 16 bits and multiply in 32; wider numbers call the run-time library
+        let room = (w - first) as u16;
+        // characters before this one are whole; at most one, this one, is cut
+        let whole = u32::from(room / 12);
         let mut a = walk::even_address(self.address as usize);
         let mut cells: u32 = 0;
         // what the character to the left shows; nothing for the first
         let mut before: u32 = 0;
-        for x in (first..w).step_by(12) {
+        for i in 0..u32::from((room + 11) / 12) {
+            let x = first + (12 * i) as usize;
             let code = self.code_at(&table, a, before);
             cells += code.cells;
             let Some(drawn) = code.drawn else {
                 buffers::fill(&mut out[x..w], self.pen.plain);
                 return cells;
             };
-            // only the last one can be cut
-            if w - x < 12 {
+            if i == whole {
                 paint::put_cut(&mut out[x..w], drawn.columns);
                 return cells;
             }
