@@ -15,7 +15,6 @@ ghost use Rattle.capture.specs.Capture.{would_complete};
 
 use capture::{Feed, FeedRefusal};
 use device::Device;
-use refusals::Numbered;
 use std::io;
 use std::io::Write;
 use test_script::Numbers;
@@ -165,8 +164,8 @@ impl Host {
         let lent = usize::from(test_script::length(1024, self.lent));
         let ram = test_script::first_mut(&mut self.ram, lent);
         let answer = self.feed.take(&mut self.device, ram, chunk, out);
-        let (_, n) = numbers(answer);
-        self.written = test_script::mix_all(self.written, test_script::first(out, n), DIGEST);
+        let written = test_script::first(out, capture::value_of(answer));
+        self.written = test_script::mix_all(self.written, written, DIGEST);
         answer
     }
 
@@ -186,14 +185,6 @@ impl Host {
     }
 }
 
-// The refusal's number, and how many bytes of output were written.
-fn numbers(answer: Result<usize, FeedRefusal>) -> (u8, usize) {
-    match answer {
-        Ok(written) => (0, written),
-        Err(refused) => (refused.refusal.number(), refused.written),
-    }
-}
-
 // Two bytes for each event that the chunk would complete.
 fn room_for(feed: Feed, chunk: &[u8]) -> usize
     ensures { result ≡ 2 * would_complete feed (length chunk.now) }
@@ -206,7 +197,9 @@ fn room_for(feed: Feed, chunk: &[u8]) -> usize
 fn take_chunk<W: Write>(out: &mut W, host: &mut Host, chunk: &[u8], room: u8) -> io::Result<()> {
     let mut space = [MARKER; 255];
     let written = test_script::first_mut(&mut space, usize::from(room));
-    let (refusal, value) = numbers(host.take(chunk, written));
+    let answer = host.take(chunk, written);
+    let refusal = capture::refusal_of(answer);
+    let value = capture::value_of(answer);
     let bytes = chunk.len();
     write!(
         out,
@@ -240,7 +233,9 @@ fn take_capture<W: Write>(out: &mut W, capture: &[u8]) -> io::Result<()> {
 
 fn feed_whole<W: Write>(out: &mut W, capture: &[u8]) -> io::Result<Left> {
     let mut host = Host::fresh();
-    let (refusal, value) = numbers(host.take_exactly(capture));
+    let answer = host.take_exactly(capture);
+    let refusal = capture::refusal_of(answer);
+    let value = capture::value_of(answer);
     let left = host.left();
     let bytes = capture.len();
     write!(out, "capture {bytes}: refusal {refusal} value {value}")?;
@@ -282,7 +277,8 @@ fn show_cut<W: Write>(out: &mut W, place: usize, cut: Cut) -> io::Result<()> {
     write!(out, "cut {place}")?;
     let mut before = ": ";
     for answer in cut.answers {
-        let (refusal, value) = numbers(answer);
+        let refusal = capture::refusal_of(answer);
+        let value = capture::value_of(answer);
         write!(out, "{before}{refusal} {value}")?;
         before = ", ";
     }
