@@ -198,20 +198,15 @@ fn take_chunk<W: Write>(out: &mut W, host: &mut Host, chunk: &[u8], room: u8) ->
     let mut space = [MARKER; 255];
     let written = test_script::first_mut(&mut space, usize::from(room));
     let answer = host.take(chunk, written);
-    let refusal = capture::refusal_of(answer);
-    let value = capture::value_of(answer);
-    let bytes = chunk.len();
-    write!(
-        out,
-        "chunk {bytes} room {room}: refusal {refusal} value {value}"
-    )?;
+    say(out, b"chunk ", chunk.len())?;
+    say(out, b" room ", usize::from(room))?;
+    show_answer(out, answer)?;
     show_feed(out, host.feed)?;
-    write!(out, " out ")?;
+    out.write_all(b" out ")?;
     for byte in written.iter() {
-        let byte = *byte;
-        write!(out, "{byte:02X}")?;
+        show_byte(out, *byte)?;
     }
-    writeln!(out)
+    out.write_all(b"\n")
 }
 
 // ---- a capture
@@ -228,17 +223,17 @@ fn take_capture<W: Write>(out: &mut W, capture: &[u8]) -> io::Result<()> {
         }
         same += usize::from(cut.left == whole);
     }
-    writeln!(out, "cuts {cuts}: {same} as the whole")
+    say(out, b"cuts ", cuts)?;
+    say(out, b": ", same)?;
+    out.write_all(b" as the whole\n")
 }
 
 fn feed_whole<W: Write>(out: &mut W, capture: &[u8]) -> io::Result<Left> {
     let mut host = Host::fresh();
     let answer = host.take_exactly(capture);
-    let refusal = capture::refusal_of(answer);
-    let value = capture::value_of(answer);
     let left = host.left();
-    let bytes = capture.len();
-    write!(out, "capture {bytes}: refusal {refusal} value {value}")?;
+    say(out, b"capture ", capture.len())?;
+    show_answer(out, answer)?;
     show_left(out, left)?;
     Ok(left)
 }
@@ -257,30 +252,49 @@ fn feed_cut(capture: &[u8], place: usize) -> Cut {
 
 // ---- what is printed
 
+fn say<W: Write>(out: &mut W, words: &[u8], number: usize) -> io::Result<()> {
+    out.write_all(words)?;
+    streams::write_decimal(out, number as u64)
+}
+
+fn show_answer<W: Write>(out: &mut W, answer: Result<usize, FeedRefusal>) -> io::Result<()> {
+    say(out, b": refusal ", usize::from(capture::refusal_of(answer)))?;
+    say(out, b" value ", capture::value_of(answer))
+}
+
 fn show_feed<W: Write>(out: &mut W, feed: Feed) -> io::Result<()> {
     let state = match feed {
         Feed::Open => 0,
         Feed::Half(_) => 1,
         Feed::Shut => 2,
     };
-    let held = feed.held_kind();
-    write!(out, " feed {state} {held:02X}")
+    say(out, b" feed ", state)?;
+    out.write_all(b" ")?;
+    show_byte(out, feed.held_kind())
 }
 
 fn show_left<W: Write>(out: &mut W, left: Left) -> io::Result<()> {
     let Left { feed, written, ram } = left;
     show_feed(out, feed)?;
-    writeln!(out, " out {written:08X} ram {ram:08X}")
+    out.write_all(b" out ")?;
+    test_script::print_hex(out, written, 8, b' ')?;
+    out.write_all(b"ram ")?;
+    test_script::print_hex(out, ram, 8, b'\n')
 }
 
 fn show_cut<W: Write>(out: &mut W, place: usize, cut: Cut) -> io::Result<()> {
-    write!(out, "cut {place}")?;
-    let mut before = ": ";
+    say(out, b"cut ", place)?;
+    let mut before = b": ";
     for answer in cut.answers {
-        let refusal = capture::refusal_of(answer);
-        let value = capture::value_of(answer);
-        write!(out, "{before}{refusal} {value}")?;
-        before = ", ";
+        say(out, before, usize::from(capture::refusal_of(answer)))?;
+        say(out, b" ", capture::value_of(answer))?;
+        before = b", ";
     }
-    writeln!(out)
+    out.write_all(b"\n")
+}
+
+fn show_byte<W: Write>(out: &mut W, byte: u8) -> io::Result<()> {
+    let mut text = [0u8; 2];
+    test_script::hex_digits(u64::from(byte), &mut text);
+    out.write_all(&text)
 }
