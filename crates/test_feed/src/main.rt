@@ -151,9 +151,11 @@ fn behind(bytes: &[u8], n: usize) -> &[u8]
 
 impl Host {
     fn fresh() -> Host {
+        let mut ram = [0; 1025];
+        ram[..1024].copy_from_slice(&bus::fresh_ram());
         Host {
             device: Device::fresh(),
-            ram: [0; 1025],
+            ram,
             lent: 0,
             feed: Feed::fresh(),
             written: 0,
