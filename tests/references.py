@@ -66,7 +66,7 @@ def references(line):
             yield '%s/%s: %s' % (crate, folder, name), is_defined(crate, folder, name)
     for crate, kind, name in re.findall(r'`([a-z_]+)::(?:([A-Z]\w*)::)?(\w+)`', line):
         yield '%s::%s' % (crate, name), is_code(crate, kind, name)
-    for crate, name in re.findall(r'`([a-z_]+)/([a-z_0-9]+)`', line):
+    for crate, name in re.findall(r'`([a-z_]+)/([a-z_0-9-]+)`', line):
         if CRATES.joinpath(crate).is_dir():
             yield '%s/%s' % (crate, name), CRATES.joinpath(crate, 'must-fail', name + '.edit').is_file()
     for names in re.findall(r'test_frames: ((?:`[^`]+`(?:, )?)+)', line):
@@ -82,16 +82,22 @@ def references(line):
 
 
 def public():
-    """Each public function as crate, type or '', and name."""
+    """Each public function as crate, type, trait or '', and name; a public trait's, and std's of a public type, too."""
+    ours = re.findall(r'^(?:pub(?:\(crate\))? )?trait (\w+)', text(CRATES.glob('*/src/**/*.rt')), re.M)
     for path in sorted(CRATES.glob('*/src/**/*.rt')):
-        kind = ''
+        crate, kind, marked = path.parts[1], '', True
         for line in path.read_text().split('\n'):
-            if found := re.match(r'impl(?:<[^>]*>)? (\w+)', line):
+            if found := re.match(r'pub trait (\w+)', line):
+                kind, marked = found.group(1), False
+            elif found := re.match(r'impl(?:<[^>]*>)? (\w+)(?:<.*>)? for (\w+)', line):
+                kind = found.group(2)
+                marked = found.group(1) in ours or not re.search(r'^pub (?:struct|enum) %s\b' % kind, code(crate), re.M)
+            elif found := re.match(r'impl(?:<[^>]*>)? (\w+)', line):
                 kind = found.group(1)
             elif line.startswith('}'):
-                kind = ''
-            elif found := re.match(r'\s*pub\b(?!\().*\bfn (\w+)', line):
-                yield path.parts[1], kind, found.group(1)
+                kind, marked = '', True
+            elif found := re.match(r'\s*%s\bfn (\w+)' % (r'pub\b(?!\().*' if marked else r'(?:\w+ )*'), line):
+                yield crate, kind, found.group(1)
 
 
 def promised(lines, functions):

@@ -174,3 +174,23 @@ pub fn feed_at(chunk: &[u8], held: u8, i: usize) -> Feed
     }
     Feed::Half(kind_at(chunk, held, i))
 }
+
+// The refusal's number in a feed's answer; 0 where the chunk is taken to its end.
+pub fn refusal_of(answer: Result<usize, FeedRefusal>) -> u8
+    ensures { result ≡ (feed_reply answer).refusal }
+{
+    match answer {
+        Ok(_) => 0,
+        Err(refused) => refused.refusal.number(),
+    }
+}
+
+// The number of output bytes written.
+pub fn value_of(answer: Result<usize, FeedRefusal>) -> usize
+    ensures { result ≡ (feed_reply answer).value }
+{
+    match answer {
+        Ok(n) => n,
+        Err(refused) => refused.written,
+    }
+}

@@ -52,11 +52,9 @@ fn run<W: Write>(out: &mut W, input: &[u8]) -> io::Result<()>
     let mut device = Device::fresh();
     let mut ram = bus::fresh_ram();
     if let Err(bad) = play(&mut device, &mut ram, traffic) {
-        let event = bad.event;
-        return write!(
-            out,
-            "demo: event {event} of the traffic has no kind 0 to 3\n"
-        );
+        out.write_all(b"demo: event ")?;
+        streams::write_decimal(out, bad.event as u64)?;
+        return out.write_all(b" of the traffic has no kind 0 to 3\n");
     }
     let _ = device.start_frame(LINES as u32);
     show(out, &mut device, &ram, font)
@@ -88,7 +86,9 @@ fn end_of(answer: Result<usize, FeedRefusal>) -> Result<(), BadKind>
 // The heading of the PPM, then every line.
 fn show<W: Write>(out: &mut W, device: &mut Device, ram: &[u8], font: &[u8]) -> io::Result<()> {
     let width = usize::from(device.width());
-    write!(out, "P6\n{width} {LINES}\n255\n")?;
+    out.write_all(b"P6\n")?;
+    streams::write_decimal(out, width as u64)?;
+    out.write_all(b" 216\n255\n")?;
     let mut line = [0u8; 3 * limits::LINE_MAX];
     for y in 0..LINES {
         picture_line(device, ram, font, y, &mut line);

@@ -6,17 +6,13 @@ use mathlib.Core.List.{List, [], ◌++◌}
 use native.Mathlib.Nat.{zero-add}
 use native.Mathlib.Omega.{arith}
 use lib.Dec.{ltb}
-use borrow.Author.Tests.{eq-eqb, lt-ltb, le-ltb}
+use borrow.Author.Tests.{eq-eqb, ne_eqb, lt-ltb, le-ltb}
 use lib.ListN.{length, length-append, length-map}
 use lib.Seq.{sets, sets-eq}
 use Rattle.std.specs.Prelude.{Some, None}
 use Rattle.facts.proofs.Choice.{either}
 use Rattle.facts.proofs.Parts.{sets-append}
 use Rattle.buffers.specs.Buffers.{bytes_of}
-use Rattle.refusals.specs.declared.Refusal.{Refusal}
-use Rattle.refusals.specs.Refusals.{refused}
-use Rattle.refusals.proofs.Laws.{not-zero}
-use Rattle.device.specs.declared.Device.{Device}
 use Rattle.device.specs.Device.{DrawOutcome}
 use Rattle.report.specs.Report.{places_of, digits, decimal, Put, refusal_text, heading_text, line_text, TextOutcome, write_text, text_outcome, LineOutcome, line_outcome, text_of}
 
@@ -71,9 +67,9 @@ too_short text out h = rw (lt-ltb (length out) (length text) h)
 
 -- ---- the text of a draw
 
-pub text-refused : (d : Device) (line out : List ℕ) (r : Refusal) → line_outcome d None out ≡ text_of (record { device = d; line = line; reply = refused r }) out
+pub text-refused : (o : DrawOutcome) (out : List ℕ) → (o.reply.refusal ≡ 0 → ⊥) → line_outcome o.device None out ≡ text_of o out
 unfolding text_of
-text-refused d line out r = rw (not-zero r)
+text-refused o out h = rw (ne_eqb o.reply.refusal 0 h)
 
 pub text-drawn : (o : DrawOutcome) (out : List ℕ) (t : TextOutcome) → o.reply.refusal ≡ 0
     → t ≡ write_text (line_text o.line o.reply.value) out

@@ -64,7 +64,7 @@ fn show<W: Write>(out: &mut W, device: &mut Device, ram: &[u8], font: &[u8]) -> 
         }
         sum = test_script::mix_all(sum, line, DIGEST);
     }
-    writeln!(out, "{sum}")
+    test_script::print_decimal(out, sum, b'\n')
 }
 
 // The text in a buffer; nothing where there is none.

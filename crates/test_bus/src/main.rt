@@ -55,13 +55,21 @@ fn run<W: Write>(out: &mut W, script: &[u8], ram: &mut [u8]) -> io::Result<()> {
 
 // The event, the refusal's number in decimal and the byte.
 fn show<W: Write>(out: &mut W, event: Event, answer: Result<u8, Refusal>) -> io::Result<()> {
+    show_event(out, event)?;
+    out.write_all(b": ")?;
+    test_script::print_decimal(out, u64::from(refusals::refusal_of(answer)), b' ')?;
+    test_script::print_hex(out, u64::from(refusals::value_of(answer)), 2, b'\n')
+}
+
+fn show_event<W: Write>(out: &mut W, event: Event) -> io::Result<()> {
     match event {
-        Event::Start => write!(out, "start")?,
-        Event::Byte(byte) => write!(out, "byte {byte:02X}")?,
-        Event::Fetch => write!(out, "fetch")?,
-        Event::Stop => write!(out, "stop")?,
+        Event::Start => out.write_all(b"start"),
+        Event::Byte(byte) => {
+            let mut text = *b"byte 00";
+            test_script::hex_digits(u64::from(byte), &mut text[5..]);
+            out.write_all(&text)
+        }
+        Event::Fetch => out.write_all(b"fetch"),
+        Event::Stop => out.write_all(b"stop"),
     }
-    let refusal = refusals::refusal_of(answer);
-    let byte = refusals::value_of(answer);
-    writeln!(out, ": {refusal} {byte:02X}")
 }

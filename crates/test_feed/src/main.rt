@@ -15,7 +15,6 @@ ghost use Rattle.capture.specs.Capture.{would_complete};
 
 use capture::{Feed, FeedRefusal};
 use device::Device;
-use refusals::Numbered;
 use std::io;
 use std::io::Write;
 use test_script::Numbers;
@@ -152,9 +151,11 @@ fn behind(bytes: &[u8], n: usize) -> &[u8]
 
 impl Host {
     fn fresh() -> Host {
+        let mut ram = [0; 1025];
+        ram[..1024].copy_from_slice(&bus::fresh_ram());
         Host {
             device: Device::fresh(),
-            ram: [0; 1025],
+            ram,
             lent: 0,
             feed: Feed::fresh(),
             written: 0,
@@ -165,8 +166,8 @@ impl Host {
         let lent = usize::from(test_script::length(1024, self.lent));
         let ram = test_script::first_mut(&mut self.ram, lent);
         let answer = self.feed.take(&mut self.device, ram, chunk, out);
-        let (_, n) = numbers(answer);
-        self.written = test_script::mix_all(self.written, test_script::first(out, n), DIGEST);
+        let written = test_script::first(out, capture::value_of(answer));
+        self.written = test_script::mix_all(self.written, written, DIGEST);
         answer
     }
 
@@ -186,14 +187,6 @@ impl Host {
     }
 }
 
-// The refusal's number, and how many bytes of output were written.
-fn numbers(answer: Result<usize, FeedRefusal>) -> (u8, usize) {
-    match answer {
-        Ok(written) => (0, written),
-        Err(refused) => (refused.refusal.number(), refused.written),
-    }
-}
-
 // Two bytes for each event that the chunk would complete.
 fn room_for(feed: Feed, chunk: &[u8]) -> usize
     ensures { result ≡ 2 * would_complete feed (length chunk.now) }
@@ -206,19 +199,16 @@ fn room_for(feed: Feed, chunk: &[u8]) -> usize
 fn take_chunk<W: Write>(out: &mut W, host: &mut Host, chunk: &[u8], room: u8) -> io::Result<()> {
     let mut space = [MARKER; 255];
     let written = test_script::first_mut(&mut space, usize::from(room));
-    let (refusal, value) = numbers(host.take(chunk, written));
-    let bytes = chunk.len();
-    write!(
-        out,
-        "chunk {bytes} room {room}: refusal {refusal} value {value}"
-    )?;
+    let answer = host.take(chunk, written);
+    say(out, b"chunk ", chunk.len())?;
+    say(out, b" room ", usize::from(room))?;
+    show_answer(out, answer)?;
     show_feed(out, host.feed)?;
-    write!(out, " out ")?;
+    out.write_all(b" out ")?;
     for byte in written.iter() {
-        let byte = *byte;
-        write!(out, "{byte:02X}")?;
+        show_byte(out, *byte)?;
     }
-    writeln!(out)
+    out.write_all(b"\n")
 }
 
 // ---- a capture
@@ -235,15 +225,17 @@ fn take_capture<W: Write>(out: &mut W, capture: &[u8]) -> io::Result<()> {
         }
         same += usize::from(cut.left == whole);
     }
-    writeln!(out, "cuts {cuts}: {same} as the whole")
+    say(out, b"cuts ", cuts)?;
+    say(out, b": ", same)?;
+    out.write_all(b" as the whole\n")
 }
 
 fn feed_whole<W: Write>(out: &mut W, capture: &[u8]) -> io::Result<Left> {
     let mut host = Host::fresh();
-    let (refusal, value) = numbers(host.take_exactly(capture));
+    let answer = host.take_exactly(capture);
     let left = host.left();
-    let bytes = capture.len();
-    write!(out, "capture {bytes}: refusal {refusal} value {value}")?;
+    say(out, b"capture ", capture.len())?;
+    show_answer(out, answer)?;
     show_left(out, left)?;
     Ok(left)
 }
@@ -262,29 +254,49 @@ fn feed_cut(capture: &[u8], place: usize) -> Cut {
 
 // ---- what is printed
 
+fn say<W: Write>(out: &mut W, words: &[u8], number: usize) -> io::Result<()> {
+    out.write_all(words)?;
+    streams::write_decimal(out, number as u64)
+}
+
+fn show_answer<W: Write>(out: &mut W, answer: Result<usize, FeedRefusal>) -> io::Result<()> {
+    say(out, b": refusal ", usize::from(capture::refusal_of(answer)))?;
+    say(out, b" value ", capture::value_of(answer))
+}
+
 fn show_feed<W: Write>(out: &mut W, feed: Feed) -> io::Result<()> {
     let state = match feed {
         Feed::Open => 0,
         Feed::Half(_) => 1,
         Feed::Shut => 2,
     };
-    let held = feed.held_kind();
-    write!(out, " feed {state} {held:02X}")
+    say(out, b" feed ", state)?;
+    out.write_all(b" ")?;
+    show_byte(out, feed.held_kind())
 }
 
 fn show_left<W: Write>(out: &mut W, left: Left) -> io::Result<()> {
     let Left { feed, written, ram } = left;
     show_feed(out, feed)?;
-    writeln!(out, " out {written:08X} ram {ram:08X}")
+    out.write_all(b" out ")?;
+    test_script::print_hex(out, written, 8, b' ')?;
+    out.write_all(b"ram ")?;
+    test_script::print_hex(out, ram, 8, b'\n')
 }
 
 fn show_cut<W: Write>(out: &mut W, place: usize, cut: Cut) -> io::Result<()> {
-    write!(out, "cut {place}")?;
-    let mut before = ": ";
+    say(out, b"cut ", place)?;
+    let mut before = b": ";
     for answer in cut.answers {
-        let (refusal, value) = numbers(answer);
-        write!(out, "{before}{refusal} {value}")?;
-        before = ", ";
+        say(out, before, usize::from(capture::refusal_of(answer)))?;
+        say(out, b" ", capture::value_of(answer))?;
+        before = b", ";
     }
-    writeln!(out)
+    out.write_all(b"\n")
+}
+
+fn show_byte<W: Write>(out: &mut W, byte: u8) -> io::Result<()> {
+    let mut text = [0u8; 2];
+    test_script::hex_digits(u64::from(byte), &mut text);
+    out.write_all(&text)
 }

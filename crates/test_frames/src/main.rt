@@ -22,6 +22,7 @@
 // (tests/test_frames.py has the script).
 use bus::Event;
 use device::Device;
+use refusals::Refusal;
 use std::io;
 use std::io::Write;
 use test_script::{Call, Numbers};
@@ -172,8 +173,7 @@ impl Player {
                 }
             }
             Action::TellSum => {
-                let sum = self.sum;
-                writeln!(out, "{sum:08x}")?;
+                show_digest(out, self.sum)?;
                 self.sum = 0;
             }
             Action::Print(text) => out.write_all(&text)?,
@@ -185,12 +185,16 @@ impl Player {
 
     fn call<W: Write>(&mut self, out: &mut W, call: Call) -> io::Result<()> {
         let answer = test_script::make(&mut self.device, &mut self.ram, call);
-        let refusal = refusals::refusal_of(answer);
-        let value = refusals::value_of(answer);
         match (call, answer) {
             (_, Ok(0)) => Ok(()),
-            (Call::Start(_), _) => writeln!(out, "start {refusal}"),
-            _ => writeln!(out, "event {refusal} {value}"),
+            (Call::Start(_), _) => {
+                out.write_all(b"start ")?;
+                test_script::print_decimal(out, u64::from(refusals::refusal_of(answer)), b'\n')
+            }
+            _ => {
+                out.write_all(b"event ")?;
+                show_answer(out, answer, b' ', b'\n')
+            }
         }
     }
 
@@ -205,16 +209,14 @@ impl Player {
 
     // The answers about some cells, in a line.
     fn ask<W: Write>(&mut self, out: &mut W, from: u16, count: u8) -> io::Result<()> {
+        if count > 0 {
+            out.write_all(b"ask ")?;
+        }
         for i in 0..count {
             let cell = u32::from(from) + u32::from(i);
             let answer = test_script::make(&mut self.device, &mut self.ram, Call::Ask(cell));
-            let before = if i == 0 { "ask " } else { " " };
-            let refusal = refusals::refusal_of(answer);
-            let value = refusals::value_of(answer);
-            write!(out, "{before}{refusal}:{value}")?;
-        }
-        if count > 0 {
-            writeln!(out)?;
+            let behind = if i + 1 < count { b' ' } else { b'\n' };
+            show_answer(out, answer, b':', behind)?;
         }
         Ok(())
     }
@@ -225,27 +227,42 @@ impl Player {
         let ram = lent_ram(&self.ram, &self.font, usize::from(self.lent.ram));
         let font = test_script::first(&self.font, usize::from(self.lent.font));
         let answer = self.device.draw_line(ram, font, line);
-        let refusal = refusals::refusal_of(answer);
-        let cells = refusals::value_of(answer);
         match way {
             Way::Line => {
                 spell(line);
-                write!(out, "{refusal} {cells} ")?;
+                show_answer(out, answer, b' ', b' ')?;
                 out.write_all(line)?;
-                writeln!(out)
+                out.write_all(b"\n")
             }
             Way::Digest => {
-                let digest = test_script::mix_all(0, line, DIGEST);
-                writeln!(out, "{refusal} {cells} {digest:08x}")
+                show_answer(out, answer, b' ', b' ')?;
+                show_digest(out, test_script::mix_all(0, line, DIGEST))
             }
             Way::InSum => {
-                let head = test_script::mix(self.sum, u16::from(refusal), DIGEST);
-                let head = test_script::mix(head, cells, DIGEST);
+                let refusal = u16::from(refusals::refusal_of(answer));
+                let head = test_script::mix(self.sum, refusal, DIGEST);
+                let head = test_script::mix(head, refusals::value_of(answer), DIGEST);
                 self.sum = test_script::mix_all(head, line, DIGEST);
                 Ok(())
             }
         }
     }
+}
+
+// The two numbers of an answer, and a byte behind each.
+fn show_answer<W: Write>(
+    out: &mut W,
+    answer: Result<u16, Refusal>,
+    between: u8,
+    behind: u8,
+) -> io::Result<()> {
+    test_script::print_decimal(out, u64::from(refusals::refusal_of(answer)), between)?;
+    test_script::print_decimal(out, u64::from(refusals::value_of(answer)), behind)
+}
+
+fn show_digest<W: Write>(out: &mut W, sum: u64) -> io::Result<()> {
+    streams::write_hexadecimal(out, sum)?;
+    out.write_all(b"\n")
 }
 
 // RAM of a length: another one than its own is refused, so the font's bytes serve.

@@ -254,15 +254,11 @@ impl Player {
 
     // The answers about cells 0 to 1,023: four lines of 64 digits, each digit four cells.
     fn tell_cells<W: Write>(&self, out: &mut W) -> io::Result<()> {
-        for line in 0..4 {
-            let mut text = [0u8; 64];
-            for (i, digit) in text.iter_mut().enumerate() {
-                *digit = buffers::hex_digit(self.four(256 * line + 4 * i as u32));
-            }
-            out.write_all(&text)?;
-            writeln!(out)?;
+        let mut text = [b'\n'; 260];
+        for i in 0..256 {
+            text[i + i / 64] = buffers::hex_digit(self.four(4 * i as u32));
         }
-        Ok(())
+        out.write_all(&text)
     }
 
     fn four(&self, cell: u32) -> u8 {

@@ -153,19 +153,20 @@ fn show_line<W: Write>(out: &mut W, asked: &mut [u8]) -> io::Result<()> {
         *pixel = buffers::hex_digit(*pixel);
     }
     out.write_all(asked)?;
-    writeln!(out)
+    out.write_all(b"\n")
 }
 
 fn tell<W: Write>(out: &mut W, lines: u32, width: usize, sums: Sums) -> io::Result<()> {
-    let Sums {
-        drawn,
-        asked,
-        differ,
-    } = sums;
-    writeln!(
-        out,
-        "lines {lines} width {width} drawn {drawn:08x} asked {asked:08x} differ {differ}"
-    )
+    out.write_all(b"lines ")?;
+    test_script::print_decimal(out, u64::from(lines), b' ')?;
+    out.write_all(b"width ")?;
+    test_script::print_decimal(out, width as u64, b' ')?;
+    out.write_all(b"drawn ")?;
+    streams::write_hexadecimal(out, sums.drawn)?;
+    out.write_all(b" asked ")?;
+    streams::write_hexadecimal(out, sums.asked)?;
+    out.write_all(b" differ ")?;
+    test_script::print_decimal(out, sums.differ, b'\n')
 }
 
 // ---- questions, refused ones too
@@ -196,9 +197,8 @@ fn ask<W: Write>(
         number_at(question, 10),
         number_at(question, 14),
     );
-    let refusal = refusals::refusal_of(answer);
-    let value = refusals::value_of(answer);
-    writeln!(out, "{refusal} {value}")
+    test_script::print_decimal(out, u64::from(refusals::refusal_of(answer)), b' ')?;
+    test_script::print_decimal(out, u64::from(refusals::value_of(answer)), b'\n')
 }
 
 // Four bytes, the low one first.
