@@ -224,7 +224,8 @@ fn copy_cut(out: &mut [u8], whole: &[u8; 12])
     }
 }
 
-// The columns that there is room for.
+// The columns that there is room for. At most one character of a line is cut: apart from a row's loop, this takes none of its registers.
+#[inline(never)]
 pub fn put_cut(out: &mut [u8], columns: Fours)
     requires { length out.old ≤ 12 }
     ensures { out.new ≡ take (length out.old) (column_pixels columns) }
