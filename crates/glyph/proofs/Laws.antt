@@ -5,7 +5,7 @@ use mathlib.Core.Path.{◌≡◌, refl, sym, ap, ◌∙◌}
 use mathlib.Core.Bool.{Bool, true, false, cond}
 use native.Mathlib.Nat.{add-zero}
 use native.Mathlib.Omega.{arith}
-use borrow.Author.Tests.{eq-eqb, ne_eqb, lt-ltb, le-ltb}
+use borrow.Author.Tests.{eq-eqb, ne_eqb, lt-ltb, le-ltb, eqb-true}
 use mathlib.Core.List.{List, [], ◌∷◌}
 use lib.Dec.{ltb, eqb}
 use lib.ListN.{length, get_or, take, drop, length-take, length-drop}
@@ -62,6 +62,15 @@ module _ (ram f : List ℕ) (high : ℕ) (s : Slice) where
   pub word_blank : 154 ≤ high → high < 256 → ends_line high ≡ false → Some (record { bits = 0; cells = 0 }) ≡ word_in ram f high s
   unfolding word_in
   word_blank l h e = rw e (ap Some (glyph_blank l h))
+
+  -- any word, but at the end of line
+  pub word_found : ends_line high ≡ false → Some (glyph_word ram f high s) ≡ word_in ram f high s
+  unfolding word_in
+  word_found e = rw e
+
+  -- the end of line has no bits and no cells
+  pub glyph_end : ends_line high ≡ true → record { bits = 0; cells = 0 } ≡ glyph_word ram f high s
+  glyph_end e = glyph_blank (omega (arith, eqb-true high 255 e)) (omega (arith, eqb-true high 255 e))
 
   -- the end of line
   pub word_end : ends_line high ≡ true → None ≡ word_in ram f high s

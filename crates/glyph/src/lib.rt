@@ -49,9 +49,37 @@ pub struct Word {
     pub cells: u32,
 }
 
-// What a code's high byte shows in a slice; nothing at the end of line. With SET, numbers 26 to 126 are blank. Font codes come most often
-// and are tested first.
-#[tactic(auto, using(crate::proofs::Laws::word_font, crate::proofs::Laws::word_user, crate::proofs::Laws::word_blank, crate::proofs::Laws::word_end, crate::proofs::Laws::glyph_font, crate::proofs::Laws::glyph_user, crate::proofs::Laws::glyph_blank))]
+// What a code's high byte shows in a slice; no bits and no cells at the end of line. With SET, numbers 26 to 126 are blank. Font codes come most
+// often and are tested first. The word is made before it is known whether there is one: made inside the Option, it would be moved as one number.
+#[tactic(auto, using(crate::proofs::Laws::glyph_font, crate::proofs::Laws::glyph_user, crate::proofs::Laws::glyph_blank))]
+fn glyph_word(
+    ram: &[u8; limits::RAM_LENGTH],
+    font: &[u8; limits::FONT_LENGTH],
+    high: u8,
+    slice: Slice,
+) -> Word
+    requires { OnScreen slice }
+    ensures { result ≡ glyph_word ram.now font.now high slice }
+{
+    if high < 128 {
+        let part = slice_bytes(ram, font, high, slice);
+        return Word {
+            bits: u16::from_le_bytes([part[0], part[1]]),
+            cells: 0,
+        };
+    }
+    if high < BLANK_FROM {
+        let part = slice_bytes(ram, font, high, slice);
+        return Word {
+            bits: u16::from_le_bytes([part[0], part[1]]),
+            cells: 2,
+        };
+    }
+    Word { bits: 0, cells: 0 }
+}
+
+// The same; nothing at the end of line.
+#[tactic(auto, using(crate::proofs::Laws::word_end, crate::proofs::Laws::word_found, crate::proofs::Laws::glyph_end))]
 pub fn lookup(
     ram: &[u8; limits::RAM_LENGTH],
     font: &[u8; limits::FONT_LENGTH],
@@ -62,24 +90,11 @@ pub fn lookup(
     ensures word { result ≡ word_in ram.now font.now high slice }
     ensures glyph { unwrap_or result (record { bits = 0; cells = 0 }) ≡ glyph_word ram.now font.now high slice }
 {
-    if high < 128 {
-        let part = slice_bytes(ram, font, high, slice);
-        return Some(Word {
-            bits: u16::from_le_bytes([part[0], part[1]]),
-            cells: 0,
-        });
-    }
-    if high < BLANK_FROM {
-        let part = slice_bytes(ram, font, high, slice);
-        return Some(Word {
-            bits: u16::from_le_bytes([part[0], part[1]]),
-            cells: 2,
-        });
-    }
+    let word = glyph_word(ram, font, high, slice);
     if ends_line(high) {
         return None;
     }
-    Some(Word { bits: 0, cells: 0 })
+    Some(word)
 }
 
 // Is a cell one of a user character's?
