@@ -48,22 +48,7 @@ module _ (ram f : List ℕ) (high : ℕ) (s : Slice) where
   unfolding glyph_of in_ram value cells of_bytes
   glyph_blank l h = rw (ne_eqb (high / 128 % 2) 0 (λ e. omega arith), le-ltb (high % 128) 26 (omega arith))
 
-  -- what the lookup finds: a font character
-  pub word_font : high < 128 → Some (record { bits = word_at (slice_part ram f high s.0); cells = 0 }) ≡ word_in ram f high s
-  unfolding word_in
-  word_font h = rw (ne_eqb high 255 (λ e. omega arith)) (ap Some (glyph_font h))
-
-  -- a user character
-  pub word_user : 128 ≤ high → high < 154 → Some (record { bits = word_at (slice_part ram f high s.0); cells = 2 }) ≡ word_in ram f high s
-  unfolding word_in
-  word_user l h = rw (ne_eqb high 255 (λ e. omega arith)) (ap Some (glyph_user l h))
-
-  -- all background
-  pub word_blank : 154 ≤ high → high < 256 → ends_line high ≡ false → Some (record { bits = 0; cells = 0 }) ≡ word_in ram f high s
-  unfolding word_in
-  word_blank l h e = rw e (ap Some (glyph_blank l h))
-
-  -- any word, but at the end of line
+  -- what the lookup finds: any word, but at the end of line
   pub word_found : ends_line high ≡ false → Some (glyph_word ram f high s) ≡ word_in ram f high s
   unfolding word_in
   word_found e = rw e
