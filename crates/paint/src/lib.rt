@@ -211,15 +211,14 @@ pub fn put_twelve(out: &mut [u8], columns: Fours)
     put_four(&mut out[8..12], columns.right);
 }
 
-// As many of the bytes as there is room for. The test in the loop always holds: it keeps the compiler from calling memcpy. The loop goes by the
-// room: one over the twelve columns is unrolled into the drawing of a row, whose characters then take longer.
+// As many of the bytes as there is room for. The test in the loop keeps the compiler from calling memcpy.
 fn copy_cut(out: &mut [u8], whole: &[u8; 12])
     requires { length out.old ≤ 12 }
     ensures { out.new ≡ take (length out.old) whole.now }
 {
-    for i in 0..out.len() {
-        if i < 12 {
-            out[i] = whole[i];
+    for (i, column) in whole.iter().enumerate() {
+        if i < out.len() {
+            out[i] = *column;
         }
     }
 }
